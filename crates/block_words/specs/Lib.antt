@@ -1,0 +1,5 @@
+pub mod Bells
+pub mod Instruments
+pub mod Operations
+pub mod Sections
+pub mod Ways

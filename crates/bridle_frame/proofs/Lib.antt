@@ -1,0 +1,3 @@
+pub mod Seats
+pub mod Indexes
+pub mod Frames

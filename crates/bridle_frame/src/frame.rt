@@ -1,0 +1,165 @@
+//! The frame: levers at their ends, held and let go by bridles.
+
+ghost use Rattle.std.specs.Prelude.{◌≡◌, ◌<◌, ◌^◌, ◌↔◌, All, IfOk, IsTrue, length, replicate};
+ghost use Rattle.locking_table.specs.declared.places.End.TheVariants.{Normal as NormalEnd};
+ghost use Rattle.locking_table.specs.declared.places.Stand.TheVariants.{AtMid};
+ghost use Rattle.locking_table.specs.Places.{IsLever, at_ends, end_at, stand_of};
+ghost use Rattle.bridle_frame.specs.Seated.{BridleFits, IsSeated};
+ghost use Rattle.bridle_frame.specs.Shifts.{ends_after, first_holder, shift_of};
+ghost use Rattle.bridle_frame.specs.Frames.{first_of, naming};
+
+use crate::bridle::Bridle;
+use crate::index::{Uses, index_of};
+use locking_table::{End, Holder, NoMemory, Stand, end_of};
+use std::alloc::Global;
+use std::marker::Model;
+
+/// What became of a lever that was to be moved.
+#[derive(Clone, Copy, Debug, PartialEq, Eq, Hash)]
+pub enum Shift {
+    /// It stands at its other end.
+    Shifted,
+    /// It stands where it stood. This bridle, numbered from 1, is the first that isn't seated with it at mid.
+    HeldBy { bridle: u32 },
+}
+
+/// A frame of levers at their ends, and its bridles, each of them seated.
+#[derive(Debug, Drop)]
+pub struct Frame {
+    ends: Vec<End>,
+    bridles: Vec<Bridle>,
+    // For each lever the bridles that name it.
+    uses: Vec<Uses>,
+}
+
+impl Model for Frame {
+    ghost use Rattle.bridle_frame.specs.Frames.{FrameState, IsFrame};
+
+    ghost Value = { FrameState };
+
+    ghost view = { λ f. record { ends = f.ends.items; bridles = f.bridles.items } };
+
+    ghost invariant = { λ f. IsFrame f.ends.items f.bridles.items f.uses.items };
+}
+
+// The first of these bridles, by their numbers from 0, that isn't seated with a lever at mid.
+fn first_of(ends: &[End], lever: u32, bridles: &[Bridle], numbers: &[u32]) -> Shift
+    requires few { length bridles.now < 2 ^ 32 }
+    requires fits { All (BridleFits (length ends.now)) bridles.now }
+    requires within { All (λ number. number < length bridles.now) numbers.now }
+    ensures { result ≡ first_of (stand_of ends.now lever AtMid) bridles.now numbers.now }
+{
+    for number in numbers {
+        if !bridles[*number as usize].is_seated(ends, lever, Stand::AtMid) {
+            return Shift::HeldBy {
+                bridle: *number + 1,
+            };
+        }
+    }
+    Shift::Shifted
+}
+
+fn all_fit(bridles: &[Bridle], levers: u32) -> bool
+    ensures { IsTrue result ↔ All (BridleFits levers) bridles.now }
+{
+    bridles.iter().all(|bridle| bridle.fits(levers))
+}
+
+fn all_open_seated(bridles: &[Bridle], levers: u32) -> bool
+    requires { All (BridleFits levers) bridles.now }
+    ensures { IsTrue result ↔ All (IsSeated (at_ends (replicate levers NormalEnd))) bridles.now }
+{
+    bridles.iter().all(|bridle| bridle.opens_seated(levers))
+}
+
+impl Frame {
+    /// Whether a frame of levers 1 to `levers` can have these bridles: each has two to four dogs on different levers
+    /// of the frame, and is seated where all levers are normal.
+    pub fn accepts(levers: u32, bridles: &[Bridle]) -> bool
+        ensures { IsTrue result ↔ (All (BridleFits levers) bridles.now × All (IsSeated (at_ends (replicate levers NormalEnd))) bridles.now) }
+    {
+        all_fit(bridles, levers) && all_open_seated(bridles, levers)
+    }
+
+    /// A frame of levers 1 to `levers`, all of them normal.
+    pub fn new(alloc: Global, levers: u32, bridles: Vec<Bridle>) -> Result<Self, NoMemory>
+        requires few { length bridles.items < 2 ^ 32 }
+        requires fits { All (BridleFits levers) bridles.items }
+        requires seated { All (IsSeated (at_ends (replicate levers NormalEnd))) bridles.items }
+        ensures { IfOk result (λ f. f ≡ record { ends = replicate levers NormalEnd; bridles = bridles.items }) }
+    {
+        let ends = vec![in alloc; End::Normal; levers as usize]?;
+        let uses = index_of(alloc, levers, bridles.as_slice())?;
+        Ok(Frame {
+            ends,
+            bridles,
+            uses,
+        })
+    }
+
+    /// What `shift` would answer. Nothing moves.
+    pub fn test(&self, lever: u32) -> Shift
+        requires { IsLever (length self.now.ends) lever }
+        ensures { result ≡ shift_of self.now.ends lever self.now.bridles }
+    {
+        let uses = &self.uses[lever as usize - 1];
+        first_of(&self.ends, lever, &self.bridles, uses.as_slice())
+    }
+
+    /// Moves a lever to its other end, or tells the first bridle that isn't seated with it at mid. Then nothing
+    /// moves.
+    pub fn shift(&mut self, lever: u32) -> Shift
+        requires { IsLever (length self.old.ends) lever }
+        ensures reply { result ≡ shift_of self.old.ends lever self.old.bridles }
+        ensures moved { self.new ≡ record self.old { ends = ends_after self.old.ends lever result } }
+    {
+        let reply = self.test(lever);
+        if let Shift::Shifted = reply {
+            let other = end_of(&self.ends, lever).other();
+            self.ends[lever as usize - 1] = other;
+        }
+        reply
+    }
+
+    /// The row that holds a lever, with the lever that it names, or `None` where the lever may move.
+    pub fn holder(&self, lever: u32) -> Option<Holder>
+        requires { IsLever (length self.now.ends) lever }
+        ensures { result ≡ first_holder (stand_of self.now.ends lever AtMid) lever self.now.bridles }
+    {
+        match self.test(lever) {
+            Shift::Shifted => None,
+            Shift::HeldBy { bridle } => {
+                let holding = &self.bridles[bridle as usize - 1];
+                Some(Holder {
+                    lever: holding.holding_lever(lever),
+                    row: holding.row,
+                })
+            }
+        }
+    }
+
+    /// The end at which a lever stands.
+    pub fn end(&self, lever: u32) -> End
+        requires { IsLever (length self.now.ends) lever }
+        ensures { result ≡ end_at self.now.ends lever }
+    {
+        end_of(&self.ends, lever)
+    }
+
+    /// The ends of the levers, that of lever 1 first.
+    pub fn ends(&self) -> &[End]
+        ensures { result.now ≡ self.now.ends }
+    {
+        &self.ends
+    }
+
+    /// The bridles in order. Each of them is seated.
+    pub fn bridles(&self) -> &[Bridle]
+        ensures bridles { result.now ≡ self.now.bridles }
+        ensures few { length self.now.bridles < 2 ^ 32 }
+        ensures fits { All (BridleFits (length self.now.ends)) self.now.bridles }
+        ensures seated { All (IsSeated (at_ends self.now.ends)) self.now.bridles }
+    {
+        &self.bridles
+    }
+}

@@ -1,0 +1,9 @@
+pub mod LeverWords
+pub mod WordLemmas
+pub mod RowLemmas
+pub mod PrintLemmas
+pub mod Holding
+pub mod RoundTrip
+pub mod Spelling
+pub mod Faults
+pub mod RowFaults

@@ -1,0 +1,7 @@
+pub mod Places
+pub mod Meaning
+pub mod Sound
+pub mod Words
+pub mod Printing
+pub mod Reading
+pub mod FirstFault

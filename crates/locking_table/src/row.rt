@@ -1,0 +1,178 @@
+//! Rows of a locking table, and what they mean.
+
+ghost use Rattle.std.specs.Prelude.{◌≡◌, ◌==◌, ◌↔◌, All, IsTrue, length, map};
+ghost use Rattle.std.specs.List.{list_all, list_any};
+ghost use Rattle.locking_table.specs.Places.{IsLever, other_end, end_at, stand_at, stand_of};
+ghost use Rattle.locking_table.specs.Meaning.{acts, breaks, holding_lever, row_holds, row_allows};
+ghost use Rattle.locking_table.specs.Sound.{CondFits, IsRow, RowFits, all_differ, conds_differ, levers_of};
+
+use crate::conds::Conds;
+use crate::places::{End, Stand, end_of, stand_of};
+
+/// What a row asks of its object.
+#[derive(Clone, Copy, Debug, PartialEq, Eq, Hash)]
+pub enum RowKind {
+    /// `A locks B normal`: B stands normal.
+    LocksNormal,
+    /// `A released by B`: B stands reversed.
+    ReleasedBy,
+    /// `A locks B both ways`: B stands at an end.
+    LocksBoth,
+}
+
+/// A condition of a row: it acts where the lever isn't at the other end.
+#[derive(Clone, Copy, Debug, PartialEq, Eq, Hash)]
+pub struct Cond {
+    pub lever: u32,
+    pub end: End,
+}
+
+/// A row of a locking table. A row that some text spells has levers from 1 to 120 that all differ, and at
+/// most two conditions.
+#[derive(Debug, PartialEq, Eq, Drop)]
+pub struct Row {
+    pub subject: u32,
+    pub kind: RowKind,
+    pub object: u32,
+    pub when: Conds,
+}
+
+/// What holds a lever: a row by its number, and the lever that this row names.
+#[derive(Clone, Copy, Debug, PartialEq, Eq, Hash)]
+pub struct Holder {
+    pub lever: u32,
+    pub row: u32,
+}
+
+impl Cond {
+    /// Whether the condition acts, with one lever brought to a place.
+    fn acts(&self, ends: &[End], moved: u32, place: Stand) -> bool
+        requires { IsLever (length ends.now) self.now.lever }
+        ensures { result ≡ acts (stand_of ends.now moved place) self.now }
+    {
+        let stand = stand_of(ends, moved, place, self.lever);
+        match self.end {
+            End::Reversed => stand != Stand::AtNormal,
+            End::Normal => stand != Stand::AtReversed,
+        }
+    }
+}
+
+impl RowKind {
+    /// Whether an object that stands so breaks the kind.
+    fn is_broken_by(self, stand: Stand) -> bool
+        ensures { result ≡ breaks self stand }
+    {
+        match self {
+            RowKind::LocksNormal => stand != Stand::AtNormal,
+            RowKind::ReleasedBy => stand != Stand::AtReversed,
+            RowKind::LocksBoth => stand == Stand::AtMid,
+        }
+    }
+}
+
+fn all_act(conds: &[Cond], ends: &[End], moved: u32, place: Stand) -> bool
+    requires { All (CondFits (length ends.now)) conds.now }
+    ensures { result ≡ list_all (acts (stand_of ends.now moved place)) conds.now }
+{
+    conds.iter().all(|cond| cond.acts(ends, moved, place))
+}
+
+// Whether a lever is among those of the conditions.
+fn names(conds: &[Cond], lever: u32) -> bool
+    ensures { result ≡ list_any (λ cond. cond.lever == lever) conds.now }
+{
+    conds.iter().any(|cond| cond.lever == lever)
+}
+
+// Whether the levers of the conditions differ.
+fn differ(conds: &[Cond]) -> bool
+    ensures { result ≡ conds_differ conds.now }
+{
+    for (i, cond) in conds.iter().enumerate() {
+        if names(&conds[i + 1..], cond.lever) {
+            return false;
+        }
+    }
+    true
+}
+
+// Whether a frame of so many levers has this one.
+fn is_lever(levers: u32, lever: u32) -> bool
+    ensures { IsTrue result ↔ IsLever levers lever }
+{
+    1 <= lever && lever <= levers
+}
+
+fn conds_fit(conds: &[Cond], levers: u32) -> bool
+    ensures { IsTrue result ↔ All (CondFits levers) conds.now }
+{
+    conds.iter().all(|cond| is_lever(levers, cond.lever))
+}
+
+impl Row {
+    /// Whether a frame of levers 1 to `levers` has each lever that the row names.
+    pub fn fits(&self, levers: u32) -> bool
+        ensures { IsTrue result ↔ RowFits levers self.now }
+    {
+        is_lever(levers, self.subject)
+            && is_lever(levers, self.object)
+            && conds_fit(self.when.as_slice(), levers)
+    }
+
+    /// Whether some text spells the row: its levers are 1 to 120 and all differ, and it has at most two conditions.
+    pub fn is_spelled(&self) -> bool
+        ensures { IsTrue result ↔ IsRow self.now }
+    {
+        self.fits(120) && self.levers_differ() && self.when.as_slice().len() <= 2
+    }
+
+    /// Whether all levers that the row names differ.
+    #[tactic(auto, using(crate::proofs::RowLemmas::row_rules))]
+    pub fn levers_differ(&self) -> bool
+        ensures { result ≡ all_differ (levers_of self.now) }
+    {
+        let conds = self.when.as_slice();
+        self.object != self.subject
+            && !names(conds, self.subject)
+            && !names(conds, self.object)
+            && differ(conds)
+    }
+
+    /// Whether the row holds with the lever `moved` brought to a place and all others at their ends.
+    ///
+    /// A row holds unless its subject isn't normal, all its conditions act, and its object breaks its kind.
+    pub fn holds(&self, ends: &[End], moved: u32, place: Stand) -> bool
+        requires { RowFits (length ends.now) self.now }
+        ensures { result ≡ row_holds (stand_of ends.now moved place) self.now }
+    {
+        let subject = stand_of(ends, moved, place, self.subject);
+        let object = stand_of(ends, moved, place, self.object);
+        let breaks = subject != Stand::AtNormal
+            && all_act(self.when.as_slice(), ends, moved, place)
+            && self.kind.is_broken_by(object);
+        !breaks
+    }
+
+    /// Whether the row lets a lever move to its other end: it holds with the lever at mid and at its new end.
+    pub fn allows(&self, ends: &[End], lever: u32) -> bool
+        requires lever { IsLever (length ends.now) lever }
+        requires row { RowFits (length ends.now) self.now }
+        ensures { result ≡ row_allows ends.now lever self.now }
+    {
+        let new_end = end_of(ends, lever).other();
+        self.holds(ends, lever, Stand::AtMid) && self.holds(ends, lever, new_end.stand())
+    }
+
+    /// The lever that the row names where it holds the lever `moved`: its object where `moved` is its
+    /// subject, else its subject.
+    pub fn holding_lever(&self, moved: u32) -> u32
+        ensures { result ≡ holding_lever self.now moved }
+    {
+        if self.subject == moved {
+            self.object
+        } else {
+            self.subject
+        }
+    }
+}

@@ -1,0 +1,14 @@
+pub mod Appended
+pub mod LineLemmas
+pub mod LineRules
+pub mod NumberLemmas
+pub mod NameLemmas
+pub mod NameRules
+pub mod PrintedLines
+pub mod Gaps
+pub mod NameText
+pub mod DistinctNames
+pub mod Binds
+pub mod Keeps
+pub mod PrintedWords
+pub mod Limits

@@ -1,0 +1,14 @@
+pub mod Causes
+pub mod CauseText
+pub mod Bytes
+pub mod MemShelf
+pub mod MemSinkFields
+pub mod MemSink
+pub mod Adapters
+pub mod Lines
+pub mod Number
+pub mod Names
+pub mod Gives
+pub mod Words
+pub mod Forms
+pub mod Texts

@@ -1,0 +1,67 @@
+//! A text that is read line by line, up to its first fault.
+
+ghost use Rattle.std.specs.Prelude.{◌≡◌, ◌<◌, ◌+◌, ◌^◌, Bool, true, OnOk};
+ghost use Rattle.rail_text.specs.Gives.{GivesLine, GivesText};
+ghost use Rattle.rail_text.specs.Lines.{words_of};
+ghost use Rattle.rail_text.specs.Texts.{Reads, line_onto, lines_onto, text_onto};
+
+use crate::{Cause, LineFault, LineForm, Lines, ReadError, TextLine, text_error};
+
+/// What a reader makes of a text line by line.
+pub trait Draft {
+    /// What the words of a line make of what was read so far, or what is wrong with them.
+    ghost onto: { Reads Self };
+
+    /// The text's line `end` has stood.
+    ghost ended: { Self → Bool };
+
+    /// Reads the words of a line.
+    fn read_words(&mut self, line: &TextLine<'_>) -> Result<(), LineFault>
+        ensures { GivesLine (λ _. self.new) result (onto self.old (words_of line.now.text.now)) };
+
+    /// Whether the text's line `end` has stood.
+    fn has_ended(&self) -> bool
+        ensures { result ≡ ended self.now };
+}
+
+// Reads a line: its form first, then its words.
+#[tactic(auto, unfolding(crate::specs::Texts::line_onto))]
+fn read_line<D: Draft>(draft: &mut D, line: &TextLine<'_>) -> Result<(), LineFault>
+    ensures { GivesLine (λ _. draft.new) result (line_onto D.onto draft.old (record {
+      text = line.now.text.now;
+      ended = line.now.ended;
+    })) }
+{
+    match line.form(true)? {
+        LineForm::Skipped => Ok(()),
+        LineForm::Words => draft.read_words(line),
+    }
+}
+
+/// Reads a text of at most `most` bytes onto a draft. The first fault is refused with its line and
+/// cause: a text that is longer is `TooLong` at line 0, and one that has no line `end` is `NoEnd`
+/// behind its last line.
+#[tactic(auto, unfolding(crate::specs::Texts::text_onto, crate::specs::Texts::lines_onto))]
+pub fn read_text<D: Draft>(draft: &mut D, most: usize, bytes: &[u8]) -> Result<(), ReadError>
+    requires { most + 1 < 2 ^ 32 }
+    ensures reads { GivesText (λ _. draft.new) result (text_onto D.onto D.ended most draft.old bytes.now) }
+    ensures ended { OnOk result (D.ended draft.new ≡ true) }
+{
+    if bytes.len() > most {
+        return Err(text_error(0, Cause::TooLong));
+    }
+    let mut lines = Lines::new(bytes);
+    let mut number: u32 = 1;
+    while let Some(line) = lines.next() {
+        match read_line(draft, &line) {
+            Ok(()) => {}
+            Err(LineFault::Cause(cause)) => return Err(text_error(number, cause)),
+            Err(LineFault::NoMemory) => return Err(ReadError::NoMemory),
+        }
+        number += 1;
+    }
+    if !draft.has_ended() {
+        return Err(text_error(number, Cause::NoEnd));
+    }
+    Ok(())
+}

@@ -1,0 +1,2 @@
+pub mod Tappets
+pub mod Made
