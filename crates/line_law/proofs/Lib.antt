@@ -1,0 +1,10 @@
+pub mod Sides
+pub mod Lines
+pub mod Left
+pub mod SerialLaws
+pub mod Histories
+pub mod Footprints
+pub mod Commuting
+pub mod Exchange
+pub mod RingLaws
+pub mod BoxLaws

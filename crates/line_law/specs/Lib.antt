@@ -1,0 +1,11 @@
+pub mod Ways
+pub mod Links
+pub mod Opening
+pub mod Decisions
+pub mod Bells
+pub mod Law
+pub mod Known
+pub mod History
+pub mod Serial
+pub mod Footprint
+pub mod Rings
