@@ -1,13 +1,15 @@
 .PHONY: demo build test
 
-# Builds without proofs and runs the example line on its files.
+example = run data/example.plan data/ash.script data/beech.script
+
+# Builds without proofs and works the example line, in about a minute.
 demo:
-	cd crates/box_main && rt try
+	cd crates/box_main && rt try -- $(example)
 
-# Proves the program and what it stands on, and leaves it in crates/box_main/out.
+# Proves the program and what it stands on, works the example line, and leaves the program as crates/box_main/out/box_main.
 build:
-	cd crates/box_main && rt run
+	cd crates/box_main && rt run -- $(example)
 
-# The gate: every proof, the must-fail edits, the tests and the program.
+# The gate: every proof, the must-fail edits, the tests, and the program as two compilers make it.
 test:
 	rt ci

@@ -1,0 +1,9 @@
+pub mod WordRules
+pub mod Fetched
+pub mod LeftOf
+pub mod NextBox
+pub mod Turning
+pub mod SerialTurns
+pub mod Gathering
+pub mod Inputs
+pub mod Tops

@@ -1,0 +1,9 @@
+pub mod Command
+pub mod Told
+pub mod Fetches
+pub mod Rosters
+pub mod Looks
+pub mod Serial
+pub mod Statuses
+pub mod Runs
+pub mod Top

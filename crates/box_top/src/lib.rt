@@ -1,0 +1,19 @@
+//! The commands: what the words of a command line ask for, done over a shelf and a sink.
+#![tactic(auto)]
+
+mod command;
+mod compose;
+mod fetch;
+mod gate;
+mod gather;
+mod look;
+mod roster;
+mod serial;
+mod status;
+mod stop;
+mod top;
+mod turns;
+
+pub use gate::{Gate, OpenGate};
+pub use status::Status;
+pub use top::box_top;

@@ -1,0 +1,67 @@
+//! The printed journal.
+
+ghost use Rattle.std.specs.Prelude.{◌≡◌, ◌++◌, All, IfOk, OnOk, string_bytes};
+ghost use Rattle.line_report.specs.Journals.{IsSpelled, entry_text, entries_text, journal_text};
+
+use line_law::{Entry, Journal};
+use line_plan::Plan;
+use rail_text::NoMemory;
+use script_text::{put_call, put_reply};
+use std::alloc::{AllocError, Global};
+use std::fmt::Write;
+
+/// Puts an entry's line behind a text: its number, its box, the moment and the call, `->` and the reply, as in
+/// `2 Ash 10:00 ring down 4 -> bell_busy 1 1`. Where memory runs out a part of the line may stand behind the text.
+#[tactic(auto, unfolding(crate::specs::Journals::entry_text))]
+pub fn put_entry(
+    out: &mut String,
+    plan: &Plan,
+    number: usize,
+    entry: &Entry,
+) -> Result<(), AllocError>
+    requires { IsSpelled plan.now entry.now }
+    ensures { OnOk result (string_bytes out.new ≡ string_bytes out.old ++ entry_text plan.now number entry.now) }
+{
+    write!(out, "{number} ")?;
+    out.push_str(plan.box_name(entry.box_no))?;
+    out.push_str(" ")?;
+    put_call(out, plan, entry.box_no, &entry.call)?;
+    out.push_str(" -> ")?;
+    put_reply(out, plan, &entry.reply)?;
+    out.push_str("\n")
+}
+
+// The lines of all entries, numbered from 1.
+fn put_entries(out: &mut String, plan: &Plan, entries: &[Entry]) -> Result<(), AllocError>
+    requires { All (IsSpelled plan.now) entries.now }
+    ensures { OnOk result (string_bytes out.new ≡ string_bytes out.old ++ entries_text plan.now 1 entries.now) }
+{
+    for (place, entry) in entries.iter().enumerate() {
+        put_entry(out, plan, place + 1, entry)?;
+    }
+    Ok(())
+}
+
+// The whole journal, from its first line to its end.
+#[tactic(auto, unfolding(crate::specs::Journals::journal_text))]
+fn put_journal(out: &mut String, plan: &Plan, journal: &Journal) -> Result<(), AllocError>
+    requires { All (IsSpelled plan.now) journal.now.entries }
+    ensures { OnOk result (string_bytes out.new ≡ string_bytes out.old ++ journal_text plan.now journal.now.entries) }
+{
+    let version = plan.version;
+    write!(out, "journal {version}\n")?;
+    put_entries(out, plan, journal.entries.as_slice())?;
+    out.push_str("end\n")
+}
+
+/// The journal of a line as it is printed: `journal` and the plan's version, a line for each entry, numbered from 1, and
+/// `end`. Each entry is one that the line can spell, as `is_spelled` tells; all of a legal history are. A moment is
+/// printed as `HH:MM` where the plan has version 1, else as `HH:MM:SS`.
+pub fn print_journal(alloc: Global, plan: &Plan, journal: &Journal) -> Result<Vec<u8>, NoMemory>
+    requires { All (IsSpelled plan.now) journal.now.entries }
+    ensures { IfOk result (λ text. text.items ≡ journal_text plan.now journal.now.entries) }
+{
+    let mut out = String::new(alloc);
+    put_journal(&mut out, plan, journal)?;
+    Ok(out.into_bytes())
+}

@@ -1,0 +1,105 @@
+//! A run over texts and a sink in memory.
+
+use box_top::{Gate, Status, box_top};
+use rail_text::{MemShelf, MemSink, NoMemory};
+use std::alloc::Global;
+use std::sync::Wait;
+use std::thread::Threads;
+
+/// The words that run a plan of two boxes.
+pub const RUN_TWO: &[&str] = &["run", "plan", "ash", "beech"];
+
+/// The words that run a plan of three boxes.
+pub const RUN_THREE: &[&str] = &["run", "plan", "ash", "beech", "cedar"];
+
+// The names under which the shelf holds its texts, in order.
+const NAMES: [&str; 4] = ["plan", "ash", "beech", "cedar"];
+
+/// A line of two boxes.
+pub const TWO_BOXES: &[u8] =
+    b"plan 1\nboxes 2\ndelay 2\nlooks 1000000000\nbox Ash\nbox Beech\nend\n";
+
+/// A line of three boxes.
+pub const THREE_BOXES: &[u8] =
+    b"plan 1\nboxes 3\ndelay 2\nlooks 1000000000\nbox Ash\nbox Beech\nbox Cedar\nend\n";
+
+/// Scripts without a call.
+pub const ASH_IDLE: &[u8] = b"script Ash\nend\n";
+
+pub const BEECH_IDLE: &[u8] = b"script Beech\nend\n";
+
+pub const CEDAR_IDLE: &[u8] = b"script Cedar\nend\n";
+
+/// Which fetch and which put fails, counted from 1, if any, and how many bytes the sink has room for.
+#[derive(Clone, Copy, Debug)]
+pub struct Outside {
+    pub bad_fetch: Option<u64>,
+    pub bad_put: Option<u64>,
+    pub room: usize,
+}
+
+/// No call fails, and there is ample room.
+pub const SOUND: Outside = Outside {
+    bad_fetch: None,
+    bad_put: None,
+    room: 4096,
+};
+
+/// The status of a run, and the bytes that its sink has taken.
+#[derive(Debug, Drop)]
+pub struct Answer {
+    pub status: Status,
+    pub taken: Vec<u8>,
+}
+
+fn words_of(alloc: Global, words: &[&str]) -> Result<Vec<String>, NoMemory> {
+    let mut owned = Vec::new(alloc);
+    for word in words {
+        owned.push(String::from_str(alloc, word)?)?;
+    }
+    Ok(owned)
+}
+
+fn fails_of(alloc: Global, call: Option<u64>) -> Result<Vec<u64>, NoMemory> {
+    let mut fails = Vec::new(alloc);
+    if let Some(call) = call {
+        fails.push(call)?;
+    }
+    Ok(fails)
+}
+
+fn shelf_of(alloc: Global, texts: &[&[u8]], bad_fetch: Option<u64>) -> Result<MemShelf, NoMemory> {
+    let mut held = Vec::new(alloc);
+    for (name, text) in NAMES.iter().zip(texts) {
+        held.push((String::from_str(alloc, name)?, text.to_vec(alloc)?))?;
+    }
+    Ok(MemShelf::new(held, fails_of(alloc, bad_fetch)?))
+}
+
+// A sink that takes ten bytes in a put.
+fn sink_of(alloc: Global, outside: Outside) -> Result<MemSink, NoMemory> {
+    MemSink::new(alloc, outside.room, 10, fails_of(alloc, outside.bad_put)?)
+}
+
+fn answer_of(alloc: Global, status: Status, out: &MemSink) -> Result<Answer, NoMemory> {
+    Ok(Answer {
+        status,
+        taken: out.taken().to_vec(alloc)?,
+    })
+}
+
+/// Does what the words say, over a shelf of these texts: `plan`, `ash`, `beech` and `cedar`, as many as are given.
+pub fn work_behind<R: Threads + Wait + Sync, G: Gate>(
+    rt: &R,
+    alloc: Global,
+    words: &[&str],
+    texts: &[&[u8]],
+    outside: Outside,
+    gate: &G,
+) -> Result<Answer, NoMemory> {
+    let words = words_of(alloc, words)?;
+    let mut shelf = shelf_of(alloc, texts, outside.bad_fetch)?;
+    let mut out = sink_of(alloc, outside)?;
+    let status = box_top(rt, alloc, &words, &mut shelf, &mut out, gate);
+    answer_of(alloc, status, &out)
+}

@@ -1,0 +1,139 @@
+//! Texts that can't be fetched, and output that can't be written.
+
+use crate::tests::desk::{ASH_IDLE, BEECH_IDLE, Outside, RUN_TWO, SOUND, TWO_BOXES, work_behind};
+use box_top::{OpenGate, Status};
+use std::test::Fail;
+
+// A failed call of the shelf, the texts that are there, and the status.
+type Fetch = (Option<u64>, &'static [&'static [u8]], Status);
+
+const FETCHES: [Fetch; 10] = [
+    (
+        Some(1),
+        &[TWO_BOXES, ASH_IDLE, BEECH_IDLE],
+        Status::ShelfFault,
+    ),
+    (
+        Some(2),
+        &[TWO_BOXES, ASH_IDLE, BEECH_IDLE],
+        Status::ShelfFault,
+    ),
+    (
+        Some(3),
+        &[TWO_BOXES, ASH_IDLE, BEECH_IDLE],
+        Status::ShelfFault,
+    ),
+    // There is no fourth call.
+    (Some(4), &[TWO_BOXES, ASH_IDLE, BEECH_IDLE], Status::Done),
+    // A text is missing.
+    (None, &[], Status::ShelfFault),
+    (None, &[TWO_BOXES], Status::ShelfFault),
+    (None, &[TWO_BOXES, ASH_IDLE], Status::ShelfFault),
+    // A later text is wrong, but isn't reached.
+    (Some(1), &[b"plan", b"", b""], Status::ShelfFault),
+    (
+        Some(2),
+        &[TWO_BOXES, b"script", b"script"],
+        Status::ShelfFault,
+    ),
+    (
+        Some(3),
+        &[TWO_BOXES, ASH_IDLE, b"script"],
+        Status::ShelfFault,
+    ),
+];
+
+#[test]
+fn failed_fetches_print_nothing(rt: HostRuntime) -> Result<(), Fail> {
+    for (bad_fetch, texts, status) in FETCHES {
+        let outside = Outside { bad_fetch, ..SOUND };
+        let answer = work_behind(&rt, rt.alloc(), RUN_TWO, texts, outside, &OpenGate)?;
+        let printed: &[u8] = if status == Status::Done {
+            b"journal 1\nend\n"
+        } else {
+            b""
+        };
+        assert_eq!(rt; answer.status, status, "without fetch {bad_fetch:?}");
+        assert_eq!(rt; answer.taken.as_slice(), printed);
+    }
+    Ok(())
+}
+
+// The words, the texts, the status with a sound sink, what is printed, and in how many puts of ten bytes.
+type Output = (
+    &'static [&'static str],
+    &'static [&'static [u8]],
+    Status,
+    &'static [u8],
+    u64,
+);
+
+const OUTPUTS: [Output; 3] = [
+    (
+        RUN_TWO,
+        &[
+            TWO_BOXES,
+            b"script Ash\n10:00 ring down 1\nend\n",
+            BEECH_IDLE,
+        ],
+        Status::Done,
+        b"journal 1\n1 Ash 10:00 ring down 1 -> rung 1\nend\n",
+        5,
+    ),
+    (
+        RUN_TWO,
+        &[b"plan 1", ASH_IDLE, BEECH_IDLE],
+        Status::Refused,
+        b"refused text 1 line 1: cut\n",
+        3,
+    ),
+    (&["run"], &[], Status::Words, b"words not understood\n", 3),
+];
+
+#[test]
+fn failed_puts_leave_whole_puts(rt: HostRuntime) -> Result<(), Fail> {
+    for (words, texts, status, printed, puts) in OUTPUTS {
+        let mut kept = 0usize;
+        for put in 1..=puts {
+            let outside = Outside {
+                bad_put: Some(put),
+                ..SOUND
+            };
+            let answer = work_behind(&rt, rt.alloc(), words, texts, outside, &OpenGate)?;
+            assert_eq!(rt; answer.status, Status::SinkFault, "without put {put}");
+            assert!(rt;
+                answer.taken.len() == kept && kept < printed.len(),
+                "without put {put}"
+            );
+            assert!(rt; printed.starts_with(&answer.taken), "without put {put}");
+            kept = kept.saturating_add(10);
+        }
+        let outside = Outside {
+            bad_put: Some(puts + 1),
+            ..SOUND
+        };
+        let answer = work_behind(&rt, rt.alloc(), words, texts, outside, &OpenGate)?;
+        assert_eq!(rt; answer.status, status, "after {puts} puts");
+        assert_eq!(rt; answer.taken.as_slice(), printed);
+    }
+    Ok(())
+}
+
+#[test]
+fn small_rooms_are_filled(rt: HostRuntime) -> Result<(), Fail> {
+    for (words, texts, status, printed, _) in OUTPUTS {
+        for room in [0, 1, 10, 20, printed.len() - 1, printed.len()] {
+            let outside = Outside { room, ..SOUND };
+            let answer = work_behind(&rt, rt.alloc(), words, texts, outside, &OpenGate)?;
+            let fits = room == printed.len();
+            assert_eq!(rt;
+                answer.status,
+                if fits { status } else { Status::SinkFault },
+                "in {room}"
+            );
+            assert_eq!(rt; answer.taken.len(), room);
+            assert!(rt; printed.starts_with(&answer.taken), "in {room}");
+        }
+    }
+    Ok(())
+}

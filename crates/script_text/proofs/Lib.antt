@@ -1,0 +1,4 @@
+pub mod InTurn
+pub mod MomentTexts
+pub mod CallTexts
+pub mod ScriptTexts

@@ -1,0 +1,9 @@
+pub mod Gives
+pub mod Limits
+pub mod Moments
+pub mod Acts
+pub mod Calls
+pub mod Replies
+pub mod Drafts
+pub mod Scripts
+pub mod Spelled

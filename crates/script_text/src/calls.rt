@@ -1,0 +1,79 @@
+//! A call's line: the moment, then what is done.
+
+ghost use Rattle.std.specs.Prelude.{◌≡◌, ◌↔◌, ◌<◌, ◌++◌, IfOk, OnOk, IsErr, length, string_bytes};
+ghost use Rattle.rail_text.specs.Lines.{words_of};
+ghost use Rattle.line_plan.specs.Plans.{IsPlan};
+ghost use Rattle.line_law.specs.Known.{KnowsCall, moments_of};
+ghost use Rattle.line_law.specs.declared.call.Call.{Call};
+ghost use Rattle.script_text.specs.Calls.{moment_in, call_of, call_text};
+ghost use Rattle.script_text.specs.Spelled.{SpellsCall};
+
+use crate::acts::{put_act, read_act};
+use crate::moments::{put_moment, read_moment};
+use line_law::Call;
+use line_plan::Plan;
+use rail_text::{Cause, NoMemory, TextLine};
+use std::alloc::{AllocError, Global};
+
+/// The moment that begins a line, in the form of the plan's version.
+#[tactic(auto, unfolding(crate::specs::Calls::moment_in))]
+pub fn moment_in(version: u8, line: &TextLine<'_>) -> Result<u32, Cause>
+    ensures exact { result ≡ moment_in version (words_of line.now.text.now) }
+    ensures day { IfOk result (λ moment. moment < moments_of version) }
+{
+    let Some(word) = line.word(0) else {
+        return Err(Cause::BadMoment);
+    };
+    read_moment(version, word).ok_or(Cause::BadMoment)
+}
+
+// The call of a box that a text spells, or the first cause.
+#[tactic(auto, unfolding(crate::specs::Calls::call_of, crate::specs::Calls::call_in))]
+fn call_of(plan: &Plan, box_no: u32, text: &[u8]) -> Result<Call, Cause>
+    ensures exact { result ≡ call_of plan.now box_no text.now }
+    ensures plan { IsPlan plan.now }
+{
+    let line = TextLine {
+        number: 0,
+        text,
+        ended: true,
+    };
+    let moment = moment_in(plan.version, &line)?;
+    let act = read_act(plan, box_no, &line)?;
+    Ok(Call { moment, act })
+}
+
+/// The call of a box that a line's text spells: the moment in the form of the plan's version, then the call. Each call has
+/// one spelling, and any other text is refused by its first cause: `BadMoment`; `UnknownWord` for the call's word;
+/// `WordCount`; then the words from left to right, a way as `UnknownWord` or, with no neighbour on that side, `NoLine`, a
+/// code as `BadCode` or, off the code table, `UnknownCode`.
+#[tactic(auto, using(crate::proofs::CallTexts::reading_rules))]
+pub fn read_call(plan: &Plan, box_no: u32, text: &[u8]) -> Result<Call, Cause>
+    requires { box_no < length plan.now.boxes }
+    ensures exact { result ≡ call_of plan.now box_no text.now }
+    ensures spelled { IfOk result (λ call. SpellsCall plan.now box_no text.now call) }
+    ensures refused { IsErr result ↔ ((call : Call) → ¬ SpellsCall plan.now box_no text.now call) }
+{
+    call_of(plan, box_no, text)
+}
+
+/// Puts a call of a box behind a text: its moment, then what is done.
+#[tactic(auto, unfolding(crate::specs::Calls::call_text, line_law::specs::Known::knows_call))]
+pub fn put_call(out: &mut String, plan: &Plan, box_no: u32, call: &Call) -> Result<(), AllocError>
+    requires { KnowsCall plan.now box_no call.now }
+    ensures { OnOk result (string_bytes out.new ≡ string_bytes out.old ++ call_text plan.now call.now) }
+{
+    put_moment(out, plan.version, call.moment)?;
+    out.push_str(" ")?;
+    put_act(out, plan, call.act)
+}
+
+/// A call of a box as it is printed: its moment, then what is done.
+pub fn print_call(alloc: Global, plan: &Plan, box_no: u32, call: &Call) -> Result<Vec<u8>, NoMemory>
+    requires { KnowsCall plan.now box_no call.now }
+    ensures { IfOk result (λ text. text.items ≡ call_text plan.now call.now) }
+{
+    let mut out = String::new(alloc);
+    put_call(&mut out, plan, box_no, call)?;
+    Ok(out.into_bytes())
+}

@@ -1,0 +1,136 @@
+//! The script as far as its text is read, and which line may come next.
+
+use crate::acts::read_act;
+use crate::calls::moment_in;
+use crate::script::{MOST_CALLS, Script};
+use line_law::Call;
+use line_plan::{Items, Plan};
+use rail_text::{Cause, Draft, LineFault, TextLine, has_keyword, no_word, one_word};
+use std::alloc::Global;
+use std::marker::Model;
+
+/// Which line comes next.
+#[derive(Clone, Copy, Debug, PartialEq, Eq)]
+pub enum Stage {
+    Script,
+    Calls,
+    Ended,
+}
+
+/// What is read so far: the plan and the box for which it is read, the stage, the moment of the last call, and the calls.
+#[derive(Drop)]
+pub struct ScriptDraft<'a> {
+    plan: &'a Plan,
+    box_no: u32,
+    stage: Stage,
+    moment: u32,
+    calls: Vec<Call>,
+}
+
+impl<'a> Model for ScriptDraft<'a> {
+    ghost use Rattle.script_text.specs.Drafts.{DraftFields, IsDraft};
+
+    ghost Value = { DraftFields };
+
+    ghost view = { λ d. record { plan = d.plan.now; box_no = d.box_no; stage = d.stage; moment = d.moment; calls = d.calls.items } };
+
+    ghost invariant = { λ d. IsDraft (record { plan = d.plan.now; box_no = d.box_no; stage = d.stage; moment = d.moment; calls = d.calls.items }) };
+}
+
+impl<'a> ScriptDraft<'a> {
+    ghost use Rattle.std.specs.Prelude.{◌≡◌, ◌<◌, length};
+    ghost use Rattle.rail_text.specs.Gives.{GivesLine};
+    ghost use Rattle.rail_text.specs.Lines.{words_of};
+    ghost use Rattle.script_text.specs.Drafts.{start};
+    ghost use Rattle.script_text.specs.Scripts.{script_onto, call_onto, end_onto};
+
+    /// Nothing is read.
+    pub fn new(alloc: Global, plan: &'a Plan, box_no: u32) -> ScriptDraft<'a>
+        requires { box_no < length plan.now.boxes }
+        ensures { result ≡ start plan.now box_no }
+    {
+        ScriptDraft {
+            plan,
+            box_no,
+            stage: Stage::Script,
+            moment: 0,
+            calls: Vec::new(alloc),
+        }
+    }
+
+    /// `script NAME`: the box for which it is read.
+    #[tactic(auto, unfolding(crate::specs::Scripts::script_onto))]
+    fn script_line(&mut self, line: &TextLine<'_>) -> Result<(), LineFault>
+        ensures { GivesLine (λ _. self.new) result (script_onto self.old (words_of line.now.text.now)) }
+    {
+        let name = one_word(line)?;
+        let plan = self.plan;
+        if name != plan.box_name(self.box_no).as_bytes() {
+            return Err(LineFault::Cause(Cause::WrongBox));
+        }
+        self.stage = Stage::Calls;
+        Ok(())
+    }
+
+    /// A call more, whose moment isn't below the one before.
+    #[tactic(auto, unfolding(crate::specs::Scripts::call_onto))]
+    fn call_line(&mut self, line: &TextLine<'_>) -> Result<(), LineFault>
+        ensures { GivesLine (λ _. self.new) result (call_onto self.old (words_of line.now.text.now)) }
+    {
+        let plan = self.plan;
+        let moment = moment_in(plan.version, line)?;
+        if moment < self.moment {
+            return Err(LineFault::Cause(Cause::MomentFalls));
+        }
+        let act = read_act(plan, self.box_no, line)?;
+        if self.calls.len() >= MOST_CALLS {
+            return Err(LineFault::Cause(Cause::TooMany));
+        }
+        self.calls.push(Call { moment, act })?;
+        self.moment = moment;
+        Ok(())
+    }
+
+    /// `end`: the script ends.
+    #[tactic(auto, unfolding(crate::specs::Scripts::end_onto))]
+    fn end_line(&mut self, line: &TextLine<'_>) -> Result<(), LineFault>
+        ensures { GivesLine (λ _. self.new) result (end_onto self.old (words_of line.now.text.now)) }
+    {
+        no_word(line)?;
+        self.stage = Stage::Ended;
+        Ok(())
+    }
+
+    /// The script.
+    pub fn into_script(self) -> Script
+        ensures { result ≡ record { box_no = self.entry.box_no; calls = self.entry.calls } }
+    {
+        Script {
+            box_no: self.box_no,
+            calls: Items::from_vec(self.calls),
+        }
+    }
+}
+
+impl<'a> Draft for ScriptDraft<'a> {
+    ghost use Rattle.script_text.specs.Scripts.{words_onto, has_ended};
+
+    ghost onto = { words_onto };
+
+    ghost ended = { λ draft. has_ended draft.stage };
+
+    #[tactic(auto, unfolding(crate::specs::Scripts::stage_onto))]
+    fn read_words(&mut self, line: &TextLine<'_>) -> Result<(), LineFault> {
+        match self.stage {
+            Stage::Script if has_keyword(line, b"script") => self.script_line(line),
+            Stage::Script => Err(LineFault::Cause(Cause::WrongKeyword)),
+            Stage::Calls if has_keyword(line, b"end") => self.end_line(line),
+            Stage::Calls => self.call_line(line),
+            Stage::Ended => Err(LineFault::Cause(Cause::AfterEnd)),
+        }
+    }
+
+    fn has_ended(&self) -> bool {
+        self.stage == Stage::Ended
+    }
+}
