@@ -80,6 +80,14 @@ inputs_fault held other before mid now names first rest plan split same later h 
           (free_then plan (text_told 1 plan_of (held first)) _ h (free_then tt (count_told plan (length rest)) _ (counted_right plan (length rest) count) (free_end (scripts_told held plan [] (take fault.place rest)) free)));
     }
 
+-- a wrong number of scripts is refused, where the plan is given
+pub inputs_miscounted : (held : Held) (names : List (List ℕ)) (first : List ℕ) (rest : List (List ℕ)) (plan : PlanFields) → names ≡ first ∷ rest → IsGiven plan (text_told 1 plan_of (held first)) → length rest ≢ length plan.boxes
+    → StopsAt (stops.Refused 1 0 causes.ScriptCount) (run_told held names)
+inputs_miscounted held names first rest plan split h count =
+    let stop : Stop = stops.Refused 1 0 causes.ScriptCount in
+    subst (λ (xs : List (List ℕ)). StopsAt stop (run_told held xs)) (sym split)
+    (stops_then plan stop (text_told 1 plan_of (held first)) _ h (stops_first stop (count_told plan (length rest)) _ (counted_wrong plan (length rest) count)))
+
 -- the same stop, of another step
 pub same_stop : {A B : Type 0} (stop other : Stop) → IsErrOf {T = A} (Err stop) other → IsErrOf {T = B} (Err stop) other
 same_stop stop other h = let same : stop ≡ other = cc in rw same refl

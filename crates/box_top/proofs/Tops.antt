@@ -7,8 +7,9 @@ use Rattle.rail_text.specs.Bytes.{appended}
 use Rattle.rail_text.specs.Causes.{Rose}
 use Rattle.rail_text.specs.Gives.{Fault}
 use Rattle.rail_text.specs.declared.cause.Cause.TheVariants as causes
-use Rattle.line_plan.specs.Plans.{PlanFields}
+use Rattle.line_plan.specs.Plans.{IsPlan, PlanFields}
 use Rattle.line_plan.specs.Reading.{plan_of}
+use Rattle.line_plan.proofs.Drafted.{plan_of_is_plan}
 use Rattle.line_law.proofs.SerialLaws.{journal_legal, journal_parts}
 use Rattle.script_text.specs.Scripts.{script_of}
 use Rattle.script_text.specs.declared.script.Script.{Script}
@@ -47,14 +48,40 @@ words_printed held words old new status e (inr p) = rw (e, p.0) (statuses.Words,
 
 -- ---- the headline
 
+-- the plan of a run is the one that its first text gives
+plan_given : (plan : PlanFields) (t : Told (Unit {0})) (s : Told (List Script)) (run : Run) → told_then t (λ counted. told_then s (λ scripts. Gives (record { plan = plan; scripts = scripts }))) ≡ Gives run → plan ≡ run.plan
+plan_given plan Untold s run e = absurd cc
+plan_given plan (Refuses n fault) s run e = absurd cc
+plan_given plan (Gives counted) Untold run e = absurd cc
+plan_given plan (Gives counted) (Refuses n fault) run e = absurd cc
+plan_given plan (Gives counted) (Gives scripts) run e =
+    let made : Run = record { plan = plan; scripts = scripts } in
+    let same : made ≡ run = cc in
+    ap (λ (r : Run). r.plan) same
+
+-- a run that is told is of a plan
+run_plan : (held : Held) (names : List (List ℕ)) (run : Run) → run_told held names ≡ Gives run → IsPlan run.plan
+run_plan held [] run e = absurd cc
+run_plan held (name ∷ names) run e = go (held name) e where
+  rest : PlanFields → Told Run
+  rest plan = told_then (count_told plan (length names)) (λ counted. told_then (scripts_told held plan [] names) (λ scripts. Gives (record { plan = plan; scripts = scripts })))
+
+  reads : (bytes : List ℕ) (r : Result PlanFields Fault) → plan_of bytes ≡ r → told_then (read_told 1 r) rest ≡ Gives run → IsPlan run.plan
+  reads bytes (Ok plan) is f = subst IsPlan (plan_given plan (count_told plan (length names)) (scripts_told held plan [] names) run f) (plan_of_is_plan bytes plan is)
+  reads bytes (Err fault) is f = absurd cc
+
+  go : (o : Option (List ℕ)) → told_then (text_told 1 plan_of o) rest ≡ Gives run → IsPlan run.plan
+  go None f = absurd cc
+  go (Some bytes) f = reads bytes (plan_of bytes) refl f
+
 -- the journal of scripts that the line can work
-journal_is : (run : Run) → AreWorked (Gives run) → IsJournalOf run (journal_of run) (output_of run)
-journal_is run worked =
+journal_is : (run : Run) → IsPlan run.plan → AreWorked (Gives run) → IsJournalOf run (journal_of run) (output_of run)
+journal_is run is worked =
     let scripts = scripts_are run.plan run.scripts (worked run refl) in
     record {
       printed = refl;
       serial = refl;
-      legal = journal_legal run.plan (calls_of_scripts run.scripts) scripts;
+      legal = journal_legal run.plan (calls_of_scripts run.scripts) is scripts;
       calls = λ b. journal_parts run.plan (calls_of_scripts run.scripts) b;
     }
 
@@ -120,7 +147,7 @@ headline_done held words names old new status text e h worked put done = record 
   prints_run : (names : List (List ℕ)) (t : Told Run) → run_told held names ≡ t → IsTold t → IsGiven text (told_then t (λ run. Gives (output_of run))) → AreWorked t → PrintsJournal held names old new
   prints_run names Untold is told h worked = absurd told
   prints_run names (Gives run) is told h worked =
-      record { run = run; spelled = is; journal = journal_of run; text = text; is = rw (sym h) (journal_is run worked); taken = taken }
+      record { run = run; spelled = is; journal = journal_of run; text = text; is = rw (sym h) (journal_is run (run_plan held names run is) worked); taken = taken }
   prints_run names (Refuses n fault) is told h worked = absurd h
 
   prints : (names : List (List ℕ)) → 1 ≤ length names → AreTold held names → IsGiven text (output_told held names) → AreWorked (run_told held names) → PrintsJournal held names old new

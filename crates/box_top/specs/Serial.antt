@@ -3,7 +3,7 @@ use Rattle.std.specs.Prelude.{◌≡◌, ℕ, ◌+◌, List, ◌∷◌, length, 
 use Rattle.line_plan.specs.Plans.{PlanFields}
 use Rattle.line_law.specs.declared.call.Call.{Call}
 use Rattle.line_law.specs.declared.call.Entry.{Entry}
-use Rattle.line_law.specs.Opening.{LineState}
+use Rattle.line_law.specs.States.{LineState}
 use Rattle.line_law.specs.Serial.{count_left, serial_from}
 use Rattle.script_text.specs.Scripts.{IsScriptOf}
 use Rattle.script_text.specs.declared.script.Script.{Script}
@@ -14,10 +14,10 @@ pub record AreScriptsOf (plan : PlanFields) (scripts : List Script) : Type 0 whe
   pub own : (b : ℕ) (script : Script) → slice_get scripts b ≡ Some script → IsScriptOf plan b script
 
 -- what the journal still gets, with these calls left
-unfoldable pub rest_of : LineState → List (List Call) → List Entry
-rest_of state left = serial_from (count_left left) state left
+unfoldable pub rest_of : PlanFields → LineState → List (List Call) → List Entry
+rest_of plan state left = serial_from plan (count_left left) state left
 
 -- an entry is the next of what the journal still gets, and the rest follows from there
-pub record Turns (old : LineState) (before : List (List Call)) (e : Entry) (new : LineState) (after : List (List Call)) : Type 0 where
-  pub next : rest_of old before ≡ e ∷ rest_of new after
+pub record Turns (plan : PlanFields) (old : LineState) (before : List (List Call)) (e : Entry) (new : LineState) (after : List (List Call)) : Type 0 where
+  pub next : rest_of plan old before ≡ e ∷ rest_of plan new after
   pub fewer : count_left before ≡ count_left after + 1

@@ -20,8 +20,11 @@ fn journal_text<G: Gate>(alloc: Global, inputs: &Inputs, gate: &G) -> Result<Vec
     requires { AreScriptsOf inputs.now.plan inputs.now.scripts.items }
     ensures { IfOk result (λ text. text.items ≡ output_of (record { plan = inputs.now.plan; scripts = inputs.now.scripts.items })) }
 {
-    let journal = work_serially(alloc, &inputs.plan, &inputs.scripts, gate)?;
-    print_journal(alloc, &inputs.plan, &journal)
+    let plan = &inputs.plan;
+    // The read shows the proof what the type of a plan keeps.
+    let _two = plan.boxes.len();
+    let journal = work_serially(alloc, plan, &inputs.scripts, gate)?;
+    print_journal(alloc, plan, &journal)
 }
 
 /// The printed journal of the run of the named texts; or why there is none.

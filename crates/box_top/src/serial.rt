@@ -1,7 +1,7 @@
 //! Scripts that are worked on one thread, one call at a time.
 
 ghost use Rattle.std.specs.Prelude.{◌≡◌, ◌+◌, ◌<◌, ◌^◌, Some, IfOk, length};
-ghost use Rattle.line_law.specs.Known.{IsLineOf};
+ghost use Rattle.line_law.specs.Lines.{IsLineOf};
 ghost use Rattle.line_law.specs.Serial.{AreLeft, calls_left, next_box, serial_journal};
 ghost use Rattle.box_top.specs.Looks.{look_of};
 ghost use Rattle.box_top.specs.Rosters.{calls_of_scripts};
@@ -22,7 +22,7 @@ fn look_at(plain: &Plain, plan: &Plan, roster: &Roster<'_>, box_no: usize) -> Lo
     requires few { plain.now.calls < 2 ^ 32 }
     requires left { AreLeft plan.now plain.now.line roster.now }
     requires box_no { box_no < length roster.now }
-    ensures { result ≡ look_of plain.now.line box_no (calls_left roster.now box_no) }
+    ensures { result ≡ look_of plan.now plain.now.line box_no (calls_left roster.now box_no) }
 {
     // The read shows the proof that a plan has few boxes.
     let _few = plan.boxes.len();
@@ -43,7 +43,7 @@ fn next_box(plain: &Plain, plan: &Plan, roster: &Roster<'_>) -> Option<usize>
     requires line { IsLineOf plan.now plain.now }
     requires few { plain.now.calls < 2 ^ 32 }
     requires left { AreLeft plan.now plain.now.line roster.now }
-    ensures { result ≡ next_box plain.now.line roster.now }
+    ensures { result ≡ next_box plan.now plain.now.line roster.now }
 {
     let mut waiting = None;
     for box_no in 0..roster.boxes() {
@@ -67,8 +67,8 @@ fn call_next<G: Gate>(
     requires line { IsLineOf plan.now plain.old }
     requires few { plain.old.calls < 2 ^ 32 }
     requires left { AreLeft plan.now plain.old.line roster.old }
-    requires next { next_box plain.old.line roster.old ≡ Some box_no }
-    ensures told { Turns plain.old.line roster.old result plain.new.line roster.new }
+    requires next { next_box plan.now plain.old.line roster.old ≡ Some box_no }
+    ensures told { Turns plan.now plain.old.line roster.old result plain.new.line roster.new }
     ensures left { AreLeft plan.now plain.new.line roster.new }
     ensures line { IsLineOf plan.now plain.new }
     ensures calls { plain.new.calls ≡ plain.old.calls + 1 }

@@ -3,15 +3,15 @@ use Rattle.std.proofs.Common.{◌≡◌, ◌≢◌, ℕ, ◌<◌, List, length, 
 use Rattle.std.proofs.lemmas.List.{get_or-set_same, get_or-set_other, set-set, set_comm}
 use Rattle.block_words.specs.declared.Way.{Way}
 use Rattle.block_words.specs.declared.Way.TheVariants.{Up, Down}
-use Rattle.line_plan.specs.Plans.{PlanFields}
+use Rattle.line_plan.specs.Plans.{IsPlan, PlanFields}
 use Rattle.line_law.specs.declared.call.Call.{Call}
 use Rattle.line_law.specs.declared.state.BoxState.{BoxState}
 use Rattle.line_law.specs.declared.state.PairState.{PairState}
-use Rattle.line_law.specs.Decisions.{Decision, Here, OnBell, Told, on_pair}
-use Rattle.line_law.specs.Opening.{LineState, IsStateOf, box_at, no_box, opening_pair, pair_at}
-use Rattle.line_law.specs.Law.{Done, done_at, step, step_at, pair_of}
+use Rattle.line_law.specs.Decisions.{Decision, Here, OnBell, OnBlock, OnLine, Told, on_pair}
+use Rattle.line_law.specs.States.{LineState, IsStateOf, box_at, no_state, opening_pair, pair_at}
+use Rattle.line_law.specs.Law.{Done, done_at, step, step_at, pair_of, plan_of}
 use Rattle.line_law.specs.Known.{KnowsCall}
-use Rattle.line_law.specs.Footprint.{Kind, Tally, BellWord, kind_of, kind_at, way_at, Apart, Differ, Commute, OnOtherWords, decision_at}
+use Rattle.line_law.specs.Footprint.{Kind, Tally, BellWord, BlockWord, LineWord, kind_of, kind_at, way_at, Apart, Differ, Commute, OnOtherWords, decision_at}
 use Rattle.line_law.proofs.Footprints.{has_places}
 
 -- ---- in one pair
@@ -29,6 +29,22 @@ in_order (OnBell f) (OnBell g) Up Up p apart = absurd apart
 in_order (OnBell f) (OnBell g) Up Down p apart = record { reply = refl; here = refl; word = refl }
 in_order (OnBell f) (OnBell g) Down Up p apart = record { reply = refl; here = refl; word = refl }
 in_order (OnBell f) (OnBell g) Down Down p apart = absurd apart
+in_order (OnBell f) (OnBlock g) v w p apart = record { reply = refl; here = refl; word = refl }
+in_order (OnBell f) (OnLine g) v w p apart = record { reply = refl; here = refl; word = refl }
+in_order (OnBlock f) (Here reply here) v w p apart = record { reply = refl; here = refl; word = refl }
+in_order (OnBlock f) (OnBell g) v w p apart = record { reply = refl; here = refl; word = refl }
+in_order (OnBlock f) (OnBlock g) Up Up p apart = absurd apart
+in_order (OnBlock f) (OnBlock g) Up Down p apart = record { reply = refl; here = refl; word = refl }
+in_order (OnBlock f) (OnBlock g) Down Up p apart = record { reply = refl; here = refl; word = refl }
+in_order (OnBlock f) (OnBlock g) Down Down p apart = absurd apart
+in_order (OnBlock f) (OnLine g) v w p apart = record { reply = refl; here = refl; word = refl }
+in_order (OnLine f) (Here reply here) v w p apart = record { reply = refl; here = refl; word = refl }
+in_order (OnLine f) (OnBell g) v w p apart = record { reply = refl; here = refl; word = refl }
+in_order (OnLine f) (OnBlock g) v w p apart = record { reply = refl; here = refl; word = refl }
+in_order (OnLine f) (OnLine g) Up Up p apart = absurd apart
+in_order (OnLine f) (OnLine g) Up Down p apart = record { reply = refl; here = refl; word = refl }
+in_order (OnLine f) (OnLine g) Down Up p apart = record { reply = refl; here = refl; word = refl }
+in_order (OnLine f) (OnLine g) Down Down p apart = absurd apart
 
 differ_sym : (v w : Way) → Differ v w → Differ w v
 differ_sym Up Up h = h
@@ -39,8 +55,20 @@ differ_sym Down Down h = h
 apart_sym : (k : Kind) (v : Way) (l : Kind) (w : Way) → Apart k v l w → Apart l w k v
 apart_sym Tally v Tally w h = tt
 apart_sym Tally v BellWord w h = tt
+apart_sym Tally v BlockWord w h = tt
+apart_sym Tally v LineWord w h = tt
 apart_sym BellWord v Tally w h = tt
 apart_sym BellWord v BellWord w h = differ_sym v w h
+apart_sym BellWord v BlockWord w h = tt
+apart_sym BellWord v LineWord w h = tt
+apart_sym BlockWord v Tally w h = tt
+apart_sym BlockWord v BellWord w h = tt
+apart_sym BlockWord v BlockWord w h = differ_sym v w h
+apart_sym BlockWord v LineWord w h = tt
+apart_sym LineWord v Tally w h = tt
+apart_sym LineWord v BellWord w h = tt
+apart_sym LineWord v BlockWord w h = tt
+apart_sym LineWord v LineWord w h = differ_sym v w h
 
 -- ---- an outcome in the line
 
@@ -67,7 +95,7 @@ record LiftsCommute (f g : Outcome) (state : LineState) (b c p q : ℕ) : Type 0
 -- ---- in two pairs
 
 finds_apart : (f g : Outcome) (state : LineState) (b c p q : ℕ) → c ≢ b → q ≢ p → g (box_at (lift f state b p).after c) (pair_at (lift f state b p).after q) ≡ g (box_at state c) (pair_at state q)
-finds_apart f g state b c p q nb np = finds g _ _ _ _ (get_or-set_other state.boxes b c _ no_box nb) (get_or-set_other state.pairs p q _ opening_pair np)
+finds_apart f g state b c p q nb np = finds g _ _ _ _ (get_or-set_other state.boxes b c _ no_state nb) (get_or-set_other state.pairs p q _ opening_pair np)
 
 after_apart : (f g : Outcome) (state : LineState) (b c p q : ℕ) → b ≢ c → p ≢ q → (lift g (lift f state b p).after c q).after ≡ (lift f (lift g state c q).after b p).after
 after_apart f g state b c p q nb np =
@@ -93,7 +121,7 @@ record AreInOrder (f g : Outcome) (x y : BoxState) (p : PairState) : Type 0 wher
   word : (g y (f x p).word).word ≡ (f x (g y p).word).word
 
 finds_one : (f g : Outcome) (state : LineState) (b c p : ℕ) → c ≢ b → p < length state.pairs → g (box_at (lift f state b p).after c) (pair_at (lift f state b p).after p) ≡ g (box_at state c) (f (box_at state b) (pair_at state p)).word
-finds_one f g state b c p nb within = finds g _ _ _ _ (get_or-set_other state.boxes b c _ no_box nb) (get_or-set_same state.pairs p _ opening_pair within)
+finds_one f g state b c p nb within = finds g _ _ _ _ (get_or-set_other state.boxes b c _ no_state nb) (get_or-set_same state.pairs p _ opening_pair within)
 
 after_one : (f g : Outcome) (state : LineState) (b c p : ℕ) → b ≢ c → p < length state.pairs → AreInOrder f g (box_at state b) (box_at state c) (pair_at state p) → AreInOrder g f (box_at state c) (box_at state b) (pair_at state p)
     → (lift g (lift f state b p).after c p).after ≡ (lift f (lift g state c p).after b p).after
@@ -118,20 +146,20 @@ lifts_one f g state b c p q nb e within there back =
 
 -- ---- the law
 
-are_in_order : (state : LineState) (b : ℕ) (call : Call) (c : ℕ) (next : Call) (p : PairState) → Apart (kind_at state b call) (way_at call) (kind_at state c next) (way_at next)
-    → AreInOrder (step_at call) (step_at next) (box_at state b) (box_at state c) p
-are_in_order state b call c next p apart =
-    let both = in_order (decision_at state b call) (decision_at state c next) (way_at call) (way_at next) p apart in
+are_in_order : (plan : PlanFields) (state : LineState) (b : ℕ) (call : Call) (c : ℕ) (next : Call) (p : PairState) → Apart (kind_at plan state b call) (way_at plan b call) (kind_at plan state c next) (way_at plan c next)
+    → AreInOrder (step_at plan (plan_of plan b) call) (step_at plan (plan_of plan c) next) (box_at state b) (box_at state c) p
+are_in_order plan state b call c next p apart =
+    let both = in_order (decision_at plan state b call) (decision_at plan state c next) (way_at plan b call) (way_at plan c next) p apart in
     record { reply = both.reply; here = both.here; word = both.word }
 
-pub commute : (plan : PlanFields) (state : LineState) (b : ℕ) (call : Call) (c : ℕ) (next : Call) → IsStateOf plan state → KnowsCall plan b call → KnowsCall plan c next → b ≢ c → OnOtherWords state b call c next → Commute state b call c next
+pub commute : (plan : PlanFields) (state : LineState) (b : ℕ) (call : Call) (c : ℕ) (next : Call) → IsPlan plan → IsStateOf plan state → KnowsCall plan b call → KnowsCall plan c next → b ≢ c → OnOtherWords plan state b call c next → Commute plan state b call c next
 unfolding step
-commute plan state b call c next h known also nb (inl np) =
-    let both = lifts_apart (step_at call) (step_at next) state b c (pair_of b call) (pair_of c next) nb np in
+commute plan state b call c next is h known also nb (inl np) =
+    let both = lifts_apart (step_at plan (plan_of plan b) call) (step_at plan (plan_of plan c) next) state b c (pair_of plan b call) (pair_of plan c next) nb np in
     record { first = both.first; second = both.second; after = both.after }
-commute plan state b call c next h known also nb (inr one) =
-    let here = has_places plan state b call h known in
-    let both = lifts_one (step_at call) (step_at next) state b c (pair_of b call) (pair_of c next) nb one.0 here.pair
-    (are_in_order state b call c next _ one.1)
-    (are_in_order state c next b call _ (apart_sym (kind_at state b call) (way_at call) (kind_at state c next) (way_at next) one.1)) in
+commute plan state b call c next is h known also nb (inr one) =
+    let here = has_places plan state b call is h known in
+    let both = lifts_one (step_at plan (plan_of plan b) call) (step_at plan (plan_of plan c) next) state b c (pair_of plan b call) (pair_of plan c next) nb one.0 here.pair
+    (are_in_order plan state b call c next _ one.1)
+    (are_in_order plan state c next b call _ (apart_sym (kind_at plan state b call) (way_at plan b call) (kind_at plan state c next) (way_at plan c next) one.1)) in
     record { first = both.first; second = both.second; after = both.after }

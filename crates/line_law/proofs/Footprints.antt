@@ -1,40 +1,32 @@
 -- The footprint law: a call is a function of its box and of one word, and changes nothing else.
-use Rattle.std.proofs.Common.{◌≡◌, ℕ, ◌<◌, length, refl, sym, ap, subst, ◌∙◌, arith}
+use Rattle.std.proofs.Common.{List, ◌≡◌, ℕ, ◌<◌, length, refl, sym, ap, subst, ◌∙◌, arith}
 use Rattle.std.proofs.lemmas.List.{get_or-set_same, get_or-set_other}
-use Rattle.block_words.specs.Ways.{opposite}
 use Rattle.block_words.specs.declared.Way.{Way}
-use Rattle.block_words.specs.declared.Way.TheVariants.{Up, Down}
-use Rattle.line_plan.specs.Plans.{PlanFields}
-use Rattle.line_law.specs.declared.ways.ByWay.{ByWay}
+use Rattle.line_plan.specs.Plans.{IsPlan, PlanFields}
 use Rattle.line_law.specs.declared.call.Call.{Call}
 use Rattle.line_law.specs.declared.state.Bell.{Bell}
+use Rattle.line_law.specs.declared.state.Block.{Block}
+use Rattle.line_law.specs.declared.state.Passage.{Passage}
 use Rattle.line_law.specs.declared.state.BoxState.{BoxState}
 use Rattle.line_law.specs.declared.state.PairState.{PairState}
-use Rattle.line_law.specs.Ways.{of_way, with_way}
-use Rattle.line_law.specs.Decisions.{Decision, Here, OnBell, Told, on_pair}
-use Rattle.line_law.specs.Opening.{LineState, IsStateOf, box_at, no_box, opening_pair, pair_at}
-use Rattle.line_law.specs.Law.{step, step_at, pair_of, decide, at_moment}
+use Rattle.line_law.specs.Decisions.{Decision, Here, OnBell, OnBlock, OnLine, Told, on_pair}
+use Rattle.line_law.specs.States.{LineState, IsStateOf, box_at, no_state, opening_pair, pair_at}
+use Rattle.line_law.specs.Law.{step, step_at, pair_of, plan_of}
+use Rattle.line_law.specs.SectionFacts.{decided}
+use Rattle.line_law.proofs.Words.{of_way-with, of_way-with_other}
 use Rattle.line_law.specs.Known.{KnowsCall}
 use Rattle.line_law.specs.Footprint.{Kind, kind_of, kind_at, way_at, SameWord, SameOthers, HaveSameFootprint, EndsAlike, KeepsOthers, decision_at}
 use Rattle.line_law.proofs.Sides.{call_within}
 
 -- a state has the box and the pair of a call
-pub record HasPlaces (b : ℕ) (call : Call) (state : LineState) : Type 0 where
+pub record HasPlaces (plan : PlanFields) (b : ℕ) (call : Call) (state : LineState) : Type 0 where
   pub box : b < length state.boxes
-  pub pair : pair_of b call < length state.pairs
+  pub pair : pair_of plan b call < length state.pairs
 
-pub has_places : (plan : PlanFields) (state : LineState) (b : ℕ) (call : Call) → IsStateOf plan state → KnowsCall plan b call → HasPlaces b call state
-has_places plan state b call h known = let within = call_within plan b call known in record { box = omega (arith, h.boxes, within.box); pair = omega (arith, h.pairs, within.pair) }
+pub has_places : (plan : PlanFields) (state : LineState) (b : ℕ) (call : Call) → IsPlan plan → IsStateOf plan state → KnowsCall plan b call → HasPlaces plan b call state
+has_places plan state b call is h known = let within = call_within plan b call is known in record { box = omega (arith, h.boxes, within.box); pair = omega (arith, h.pairs, within.pair) }
 
 -- ---- in one pair
-
-pub of_way-with : {A : Type 0} → (both : ByWay A) (way : Way) (x : A) → of_way (with_way both way x) way ≡ x
-of_way-with both Up x = refl
-of_way-with both Down x = refl
-
-of_way-with_other : {A : Type 0} → (both : ByWay A) (way : Way) (x : A) → of_way both (opposite way) ≡ of_way (with_way both way x) (opposite way)
-of_way-with_other both Up x = refl
-of_way-with_other both Down x = refl
 
 -- two outcomes with one reply, one box and one word
 record AreAlike (kind : Kind) (way : Way) (a b : Told PairState) : Type 0 where
@@ -50,16 +42,30 @@ alike (OnBell act) way p q same =
       here = ap (λ (w : Bell). (act w).here) same;
       word = of_way-with p.bells way _ ∙ ap (λ (w : Bell). (act w).word) same ∙ sym (of_way-with q.bells way _);
     }
+alike (OnBlock act) way p q same =
+    record {
+      reply = ap (λ (w : Block). (act w).reply) same;
+      here = ap (λ (w : Block). (act w).here) same;
+      word = of_way-with p.blocks way _ ∙ ap (λ (w : Block). (act w).word) same ∙ sym (of_way-with q.blocks way _);
+    }
+alike (OnLine act) way p q same =
+    record {
+      reply = ap (λ (w : List Passage). (act w).reply) same;
+      here = ap (λ (w : List Passage). (act w).here) same;
+      word = of_way-with p.lines way _ ∙ ap (λ (w : List Passage). (act w).word) same ∙ sym (of_way-with q.lines way _);
+    }
 
 others_stay : (d : Decision) (way : Way) (p : PairState) → SameOthers (kind_of d) way p (on_pair way d p).word
 others_stay (Here reply here) way p = refl
-others_stay (OnBell act) way p = of_way-with_other p.bells way _
+others_stay (OnBell act) way p = (of_way-with_other p.bells way _, refl, refl)
+others_stay (OnBlock act) way p = (refl, of_way-with_other p.blocks way _, refl)
+others_stay (OnLine act) way p = (refl, refl, of_way-with_other p.lines way _)
 
-call_alike : (call : Call) (x y : BoxState) (p q : PairState) → x ≡ y → SameWord (kind_of (decide call.act (at_moment x call.moment))) (way_at call) p q
-    → AreAlike (kind_of (decide call.act (at_moment x call.moment))) (way_at call) (step_at call x p) (step_at call y q)
-call_alike call x y p q e same =
-    subst (λ (z : BoxState). AreAlike (kind_of (decide call.act (at_moment x call.moment))) (way_at call) (step_at call x p) (step_at call z q)) e
-    (alike (decide call.act (at_moment x call.moment)) (way_at call) p q same)
+call_alike : (plan : PlanFields) (b : ℕ) (call : Call) (x y : BoxState) (p q : PairState) → x ≡ y → SameWord (kind_of (decided plan b call x)) (way_at plan b call) p q
+    → AreAlike (kind_of (decided plan b call x)) (way_at plan b call) (step_at plan (plan_of plan b) call x p) (step_at plan (plan_of plan b) call y q)
+call_alike plan b call x y p q e same =
+    subst (λ (z : BoxState). AreAlike (kind_of (decided plan b call x)) (way_at plan b call) (step_at plan (plan_of plan b) call x p) (step_at plan (plan_of plan b) call z q)) e
+    (alike (decided plan b call x) (way_at plan b call) p q same)
 
 -- ---- along equal pairs
 
@@ -69,25 +75,25 @@ word_along kind way p q p' q' e f same =
 
 -- ---- in the line
 
-pub ends_alike : (plan : PlanFields) (state other : LineState) (b : ℕ) (call : Call) → IsStateOf plan state → IsStateOf plan other → KnowsCall plan b call → HaveSameFootprint b call state other → EndsAlike b call state other
+pub ends_alike : (plan : PlanFields) (state other : LineState) (b : ℕ) (call : Call) → IsPlan plan → IsStateOf plan state → IsStateOf plan other → KnowsCall plan b call → HaveSameFootprint plan b call state other → EndsAlike plan b call state other
 unfolding step
-ends_alike plan state other b call h k known same =
-    let here = has_places plan state b call h known in
-    let there = has_places plan other b call k known in
-    let told = call_alike call (box_at state b) (box_at other b) (pair_at state (pair_of b call)) (pair_at other (pair_of b call)) same.here same.word in
+ends_alike plan state other b call is h k known same =
+    let here = has_places plan state b call is h known in
+    let there = has_places plan other b call is k known in
+    let told = call_alike plan b call (box_at state b) (box_at other b) (pair_at state (pair_of plan b call)) (pair_at other (pair_of plan b call)) same.here same.word in
     record {
       reply = told.reply;
-      here = get_or-set_same state.boxes b _ no_box here.box ∙ told.here ∙ sym (get_or-set_same other.boxes b _ no_box there.box);
-      word = word_along (kind_at state b call) (way_at call) _ _ _ _ (get_or-set_same state.pairs (pair_of b call) _ opening_pair here.pair) (get_or-set_same other.pairs (pair_of b call) _ opening_pair there.pair) told.word;
+      here = get_or-set_same state.boxes b _ no_state here.box ∙ told.here ∙ sym (get_or-set_same other.boxes b _ no_state there.box);
+      word = word_along (kind_at plan state b call) (way_at plan b call) _ _ _ _ (get_or-set_same state.pairs (pair_of plan b call) _ opening_pair here.pair) (get_or-set_same other.pairs (pair_of plan b call) _ opening_pair there.pair) told.word;
     }
 
-pub keeps_others : (plan : PlanFields) (state : LineState) (b : ℕ) (call : Call) → IsStateOf plan state → KnowsCall plan b call → KeepsOthers b call state
+pub keeps_others : (plan : PlanFields) (state : LineState) (b : ℕ) (call : Call) → IsPlan plan → IsStateOf plan state → KnowsCall plan b call → KeepsOthers plan b call state
 unfolding step
-keeps_others plan state b call h known =
-    let here = has_places plan state b call h known in
+keeps_others plan state b call is h known =
+    let here = has_places plan state b call is h known in
     record {
-      boxes = λ other differ. get_or-set_other state.boxes b other _ no_box differ;
-      pairs = λ other differ. get_or-set_other state.pairs (pair_of b call) other _ opening_pair differ;
-      words = subst (λ (r : PairState). SameOthers (kind_at state b call) (way_at call) (pair_at state (pair_of b call)) r) (sym (get_or-set_same state.pairs (pair_of b call) _ opening_pair here.pair))
-          (others_stay (decision_at state b call) (way_at call) (pair_at state (pair_of b call)));
+      boxes = λ other differ. get_or-set_other state.boxes b other _ no_state differ;
+      pairs = λ other differ. get_or-set_other state.pairs (pair_of plan b call) other _ opening_pair differ;
+      words = subst (λ (r : PairState). SameOthers (kind_at plan state b call) (way_at plan b call) (pair_at state (pair_of plan b call)) r) (sym (get_or-set_same state.pairs (pair_of plan b call) _ opening_pair here.pair))
+          (others_stay (decision_at plan state b call) (way_at plan b call) (pair_at state (pair_of plan b call)));
     }

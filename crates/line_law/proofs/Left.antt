@@ -4,24 +4,28 @@ use Rattle.std.proofs.lemmas.Bool.{cases_lt}
 use Rattle.std.proofs.lemmas.Bool.Decides.{eqb_tells}
 use Rattle.std.proofs.lemmas.List.{length-set, get_or_past, get_or-set_same, get_or-set_other}
 use Rattle.std.proofs.lemmas.List.Sums.{sum_by-set}
+use Rattle.line_plan.specs.Frames.{BoxFields, signal_of}
 use Rattle.line_plan.specs.Plans.{PlanFields}
-use Rattle.block_words.specs.Ways.{opposite}
+use Rattle.line_plan.specs.declared.signal.Signal.{Signal}
 use Rattle.block_words.specs.declared.Way.{Way}
 use Rattle.line_law.specs.declared.call.Act.{Act}
-use Rattle.line_law.specs.declared.call.Act.TheVariants.{Ring, Hear, AwaitBell}
-use Rattle.line_law.specs.declared.call.Reply.TheVariants.{Heard, BellNotYet}
-use Rattle.line_law.specs.declared.state.Bell.{Bell}
-use Rattle.line_law.specs.declared.state.PairState.{PairState}
-use Rattle.line_law.specs.Links.{way_of}
-use Rattle.line_law.specs.Ways.{of_way}
-use Rattle.line_law.specs.Decisions.{Told, on_pair}
-use Rattle.line_law.specs.Bells.{rung, heard, awaited, silent}
 use Rattle.line_law.specs.declared.call.Call.{Call}
 use Rattle.line_law.specs.declared.state.BoxState.{BoxState}
-use Rattle.line_law.specs.Opening.{LineState, box_at, pair_at}
-use Rattle.line_law.specs.Law.{step, pair_of, decide, at_moment, link_of}
-use Rattle.line_law.specs.Known.{MayCall}
+use Rattle.line_law.specs.declared.state.PairState.{PairState}
+use Rattle.line_law.specs.declared.state.Passage.{Passage}
+use Rattle.line_law.specs.Arrivals.{next_number, next_train, train_awaited, train_berthed, train_cleared, train_parted}
+use Rattle.line_law.specs.Bells.{rung, heard, awaited}
+use Rattle.line_law.specs.Decisions.{Decision, Told, on_pair}
+use Rattle.line_law.specs.Instruments.{same_position}
+use Rattle.line_law.specs.Law.{MayCall, at_moment, link_of, pair_of, plan_of, step}
+use Rattle.line_law.specs.Levers.{is_unspent_clear, pulled}
+use Rattle.line_law.specs.Links.{way_of}
+use Rattle.line_law.specs.Outcomes.{Outcome, Refused, Rings, Hears, AwaitsBell, Turns, AwaitsBlock, Pulls, PullsStarter, Puts, Brings, GoesTo, GoesAway, Enters, AwaitsTrain, Berths, Parts, Clears, Winds, Releases}
 use Rattle.line_law.specs.Serial.{AreCalls, AreLeft, calls_left, next_box, count_left, first_free, first_waiting, or_else, may_go}
+use Rattle.line_law.specs.States.{LineState, box_at, pair_at}
+use Rattle.line_law.specs.Trains.{holds}
+use Rattle.line_law.specs.Ways.{of_way}
+use Rattle.line_law.proofs.Outcomes.{outcome_of}
 
 -- ---- one call
 
@@ -39,47 +43,82 @@ has_box left b call calls e = elim (cases_lt b (length left)) [
 
 -- ---- what a call leaves in its box
 
-ring_moment : (here : BoxState) (side : Way) (code count : ℕ) (unheard : Option ℕ) → (rung here side code count unheard).here.moment ≡ here.moment
-ring_moment here side code count None = refl
-ring_moment here side code count (Some held) = refl
+-- the moment of a box after each outcome of a call is the one before it
+word_moment : {W : Type 0} (c : Bool) (m : ℕ) (x y : Told W) → x.here.moment ≡ m → y.here.moment ≡ m → (cond c x y).here.moment ≡ m
+word_moment true m x y p q = p
+word_moment false m x y p q = q
 
-hear_moment : (here : BoxState) (count : ℕ) (unheard : Option ℕ) → (heard here count unheard).here.moment ≡ here.moment
-hear_moment here count None = refl
-hear_moment here count (Some held) = refl
+rung_moment : (here : BoxState) (side : Way) (code count : ℕ) (unheard : Option ℕ) → (rung here side code count unheard).here.moment ≡ here.moment
+rung_moment here side code count None = refl
+rung_moment here side code count (Some held) = refl
 
-await_moment : (here : BoxState) (code count : ℕ) (unheard : Option ℕ) → (awaited here code count unheard).here.moment ≡ here.moment
-await_moment here code count None = refl
-await_moment here code count (Some held) = go (eqb held code) where
-  told : Bool → Told Bell
-  told b = cond b (record { reply = Heard count held; here = here; word = silent count }) (record { reply = BellNotYet count (Some held); here = here; word = record { count = count; unheard = Some held } })
+heard_moment : (here : BoxState) (count : ℕ) (unheard : Option ℕ) → (heard here count unheard).here.moment ≡ here.moment
+heard_moment here count None = refl
+heard_moment here count (Some held) = refl
 
-  go : (b : Bool) → (told b).here.moment ≡ here.moment
-  go true = refl
-  go false = refl
+awaited_moment : (here : BoxState) (code count : ℕ) (unheard : Option ℕ) → (awaited here code count unheard).here.moment ≡ here.moment
+awaited_moment here code count None = refl
+awaited_moment here code count (Some held) = word_moment (eqb held code) here.moment _ _ refl refl
 
-act_moment : (act : Act) (here : BoxState) (pair : PairState) → (on_pair (way_of (link_of act)) (decide act here) pair).here.moment ≡ here.moment
-act_moment (Ring side code) here pair = let bell = of_way pair.bells side in ring_moment here side code bell.count bell.unheard
-act_moment (Hear side) here pair = let bell = of_way pair.bells (opposite side) in hear_moment here bell.count bell.unheard
-act_moment (AwaitBell side code) here pair = let bell = of_way pair.bells (opposite side) in await_moment here code bell.count bell.unheard
+pulled_moment : (here : BoxState) (lever : ℕ) (s : Option Signal) → (pulled here lever s).moment ≡ here.moment
+pulled_moment here lever None = refl
+pulled_moment here lever (Some s) = refl
+
+awaits_moment : (t : Option ℕ) (here : BoxState) (j : ℕ) (line : List Passage) → (train_awaited t here j line).here.moment ≡ here.moment
+awaits_moment None here j line = refl
+awaits_moment (Some train) here j line = refl
+
+berthed_moment : (t : Option ℕ) (here : BoxState) (way : Way) (place j : ℕ) (line : List Passage) → (train_berthed t here way place j line).here.moment ≡ here.moment
+berthed_moment None here way place j line = refl
+berthed_moment (Some train) here way place j line = refl
+
+parted_moment : (t : Option ℕ) (here : BoxState) (way : Way) (place j : ℕ) (line : List Passage) → (train_parted t here way place j line).here.moment ≡ here.moment
+parted_moment None here way place j line = refl
+parted_moment (Some train) here way place j line = refl
+
+cleared_moment : (t : Option ℕ) (here : BoxState) (way : Way) (j : ℕ) (line : List Passage) → (train_cleared t here way j line).here.moment ≡ here.moment
+cleared_moment None here way j line = refl
+cleared_moment (Some train) here way j line = refl
+
+out_moment : (plan : PlanFields) (bp : BoxFields) (here : BoxState) (pair : PairState) (v : Way) (act : Act) (d : Decision) → Outcome plan bp here act d → (on_pair v d pair).here.moment ≡ here.moment
+out_moment plan bp here pair v act d (Refused a reply) = refl
+out_moment plan bp here pair v act d (Rings side code) = rung_moment here side code (of_way pair.bells v).count (of_way pair.bells v).unheard
+out_moment plan bp here pair v act d (Hears side) = heard_moment here (of_way pair.bells v).count (of_way pair.bells v).unheard
+out_moment plan bp here pair v act d (AwaitsBell side code) = awaited_moment here code (of_way pair.bells v).count (of_way pair.bells v).unheard
+out_moment plan bp here pair v act d (Turns way position berth e free) = refl
+out_moment plan bp here pair v act d (AwaitsBlock way position) = word_moment (same_position (of_way pair.blocks v).position position) here.moment _ _ refl refl
+out_moment plan bp here pair v act d (Pulls lever e free) = pulled_moment here lever (signal_of bp lever)
+out_moment plan bp here pair v act d (PullsStarter lever way e free) = word_moment (is_unspent_clear (of_way pair.blocks v)) here.moment _ _ (pulled_moment here lever (signal_of bp lever)) refl
+out_moment plan bp here pair v act d (Puts lever free) = refl
+out_moment plan bp here pair v act d (Brings train free) = refl
+out_moment plan bp here pair v act d (GoesTo a lever signal train place e to there moves) = refl
+out_moment plan bp here pair v act d (GoesAway a lever signal train e to there moves) = refl
+out_moment plan bp here pair v act d (Enters a lever signal train way e to there moves) = word_moment (holds (of_way pair.lines v) (of_way here.sent way + 1)) here.moment _ _ refl refl
+out_moment plan bp here pair v act d (AwaitsTrain way) = awaits_moment (next_train here way (of_way pair.lines v)) here (next_number here way) (of_way pair.lines v)
+out_moment plan bp here pair v act d (Berths way berth e free) = berthed_moment (next_train here way (of_way pair.lines v)) here way berth.place (next_number here way) (of_way pair.lines v)
+out_moment plan bp here pair v act d (Parts way berth e free) = parted_moment (next_train here way (of_way pair.lines v)) here way berth.place (next_number here way) (of_way pair.lines v)
+out_moment plan bp here pair v act d (Clears way free) = cleared_moment (next_train here way (of_way pair.lines v)) here way (next_number here way) (of_way pair.lines v)
+out_moment plan bp here pair v act d (Winds way free) = refl
+out_moment plan bp here pair v act d (Releases way free) = refl
 
 -- the box that calls has the call's moment; the others stay
-pub moment_here : (state : LineState) (b : ℕ) (call : Call) → b < length state.boxes → (box_at (step state b call).after b).moment ≡ call.moment
+pub moment_here : (plan : PlanFields) (state : LineState) (b : ℕ) (call : Call) → b < length state.boxes → (box_at (step plan state b call).after b).moment ≡ call.moment
 unfolding step
-moment_here state b call lt =
-    ap (λ (x : BoxState). x.moment) (get_or-set_same state.boxes b _ _ lt) ∙ act_moment call.act (at_moment (box_at state b) call.moment) (pair_at state (pair_of b call))
+moment_here plan state b call lt =
+    ap (λ (x : BoxState). x.moment) (get_or-set_same state.boxes b _ _ lt) ∙ out_moment plan (plan_of plan b) (at_moment (box_at state b) call.moment) (pair_at state (pair_of plan b call)) (way_of (link_of (plan_of plan b) call.act)) call.act _ (outcome_of plan (plan_of plan b) call.act (at_moment (box_at state b) call.moment))
 
-pub other_box : (state : LineState) (b c : ℕ) (call : Call) → c ≢ b → box_at (step state b call).after c ≡ box_at state c
+pub other_box : (plan : PlanFields) (state : LineState) (b c : ℕ) (call : Call) → c ≢ b → box_at (step plan state b call).after c ≡ box_at state c
 unfolding step
-other_box state b c call differ = get_or-set_other state.boxes b c _ _ differ
+other_box plan state b c call differ = get_or-set_other state.boxes b c _ _ differ
 
-pub same_boxes : (state : LineState) (b : ℕ) (call : Call) → length (step state b call).after.boxes ≡ length state.boxes
+pub same_boxes : (plan : PlanFields) (state : LineState) (b : ℕ) (call : Call) → length (step plan state b call).after.boxes ≡ length state.boxes
 unfolding step
-same_boxes state b call = length-set state.boxes b _
+same_boxes plan state b call = length-set state.boxes b _
 
 -- ---- what a call leaves to be made
 
 pub left_next : (plan : PlanFields) (state : LineState) (left : List (List Call)) (b : ℕ) (call : Call) (calls : List Call)
-    → length state.boxes ≡ length plan.boxes → AreLeft plan state left → calls_left left b ≡ call ∷ calls → AreLeft plan (step state b call).after (slice_set left b calls)
+    → length state.boxes ≡ length plan.boxes → AreLeft plan state left → calls_left left b ≡ call ∷ calls → AreLeft plan (step plan state b call).after (slice_set left b calls)
 left_next plan state left b call calls boxes h e =
     let within : b < length left = has_box left b call calls e in
     let all = subst (λ (cs : List Call). AreCalls plan b (box_at state b).moment cs) e (h.calls b) in
@@ -88,9 +127,9 @@ left_next plan state left b call calls boxes h e =
       calls = λ c. elim (eqb_tells c b) [
         | inl same ↦
             let mine : calls_left (slice_set left b calls) c ≡ calls = rw same.1 (get_or-set_same left b calls [] within) in
-            let moment : (box_at (step state b call).after c).moment ≡ call.moment = rw same.1 (moment_here state b call (omega (arith, boxes, h.each, within))) in
+            let moment : (box_at (step plan state b call).after c).moment ≡ call.moment = rw same.1 (moment_here plan state b call (omega (arith, boxes, h.each, within))) in
             rw (mine, moment, same.1) all.2
-        | inr differ ↦ rw (get_or-set_other left b c calls [] differ.1, other_box state b c call differ.1) (h.calls c)
+        | inr differ ↦ rw (get_or-set_other left b c calls [] differ.1, other_box plan state b c call differ.1) (h.calls c)
       ];
     }
 
@@ -109,9 +148,9 @@ pub record HasCall (calls : List Call) : Type 0 where
   pub rest : List Call
   pub is : calls ≡ call ∷ rest
 
-free_here : (state : LineState) (b : ℕ) (calls : List Call) → may_go state b calls ≡ true → HasCall calls
-free_here state b [] h = absurd cc
-free_here state b (call ∷ calls) h = record { call = call; rest = calls; is = refl }
+free_here : (plan : PlanFields) (state : LineState) (b : ℕ) (calls : List Call) → may_go plan state b calls ≡ true → HasCall calls
+free_here plan state b [] h = absurd cc
+free_here plan state b (call ∷ calls) h = record { call = call; rest = calls; is = refl }
 
 record IsAt (k b : ℕ) (left : List (List Call)) : Type 0 where
   place : ℕ
@@ -121,11 +160,11 @@ record IsAt (k b : ℕ) (left : List (List Call)) : Type 0 where
 at_next : (k b : ℕ) (calls : List Call) (left : List (List Call)) → IsAt (k + 1) b left → IsAt k b (calls ∷ left)
 at_next k b calls left h = record { place = suc h.place; is = omega (arith, h.is); has = h.has }
 
-free_at : (state : LineState) (k b : ℕ) (left : List (List Call)) → first_free state k left ≡ Some b → IsAt k b left
-free_at state k b [] h = absurd cc
-free_at state k b (calls ∷ left) h = go (free_at state (k + 1) b left) (may_go state k calls) refl h where
-  go : (first_free state (k + 1) left ≡ Some b → IsAt (k + 1) b left) → (t : Bool) → may_go state k calls ≡ t → cond t (Some k) (first_free state (k + 1) left) ≡ Some b → IsAt k b (calls ∷ left)
-  go later true e f = let same : k ≡ b = cc in record { place = zero; is = omega (arith, same); has = free_here state k calls e }
+free_at : (plan : PlanFields) (state : LineState) (k b : ℕ) (left : List (List Call)) → first_free plan state k left ≡ Some b → IsAt k b left
+free_at plan state k b [] h = absurd cc
+free_at plan state k b (calls ∷ left) h = go (free_at plan state (k + 1) b left) (may_go plan state k calls) refl h where
+  go : (first_free plan state (k + 1) left ≡ Some b → IsAt (k + 1) b left) → (t : Bool) → may_go plan state k calls ≡ t → cond t (Some k) (first_free plan state (k + 1) left) ≡ Some b → IsAt k b (calls ∷ left)
+  go later true e f = let same : k ≡ b = cc in record { place = zero; is = omega (arith, same); has = free_here plan state k calls e }
   go later false e f = at_next k b calls left (later f)
 
 waiting_at : (k b : ℕ) (left : List (List Call)) → first_waiting k left ≡ Some b → IsAt k b left
@@ -134,13 +173,13 @@ waiting_at k b ([] ∷ left) h = at_next k b [] left (waiting_at (k + 1) b left 
 waiting_at k b ((call ∷ calls) ∷ left) h = let same : k ≡ b = cc in record { place = zero; is = omega (arith, same); has = record { call = call; rest = calls; is = refl } }
 
 -- the box that calls next has a call left
-pub next_has : (state : LineState) (left : List (List Call)) (b : ℕ) → next_box state left ≡ Some b → HasCall (calls_left left b)
-next_has state left b h = go (first_free state 0 left) refl h where
+pub next_has : (plan : PlanFields) (state : LineState) (left : List (List Call)) (b : ℕ) → next_box plan state left ≡ Some b → HasCall (calls_left left b)
+next_has plan state left b h = go (first_free plan state 0 left) refl h where
   there : IsAt 0 b left → HasCall (calls_left left b)
   there at = let same : b ≡ at.place = omega (arith, at.is) in rw same at.has
 
-  go : (o : Option ℕ) → first_free state 0 left ≡ o → or_else o (first_waiting 0 left) ≡ Some b → HasCall (calls_left left b)
-  go (Some c) e f = let same : c ≡ b = cc in there (free_at state 0 b left (rw e (ap Some same)))
+  go : (o : Option ℕ) → first_free plan state 0 left ≡ o → or_else o (first_waiting 0 left) ≡ Some b → HasCall (calls_left left b)
+  go (Some c) e f = let same : c ≡ b = cc in there (free_at plan state 0 b left (rw e (ap Some same)))
   go None e f = there (waiting_at 0 b left f)
 
 none_waits : (k : ℕ) (left : List (List Call)) → first_waiting k left ≡ None → count_left left ≡ 0
@@ -149,8 +188,8 @@ none_waits k ([] ∷ left) h = let rest = none_waits (k + 1) left h in omega ari
 none_waits k ((call ∷ calls) ∷ left) h = absurd cc
 
 -- where no box calls next, no call is left
-pub none_next : (state : LineState) (left : List (List Call)) → next_box state left ≡ None → count_left left ≡ 0
-none_next state left h = go (first_free state 0 left) h where
+pub none_next : (plan : PlanFields) (state : LineState) (left : List (List Call)) → next_box plan state left ≡ None → count_left left ≡ 0
+none_next plan state left h = go (first_free plan state 0 left) h where
   go : (o : Option ℕ) → or_else o (first_waiting 0 left) ≡ None → count_left left ≡ 0
   go (Some c) f = absurd cc
   go None f = none_waits 0 left f

@@ -1,53 +1,68 @@
--- Which calls a plan knows, and which states are of a plan.
-use Rattle.std.specs.Prelude.{◌≡◌, ℕ, ◌+◌, ◌≤◌, Bool, ◌&&◌, ◌==◌, nat_lt, nat_le, length, IsTrue, if◌then◌else◌}
+-- Which calls a plan knows.
+use Rattle.std.specs.Prelude.{ℕ, Bool, ◌&&◌, ◌==◌, nat_lt, nat_le, length, is_some, IsTrue, if◌then◌else◌}
 use Rattle.block_words.specs.declared.Way.{Way}
-use Rattle.block_words.specs.declared.Way.TheVariants.{Up, Down}
-use Rattle.line_plan.specs.Plans.{PlanFields}
+use Rattle.line_plan.specs.Frames.{berth_of, lever_of, signal_of}
+use Rattle.line_plan.specs.Plans.{PlanFields, box_at, is_train, train_at}
+use Rattle.line_plan.specs.Ways.{comes_in, has_neighbour, leaves}
 use Rattle.line_law.specs.declared.call.Act.{Act}
-use Rattle.line_law.specs.declared.call.Act.TheVariants.{Ring, Hear, AwaitBell}
+use Rattle.line_law.specs.declared.call.Act.TheVariants.{Ring, Hear, AwaitBell, Turn, AwaitBlock, Pull, Put, Bring, Pass, Overrun, AwaitTrain, Berth, BerthPart, ClearPortion, Wind, Release}
 use Rattle.line_law.specs.declared.call.Call.{Call}
-use Rattle.line_law.specs.Ways.{of_way}
-use Rattle.line_law.specs.Opening.{LineState, box_at, pair_at}
 
 -- how many moments a day has: minutes in version 1, seconds in version 2
 abbrev pub moments_of : ℕ → ℕ
 moments_of version = if version == 1 then 1440 else 86400
 
--- box b of so many has a neighbour on that side
-abbrev pub has_neighbour : ℕ → ℕ → Way → Bool
-has_neighbour boxes b Up = nat_lt 0 b && nat_lt b boxes
-has_neighbour boxes b Down = nat_lt (b + 1) boxes
+-- box b has a neighbour on that side
+abbrev pub knows_side : PlanFields → ℕ → Way → Bool
+knows_side plan b side = has_neighbour (length plan.boxes) b side
 
 -- a number of the plan's code table
 abbrev pub is_code_no : PlanFields → ℕ → Bool
 is_code_no plan code = nat_le 1 code && nat_le code (length plan.codes)
 
--- the conditions of a call of box b, by what it does: a neighbour on the side, and for a code that the code table has it
-abbrev pub knows_act : PlanFields → ℕ → Act → Bool
-knows_act plan b (Ring side code) = has_neighbour (length plan.boxes) b side && is_code_no plan code
-knows_act plan b (Hear side) = has_neighbour (length plan.boxes) b side
-knows_act plan b (AwaitBell side code) = has_neighbour (length plan.boxes) b side && is_code_no plan code
+-- the line of that way comes into box b from a neighbour, and has a berth there
+abbrev pub knows_berth : PlanFields → ℕ → Way → Bool
+knows_berth plan b way = comes_in (length plan.boxes) b way && is_some (berth_of (box_at plan.boxes b) way)
 
--- the plan knows a call of box b where its conditions hold and its moment is one of a day
+-- the line of that way leaves box b to a neighbour
+abbrev pub knows_outgoing : PlanFields → ℕ → Way → Bool
+knows_outgoing plan b way = leaves (length plan.boxes) b way
+
+-- the frame of box b has the lever
+abbrev pub knows_lever : PlanFields → ℕ → ℕ → Bool
+knows_lever plan b lever = is_some (lever_of (box_at plan.boxes b) lever)
+
+-- the frame of box b has the lever, and it works a signal or starter
+abbrev pub knows_arm : PlanFields → ℕ → ℕ → Bool
+knows_arm plan b lever = knows_lever plan b lever && is_some (signal_of (box_at plan.boxes b) lever)
+
+-- a train of the plan that is brought at box b
+abbrev pub knows_train : PlanFields → ℕ → ℕ → Bool
+knows_train plan b train = is_train plan.trains train && (train_at plan.trains train).box_no == b
+
+-- the conditions of a call of box b, by what it does
+abbrev pub knows_act : PlanFields → ℕ → Act → Bool
+knows_act plan b (Ring side code) = knows_side plan b side && is_code_no plan code
+knows_act plan b (Hear side) = knows_side plan b side
+knows_act plan b (AwaitBell side code) = knows_side plan b side && is_code_no plan code
+knows_act plan b (Turn way position) = knows_berth plan b way
+knows_act plan b (AwaitBlock way position) = knows_outgoing plan b way
+knows_act plan b (Pull lever) = knows_lever plan b lever
+knows_act plan b (Put lever) = knows_lever plan b lever
+knows_act plan b (Bring train) = knows_train plan b train
+knows_act plan b (Pass lever) = knows_arm plan b lever
+knows_act plan b (Overrun lever) = knows_arm plan b lever
+knows_act plan b (AwaitTrain way) = knows_berth plan b way
+knows_act plan b (Berth way) = knows_berth plan b way
+knows_act plan b (BerthPart way) = knows_berth plan b way
+knows_act plan b (ClearPortion way) = knows_berth plan b way
+knows_act plan b (Wind way) = knows_berth plan b way
+knows_act plan b (Release way) = knows_berth plan b way
+
+-- the plan knows a call of a box of the line where its conditions hold and its moment is one of a day
 unfoldable pub knows_call : PlanFields → ℕ → Call → Bool
-knows_call plan b call = nat_lt call.moment (moments_of plan.version) && knows_act plan b call.act
+knows_call plan b call = nat_lt b (length plan.boxes) && nat_lt call.moment (moments_of plan.version) && knows_act plan b call.act
 
 -- the plan knows the call
 abbrev pub KnowsCall : PlanFields → ℕ → Call → Type 0
 KnowsCall plan b call = IsTrue (knows_call plan b call)
-
--- a call of box b that the law decides here: the plan knows it, and its moment isn't below the box's last
-pub record MayCall (plan : PlanFields) (state : LineState) (b : ℕ) (call : Call) : Type 0 where
-  pub known : KnowsCall plan b call
-  pub later : (box_at state b).moment ≤ call.moment
-
--- what a plain line is to its callers: its state, and how many calls were made
-pub record PlainState : Type 0 where
-  pub line : LineState
-  pub calls : ℕ
-
--- a line of that plan: a state for each box and for each two neighbours, and no bell was rung more often than calls were made
-pub record IsLineOf (plan : PlanFields) (plain : PlainState) : Type 0 where
-  pub boxes : length plain.line.boxes ≡ length plan.boxes
-  pub pairs : length plain.line.pairs + 1 ≡ length plan.boxes
-  pub counts : (p : ℕ) (way : Way) → (of_way (pair_at plain.line p).bells way).count ≤ plain.calls

@@ -10,6 +10,11 @@ impl Reply {
     pub fn is_not_yet(&self) -> bool
         ensures { result ≡ is_not_yet self.now }
     {
-        matches!(self, Reply::BellNotYet { k: _, shown: _ })
+        matches!(
+            self,
+            Reply::BellNotYet { k: _, shown: _ }
+                | Reply::BlockNotYet { v: _, shown: _ }
+                | Reply::TrainNotYet { j: _ }
+        )
     }
 }

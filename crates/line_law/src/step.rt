@@ -1,97 +1,89 @@
 //! One call, in the state of its box and of the pair of neighbours that it reaches.
 
-ghost use Rattle.std.specs.Prelude.{◌≡◌, ◌<◌, ◌≤◌, ◌^◌, length};
-ghost use Rattle.block_words.specs.declared.Way.{Way};
-ghost use Rattle.line_law.specs.Bells.{ring, hear, await_bell};
-ghost use Rattle.line_law.specs.Decisions.{OnBell, on_pair};
-ghost use Rattle.line_law.specs.Law.{link_of, step, step_at, pair_of};
-ghost use Rattle.line_law.specs.Opening.{pair_at};
-ghost use Rattle.line_law.specs.Ways.{of_way};
+ghost use Rattle.std.specs.Prelude.{◌≡◌, ◌<◌, length};
+ghost use Rattle.line_law.specs.Law.{link_of, pair_of, plan_of, step, step_at};
+ghost use Rattle.line_law.specs.Levers.{lever_link};
+ghost use Rattle.line_law.specs.Ready.{IsReady};
+ghost use Rattle.line_law.specs.States.{box_at, pair_at};
 
 use crate::call::{Act, Call, Reply};
+use crate::levers::starter_way;
 use crate::link::Link;
 use crate::state::{BoxState, PairState};
-use bell_codes::CodeNo;
 use block_words::Way;
+use line_plan::{BoxPlan, Plan};
 
-/// The line on which a call is decided. A code from a side passes the other way.
-pub fn link_of(act: Act) -> Link
-    ensures { result ≡ link_of act }
+// The line of a lever: a starter's outgoing line, and another's some line all the same.
+fn lever_link(plan: &BoxPlan, lever: u32) -> Link
+    ensures { result ≡ lever_link plan.now lever }
+{
+    match starter_way(plan.signal(lever)) {
+        Some(way) => Link::Out(way),
+        None => Link::In(Way::Down),
+    }
+}
+
+/// The line on which a call may be decided. A code from a side passes the other way.
+pub fn link_of(plan: &BoxPlan, act: Act) -> Link
+    ensures { result ≡ link_of plan.now act }
 {
     match act {
         Act::Ring { side, code: _ } => Link::Out(side),
         Act::Hear { side } | Act::AwaitBell { side, code: _ } => Link::In(side.opposite()),
+        Act::AwaitBlock { way, position: _ } => Link::Out(way),
+        Act::Pull { lever } | Act::Pass { lever } | Act::Overrun { lever } => {
+            lever_link(plan, lever)
+        }
+        Act::Put { lever: _ } | Act::Bring { train: _ } => Link::In(Way::Down),
+        Act::Turn { way, position: _ }
+        | Act::AwaitTrain { way }
+        | Act::Berth { way }
+        | Act::BerthPart { way }
+        | Act::ClearPortion { way }
+        | Act::Wind { way }
+        | Act::Release { way } => Link::In(way),
     }
-}
-
-// Rings a code on a bell of the pair.
-fn ring(here: &mut BoxState, pair: &mut PairState, side: Way, code: CodeNo) -> Reply
-    requires { (way : Way) → (of_way pair.old.bells way).count < 2 ^ 32 }
-    ensures { on_pair side (OnBell (ring here.old side code)) pair.old ≡ record { reply = result; here = here.new; word = pair.new } }
-{
-    let mut bell = pair.bells.get(side);
-    let reply = here.ring(&mut bell, side, code);
-    pair.bells.set(side, bell);
-    reply
-}
-
-// Takes off the code of a bell of the pair.
-fn hear(here: &BoxState, pair: &mut PairState, way: Way) -> Reply
-    ensures { on_pair way (OnBell (hear here.now)) pair.old ≡ record { reply = result; here = here.now; word = pair.new } }
-{
-    let mut bell = pair.bells.get(way);
-    let reply = here.hear(&mut bell);
-    pair.bells.set(way, bell);
-    reply
-}
-
-// Takes off the code of a bell of the pair, where it is this one.
-fn await_bell(here: &BoxState, pair: &mut PairState, way: Way, code: CodeNo) -> Reply
-    ensures { on_pair way (OnBell (await_bell here.now code)) pair.old ≡ record { reply = result; here = here.now; word = pair.new } }
-{
-    let mut bell = pair.bells.get(way);
-    let reply = here.await_bell(&mut bell, code);
-    pair.bells.set(way, bell);
-    reply
 }
 
 /// One call of a box, in its state and in the pair that the call reaches.
-pub fn perform_at(here: &mut BoxState, pair: &mut PairState, call: &Call) -> Reply
-    requires { (way : Way) → (of_way pair.old.bells way).count < 2 ^ 32 }
-    ensures { step_at call.now here.old pair.old ≡ record { reply = result; here = here.new; word = pair.new } }
+pub fn perform_at(
+    here: &mut BoxState,
+    pair: &mut PairState,
+    plan: &Plan,
+    box_plan: &BoxPlan,
+    call: &Call,
+) -> Reply
+    requires { IsReady plan.now box_plan.now call.now here.old pair.old }
+    ensures { step_at plan.now box_plan.now call.now here.old pair.old ≡ record { reply = result; here = here.new; word = pair.new } }
 {
     here.moment = call.moment;
     match call.act {
-        Act::Ring { side, code } => ring(here, pair, side, code),
-        Act::Hear { side } => hear(here, pair, side.opposite()),
-        Act::AwaitBell { side, code } => await_bell(here, pair, side.opposite(), code),
+        Act::Ring { side, code } => here.ring(pair, side, code),
+        Act::Hear { side } => pair.hear(side.opposite()),
+        Act::AwaitBell { side, code } => pair.await_bell(side.opposite(), code),
+        Act::Turn { way, position } => match box_plan.berth(way) {
+            Some(berth) => here.turn(pair, berth, way, position),
+            None => Reply::AlreadyThere,
+        },
+        Act::AwaitBlock { way, position } => pair.look_block(way, position),
+        Act::Pull { lever } => here.pull(pair, box_plan, lever),
+        Act::Put { lever } => here.put(box_plan, lever),
+        Act::Bring { train } => here.bring(train, plan.train(train).place),
+        Act::Pass { lever } => here.pass(pair, box_plan, lever),
+        Act::Overrun { lever } => here.overrun(pair, box_plan, lever),
+        Act::AwaitTrain { way } => here.look_line(pair, way),
+        Act::Berth { way } => match box_plan.berth(way) {
+            Some(berth) => here.berth(pair, berth, way),
+            None => Reply::BerthOccupied { train: 0 },
+        },
+        Act::BerthPart { way } => match box_plan.berth(way) {
+            Some(berth) => here.berth_part(pair, berth, way),
+            None => Reply::BerthOccupied { train: 0 },
+        },
+        Act::ClearPortion { way } => here.clear_portion(pair, way),
+        Act::Wind { way } => here.wind(way, plan.delay),
+        Act::Release { way } => here.release(way),
     }
-}
-
-/// The reply that a call of a box would get, with nothing changed.
-pub fn answer_at(here: &BoxState, pair: &PairState, call: &Call) -> Reply
-    requires { (way : Way) → (of_way pair.now.bells way).count < 2 ^ 32 }
-    ensures { result ≡ (step_at call.now here.now pair.now).reply }
-{
-    match call.act {
-        Act::Ring { side, code: _ } => pair.bells.get(side).ring_reply(),
-        Act::Hear { side } => here.hear(&mut pair.bells.get(side.opposite())),
-        Act::AwaitBell { side, code } => {
-            here.await_bell(&mut pair.bells.get(side.opposite()), code)
-        }
-    }
-}
-
-/// The reply that a call of box `box_no` would get, in the states of all boxes and pairs.
-#[tactic(auto, unfolding(crate::specs::Law::step))]
-pub fn answer_on(boxes: &[BoxState], pairs: &[PairState], box_no: u32, call: &Call) -> Reply
-    requires here { box_no < length boxes.now }
-    requires pair { pair_of box_no call.now < length pairs.now }
-    requires few { (way : Way) → (of_way (pair_at (record { boxes = boxes.now; pairs = pairs.now }) (pair_of box_no call.now)).bells way).count < 2 ^ 32 }
-    ensures { result ≡ (step (record { boxes = boxes.now; pairs = pairs.now }) box_no call.now).reply }
-{
-    let at = box_no as usize;
-    answer_at(&boxes[at], &pairs[link_of(call.act).pair_no(at)], call)
 }
 
 /// One call of box `box_no`, in the states of all boxes and pairs.
@@ -99,16 +91,19 @@ pub fn answer_on(boxes: &[BoxState], pairs: &[PairState], box_no: u32, call: &Ca
 pub fn perform_on(
     boxes: &mut [BoxState],
     pairs: &mut [PairState],
+    plan: &Plan,
     box_no: u32,
     call: &Call,
 ) -> Reply
+    requires plan_box { box_no < length plan.now.boxes }
     requires here { box_no < length boxes.old }
-    requires pair { pair_of box_no call.now < length pairs.old }
-    requires few { (way : Way) → (of_way (pair_at (record { boxes = boxes.old; pairs = pairs.old }) (pair_of box_no call.now)).bells way).count < 2 ^ 32 }
-    ensures { step (record { boxes = boxes.old; pairs = pairs.old }) box_no call.now ≡ record { reply = result; after = record { boxes = boxes.new; pairs = pairs.new } } }
+    requires pair { pair_of plan.now box_no call.now < length pairs.old }
+    requires ready { IsReady plan.now (plan_of plan.now box_no) call.now (box_at (record { boxes = boxes.old; pairs = pairs.old }) box_no) (pair_at (record { boxes = boxes.old; pairs = pairs.old }) (pair_of plan.now box_no call.now)) }
+    ensures { step plan.now (record { boxes = boxes.old; pairs = pairs.old }) box_no call.now ≡ record { reply = result; after = record { boxes = boxes.new; pairs = pairs.new } } }
 {
     let at = box_no as usize;
+    let box_plan = &plan.boxes.as_slice()[at];
     let here = &mut boxes[at];
-    let pair = &mut pairs[link_of(call.act).pair_no(at)];
-    perform_at(here, pair, call)
+    let pair = &mut pairs[link_of(box_plan, call.act).pair_no(at)];
+    perform_at(here, pair, plan, box_plan, call)
 }

@@ -1,57 +1,40 @@
-//! Exchanges of bell signals, call by call, and which calls a plan knows.
+//! Worked lines, call by call.
 
-use crate::{
-    Act, ByWay, Call, DAY_OF_MINUTES, DAY_OF_SECONDS, Link, Plain, Reply, bell_law, box_law,
-    commuting_law, footprint_law, has_neighbour, history_law, knows, moments_of, run_law,
-    serial_law, shape_law,
+use crate::tables::{
+    A_BELL_HOLDS_ONE_CODE, A_DIVIDED_TRAIN, A_PERMISSIVE_LINE_COUNTS, A_PLAIN_LINE_HOLDS_FOUR,
+    A_ROW_ACTS_ON_A_CONDITION, A_TRAIN_ENTERS_AND_ANOTHER_OVERRUNS, ASH, BEECH, CEDAR, FRAMES,
+    MADE, NO_OVERRUN_PAST_AN_ARM_THAT_IS_OFF, NOTHING_COMES_TO_AN_EMPTY_LINE,
+    ONE_LINE_CLEAR_GIVES_ONE_PULL, ONE_TRAIN_ON_AN_ABSOLUTE_LINE,
+    ONE_TRAIN_RUNS_THROUGH_THREE_BOXES, PERMISSIVE, POINTS_LOCK_A_SIGNAL,
+    POINTS_LOCK_POINTS_BOTH_WAYS, SPARE_LEVERS_AND_PLACES, TRACK_CIRCUITS_HOLD_LINE_CLEAR,
+    TWO_TRAINS_ON_A_PERMISSIVE_LINE, Told, WELWYN_CONTROL_AND_ITS_RELEASE,
 };
-use bell_codes::{CALL_ATTENTION, EXPRESS, TESTING, TRAIN_OUT_OF_SECTION};
+use crate::{
+    Act, ByWay, Call, DAY_OF_MINUTES, DAY_OF_SECONDS, Link, Plain, bell_law, box_law,
+    commuting_law, footprint_law, history_law, knows, moments_of, one_pull_law, one_train_law,
+    outcome_law, replies_law, run_law, serial_law, shape_law, upgrade_law,
+};
 use block_words::Way;
-use line_plan::{Plan, read_plan};
+use line_plan::{Plan, Section, read_plan};
 use std::alloc::Global;
 use std::process::Abort;
 use std::test::Fail;
 
-const TWO_BOXES: &[u8] = b"plan 1\nboxes 2\ndelay 2\nlooks 1000000000\nbox Ash\nbox Beech\nend\n";
-
-const TWO_BOXES_IN_SECONDS: &[u8] =
-    b"plan 2\nboxes 2\ndelay 2\nlooks 1000000000\nbox Ash\nbox Beech\nend\n";
-
-const THREE_BOXES: &[u8] =
-    b"plan 1\nboxes 3\ndelay 2\nlooks 1000000000\nbox Ash\nbox Beech\nbox Cedar\nend\n";
-
-const ASH: u32 = 0;
-
-const BEECH: u32 = 1;
-
-const CEDAR: u32 = 2;
-
-// Ten o'clock, in minutes.
-const TEN: u32 = 600;
-
-fn ring(side: Way, code: u8) -> Act {
-    Act::Ring { side, code }
-}
-
-fn hear(side: Way) -> Act {
-    Act::Hear { side }
-}
-
-fn await_bell(side: Way, code: u8) -> Act {
-    Act::AwaitBell { side, code }
-}
-
-// Makes these calls in turn on the line of a plan as it opens, and compares each reply with the one that stands beside it.
-fn exchange(
+// Makes these calls in turn on the line of a plan as it opens, compares each reply with the one that stands beside it, and in the end the trains that the down
+// section of the first two boxes holds.
+fn works(
     rt: &impl Abort,
     alloc: Global,
     plan: &Plan,
-    calls: &[(u32, Act, Reply)],
+    calls: &[Told],
+    held: u32,
 ) -> Result<(), Fail> {
+    // The read shows the proof that a plan has two boxes or more.
+    let _two = plan.boxes.len();
     let mut line = Plain::open(alloc, plan)?;
-    for (box_no, act, wanted) in calls {
+    for (box_no, moment, act, wanted) in calls {
         let call = Call {
-            moment: TEN,
+            moment: *moment,
             act: *act,
         };
         assert!(rt; line.may_call(plan, *box_no, &call));
@@ -60,152 +43,11 @@ fn exchange(
         assert_eq!(rt; line.perform(plan, *box_no, &call), *wanted);
     }
     assert_eq!(rt; line.calls(), calls.len() as u64);
-    Ok(())
-}
-
-#[test]
-fn two_boxes_exchange_call_attention(rt: HostRuntime) -> Result<(), Fail> {
-    let heard = Reply::Heard {
-        k: 1,
-        code: CALL_ATTENTION,
+    let section = Section {
+        rear: ASH,
+        way: Way::Down,
     };
-    let plan = read_plan(rt.alloc(), TWO_BOXES)?;
-    exchange(
-        &rt,
-        rt.alloc(),
-        &plan,
-        &[
-            (ASH, ring(Way::Down, CALL_ATTENTION), Reply::Rung { k: 1 }),
-            (BEECH, await_bell(Way::Up, CALL_ATTENTION), heard),
-            (BEECH, ring(Way::Up, CALL_ATTENTION), Reply::Rung { k: 1 }),
-            (ASH, await_bell(Way::Down, CALL_ATTENTION), heard),
-        ],
-    )
-}
-
-#[test]
-fn refused_calls_leave_the_bells(rt: HostRuntime) -> Result<(), Fail> {
-    let busy = Reply::BellBusy {
-        k: 1,
-        code: CALL_ATTENTION,
-    };
-    let silent = Reply::Silent { k: 0 };
-    let none_yet = Reply::BellNotYet { k: 0, shown: None };
-    let other_code = Reply::BellNotYet {
-        k: 1,
-        shown: Some(CALL_ATTENTION),
-    };
-    let heard = Reply::Heard {
-        k: 1,
-        code: CALL_ATTENTION,
-    };
-    let plan = read_plan(rt.alloc(), TWO_BOXES)?;
-    exchange(
-        &rt,
-        rt.alloc(),
-        &plan,
-        &[
-            (BEECH, hear(Way::Up), silent),
-            (BEECH, await_bell(Way::Up, CALL_ATTENTION), none_yet),
-            (ASH, ring(Way::Down, CALL_ATTENTION), Reply::Rung { k: 1 }),
-            (ASH, ring(Way::Down, EXPRESS), busy),
-            (BEECH, await_bell(Way::Up, EXPRESS), other_code),
-            (ASH, hear(Way::Down), silent),
-            (BEECH, hear(Way::Up), heard),
-            (BEECH, hear(Way::Up), Reply::Silent { k: 1 }),
-            (ASH, ring(Way::Down, EXPRESS), Reply::Rung { k: 2 }),
-        ],
-    )
-}
-
-#[test]
-fn three_boxes_in_a_chain(rt: HostRuntime) -> Result<(), Fail> {
-    let rung = Reply::Rung { k: 1 };
-    let heard = |code| Reply::Heard { k: 1, code };
-    let plan = read_plan(rt.alloc(), THREE_BOXES)?;
-    exchange(
-        &rt,
-        rt.alloc(),
-        &plan,
-        &[
-            (ASH, ring(Way::Down, CALL_ATTENTION), rung),
-            (BEECH, ring(Way::Down, EXPRESS), rung),
-            (BEECH, ring(Way::Up, TESTING), rung),
-            (CEDAR, ring(Way::Up, TRAIN_OUT_OF_SECTION), rung),
-            (ASH, hear(Way::Down), heard(TESTING)),
-            (BEECH, hear(Way::Up), heard(CALL_ATTENTION)),
-            (BEECH, hear(Way::Down), heard(TRAIN_OUT_OF_SECTION)),
-            (CEDAR, hear(Way::Up), heard(EXPRESS)),
-        ],
-    )
-}
-
-#[test]
-fn plans_know_their_calls(rt: HostRuntime) -> Result<(), Fail> {
-    let minutes = read_plan(rt.alloc(), TWO_BOXES)?;
-    let seconds = read_plan(rt.alloc(), TWO_BOXES_IN_SECONDS)?;
-    let table = [
-        (ASH, 0, ring(Way::Down, 1), true, true),
-        (ASH, 0, ring(Way::Down, 10), true, true),
-        (BEECH, 0, await_bell(Way::Up, 10), true, true),
-        (BEECH, 0, hear(Way::Up), true, true),
-        // No neighbour on that side.
-        (ASH, 0, ring(Way::Up, 1), false, false),
-        (ASH, 0, hear(Way::Up), false, false),
-        (BEECH, 0, await_bell(Way::Down, 1), false, false),
-        (BEECH, 0, hear(Way::Down), false, false),
-        // A box off the line.
-        (2, 0, hear(Way::Up), false, false),
-        (u32::MAX, 0, ring(Way::Down, 1), false, false),
-        // A code off the code table.
-        (ASH, 0, ring(Way::Down, 0), false, false),
-        (ASH, 0, ring(Way::Down, 11), false, false),
-        (ASH, 0, await_bell(Way::Down, 0), false, false),
-        (ASH, 0, await_bell(Way::Down, 255), false, false),
-        // The last moment of a day, and the one after.
-        (ASH, 1439, hear(Way::Down), true, true),
-        (ASH, 1440, hear(Way::Down), false, true),
-        (ASH, 86399, hear(Way::Down), false, true),
-        (ASH, 86400, hear(Way::Down), false, false),
-        (ASH, u32::MAX, hear(Way::Down), false, false),
-    ];
-    for (box_no, moment, act, in_minutes, in_seconds) in table {
-        let call = Call { moment, act };
-        assert_eq!(rt;
-            knows(&minutes, box_no, &call),
-            in_minutes,
-            "{box_no} {call:?}"
-        );
-        assert_eq!(rt;
-            knows(&seconds, box_no, &call),
-            in_seconds,
-            "{box_no} {call:?}"
-        );
-    }
-    assert_eq!(rt; moments_of(1), DAY_OF_MINUTES);
-    assert_eq!(rt; moments_of(2), DAY_OF_SECONDS);
-    assert!(rt; has_neighbour(&minutes, BEECH, Way::Up));
-    assert!(rt; !has_neighbour(&minutes, BEECH, Way::Down));
-    Ok(())
-}
-
-#[test]
-fn moments_never_fall_within_a_box(rt: HostRuntime) -> Result<(), Fail> {
-    let plan = read_plan(rt.alloc(), TWO_BOXES)?;
-    let mut line = Plain::open(rt.alloc(), &plan)?;
-    let late = Call {
-        moment: TEN,
-        act: hear(Way::Down),
-    };
-    let early = Call {
-        moment: TEN - 1,
-        act: hear(Way::Down),
-    };
-    assert!(rt; line.may_call(&plan, ASH, &early));
-    assert!(rt; line.may_call(&plan, ASH, &late));
-    assert_eq!(rt; line.perform(&plan, ASH, &late), Reply::Silent { k: 0 });
-    assert!(rt; !line.may_call(&plan, ASH, &early));
-    assert!(rt; line.may_call(&plan, ASH, &late));
+    assert_eq!(rt; line.held(plan, section), held);
     Ok(())
 }
 
@@ -223,6 +65,10 @@ fn lines_join_neighbours(rt: HostRuntime) {
     assert_eq!(rt; both.get(Way::Up), 1);
     assert_eq!(rt; both.get(Way::Down), 3);
 
+    assert_eq!(rt; moments_of(1), DAY_OF_MINUTES);
+    assert_eq!(rt; moments_of(2), DAY_OF_SECONDS);
+
+    outcome_law();
     history_law();
     run_law();
     footprint_law();
@@ -231,4 +77,156 @@ fn lines_join_neighbours(rt: HostRuntime) {
     box_law();
     shape_law();
     serial_law();
+    replies_law();
+    one_train_law();
+    one_pull_law();
+    upgrade_law();
+}
+
+#[test]
+fn plans_know_their_calls(rt: HostRuntime) -> Result<(), Fail> {
+    let plan = read_plan(rt.alloc(), FRAMES.as_bytes())?;
+    let table = [
+        (ASH, 0, Act::Pull { lever: 8 }, true),
+        (ASH, 0, Act::Pull { lever: 9 }, false),
+        (ASH, 0, Act::Put { lever: 0 }, false),
+        (ASH, 0, Act::Pass { lever: 8 }, true),
+        (ASH, 0, Act::Overrun { lever: 1 }, false),
+        (ASH, 0, Act::Bring { train: 6 }, true),
+        (ASH, 0, Act::Bring { train: 7 }, false),
+        (ASH, 0, Act::Bring { train: 0 }, false),
+        (BEECH, 0, Act::Bring { train: 1 }, false),
+        (BEECH, 0, Act::Berth { way: Way::Down }, true),
+        (BEECH, 0, Act::Wind { way: Way::Up }, false),
+        (ASH, 0, Act::AwaitTrain { way: Way::Up }, false),
+        (ASH, 1439, Act::Hear { side: Way::Down }, true),
+        (ASH, 1440, Act::Hear { side: Way::Down }, false),
+        (ASH, 0, Act::Hear { side: Way::Up }, false),
+        (CEDAR, 0, Act::Hear { side: Way::Up }, false),
+    ];
+    for (box_no, moment, act, wanted) in table {
+        let call = Call { moment, act };
+        assert_eq!(rt; knows(&plan, box_no, &call), wanted, "{box_no} {call:?}");
+    }
+    Ok(())
+}
+
+#[test]
+fn points_lock_a_signal(rt: HostRuntime) -> Result<(), Fail> {
+    let plan = read_plan(rt.alloc(), FRAMES.as_bytes())?;
+    works(&rt, rt.alloc(), &plan, POINTS_LOCK_A_SIGNAL, 0)
+}
+
+#[test]
+fn points_lock_points_both_ways(rt: HostRuntime) -> Result<(), Fail> {
+    let plan = read_plan(rt.alloc(), FRAMES.as_bytes())?;
+    works(&rt, rt.alloc(), &plan, POINTS_LOCK_POINTS_BOTH_WAYS, 0)
+}
+
+#[test]
+fn a_row_acts_on_a_condition(rt: HostRuntime) -> Result<(), Fail> {
+    let plan = read_plan(rt.alloc(), FRAMES.as_bytes())?;
+    works(&rt, rt.alloc(), &plan, A_ROW_ACTS_ON_A_CONDITION, 0)
+}
+
+#[test]
+fn one_line_clear_gives_one_pull(rt: HostRuntime) -> Result<(), Fail> {
+    let plan = read_plan(rt.alloc(), FRAMES.as_bytes())?;
+    works(&rt, rt.alloc(), &plan, ONE_LINE_CLEAR_GIVES_ONE_PULL, 0)
+}
+
+#[test]
+fn welwyn_control_and_its_release(rt: HostRuntime) -> Result<(), Fail> {
+    let plan = read_plan(rt.alloc(), FRAMES.as_bytes())?;
+    works(&rt, rt.alloc(), &plan, WELWYN_CONTROL_AND_ITS_RELEASE, 0)
+}
+
+#[test]
+fn a_train_enters_and_another_overruns(rt: HostRuntime) -> Result<(), Fail> {
+    let plan = read_plan(rt.alloc(), FRAMES.as_bytes())?;
+    works(
+        &rt,
+        rt.alloc(),
+        &plan,
+        A_TRAIN_ENTERS_AND_ANOTHER_OVERRUNS,
+        2,
+    )
+}
+
+#[test]
+fn a_plain_line_holds_four(rt: HostRuntime) -> Result<(), Fail> {
+    let plan = read_plan(rt.alloc(), FRAMES.as_bytes())?;
+    works(&rt, rt.alloc(), &plan, A_PLAIN_LINE_HOLDS_FOUR, 5)
+}
+
+#[test]
+fn a_divided_train(rt: HostRuntime) -> Result<(), Fail> {
+    let plan = read_plan(rt.alloc(), FRAMES.as_bytes())?;
+    works(&rt, rt.alloc(), &plan, A_DIVIDED_TRAIN, 1)
+}
+
+#[test]
+fn track_circuits_hold_line_clear(rt: HostRuntime) -> Result<(), Fail> {
+    let plan = read_plan(rt.alloc(), FRAMES.as_bytes())?;
+    works(&rt, rt.alloc(), &plan, TRACK_CIRCUITS_HOLD_LINE_CLEAR, 0)
+}
+
+#[test]
+fn spare_levers_and_places(rt: HostRuntime) -> Result<(), Fail> {
+    let plan = read_plan(rt.alloc(), FRAMES.as_bytes())?;
+    works(&rt, rt.alloc(), &plan, SPARE_LEVERS_AND_PLACES, 0)
+}
+
+#[test]
+fn nothing_comes_to_an_empty_line(rt: HostRuntime) -> Result<(), Fail> {
+    let plan = read_plan(rt.alloc(), FRAMES.as_bytes())?;
+    works(&rt, rt.alloc(), &plan, NOTHING_COMES_TO_AN_EMPTY_LINE, 0)
+}
+
+#[test]
+fn no_overrun_past_an_arm_that_is_off(rt: HostRuntime) -> Result<(), Fail> {
+    let plan = read_plan(rt.alloc(), FRAMES.as_bytes())?;
+    works(
+        &rt,
+        rt.alloc(),
+        &plan,
+        NO_OVERRUN_PAST_AN_ARM_THAT_IS_OFF,
+        0,
+    )
+}
+
+#[test]
+fn a_permissive_line_counts(rt: HostRuntime) -> Result<(), Fail> {
+    let plan = read_plan(rt.alloc(), PERMISSIVE.as_bytes())?;
+    works(&rt, rt.alloc(), &plan, A_PERMISSIVE_LINE_COUNTS, 0)
+}
+
+#[test]
+fn two_trains_on_a_permissive_line(rt: HostRuntime) -> Result<(), Fail> {
+    let plan = read_plan(rt.alloc(), PERMISSIVE.as_bytes())?;
+    works(&rt, rt.alloc(), &plan, TWO_TRAINS_ON_A_PERMISSIVE_LINE, 2)
+}
+
+#[test]
+fn one_train_on_an_absolute_line(rt: HostRuntime) -> Result<(), Fail> {
+    let plan = read_plan(rt.alloc(), FRAMES.as_bytes())?;
+    works(&rt, rt.alloc(), &plan, ONE_TRAIN_ON_AN_ABSOLUTE_LINE, 1)
+}
+
+#[test]
+fn a_bell_holds_one_code(rt: HostRuntime) -> Result<(), Fail> {
+    let plan = read_plan(rt.alloc(), FRAMES.as_bytes())?;
+    works(&rt, rt.alloc(), &plan, A_BELL_HOLDS_ONE_CODE, 0)
+}
+
+#[test]
+fn one_train_runs_through_three_boxes(rt: HostRuntime) -> Result<(), Fail> {
+    let plan = read_plan(rt.alloc(), MADE.as_bytes())?;
+    works(
+        &rt,
+        rt.alloc(),
+        &plan,
+        ONE_TRAIN_RUNS_THROUGH_THREE_BOXES,
+        0,
+    )
 }

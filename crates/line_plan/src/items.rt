@@ -1,6 +1,6 @@
 //! The lists in the fields of a plan.
 
-ghost use Rattle.std.specs.Prelude.{◌≡◌, ◌==◌, [], length};
+ghost use Rattle.std.specs.Prelude.{◌≡◌, ◌==◌, ◌<◌, [], length, slice_set};
 
 use std::alloc::Global;
 use std::marker::Model;
@@ -62,5 +62,15 @@ impl<T> Items<T> {
         ensures { result.now ≡ self.now }
     {
         &self.items
+    }
+}
+
+impl<T: Copy + Drop> Items<T> {
+    /// Writes an item at a place. It takes no memory.
+    pub fn set(&mut self, at: usize, item: T)
+        requires { at < length self.old }
+        ensures { self.new ≡ slice_set self.old at item }
+    {
+        self.items[at] = item;
     }
 }

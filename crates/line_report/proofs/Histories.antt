@@ -1,30 +1,30 @@
 -- Every entry of a legal history can be printed.
-use Rattle.std.proofs.Common.{◌≡◌, zero, suc, IsTrue, List, [], ◌∷◌, All, sym, subst, arith}
-use Rattle.line_plan.specs.Plans.{PlanFields}
+use Rattle.std.proofs.Common.{ℕ, ◌<◌, ◌^◌, List, [], ◌∷◌, All, length}
+use Rattle.std.proofs.lemmas.List.Elements.{All-cons, All-head, All-nil, All-tail}
+use Rattle.line_plan.specs.Plans.{IsPlan, PlanFields}
 use Rattle.line_law.specs.declared.call.Entry.{Entry}
-use Rattle.line_law.specs.declared.call.Reply.{Reply}
-use Rattle.line_law.specs.Opening.{LineState, opening_state}
-use Rattle.line_law.specs.Law.{step}
-use Rattle.line_law.specs.Known.{MayCall}
-use Rattle.line_law.specs.History.{IsLegalFrom, IsLegal, after_entry}
-use Rattle.line_law.proofs.Sides.{call_within}
-use Rattle.script_text.specs.Replies.{names_codes}
+use Rattle.line_law.specs.History.{IsLegal, IsLegalFrom, after_entry}
+use Rattle.line_law.specs.States.{LineState, opening_state}
+use Rattle.line_law.specs.Tellings.{IsTold}
+use Rattle.line_law.proofs.Sides.{known_box}
+use Rattle.line_law.proofs.ToldHistories.{all_told}
 use Rattle.line_report.specs.Journals.{IsSpelled}
-use Rattle.line_report.proofs.Shown.{LineShows, LineKeeps, step_keeps, opens_shown}
+use Rattle.line_report.proofs.Spellings.{told_spelled}
 
-entry_spelled : (plan : PlanFields) (state : LineState) (e : Entry) → MayCall plan state e.box_no e.call → e.reply ≡ (step state e.box_no e.call).reply → LineKeeps plan (step state e.box_no e.call) → IsSpelled plan e
-entry_spelled plan state e may replied kept = record {
-  box = (call_within plan e.box_no e.call may.known).box;
-  call = may.known;
-  reply = subst (λ (reply : Reply). IsTrue (names_codes plan reply)) (sym replied) kept.reply;
-}
+-- the reply of an entry tells what is there
+abbrev Tells : PlanFields → ℕ → Entry → Type 0
+Tells plan calls e = IsTold plan e.box_no calls e.reply
 
-spelled_from : (plan : PlanFields) (state : LineState) (es : List Entry) → LineShows plan state → IsLegalFrom plan state es → All (IsSpelled plan) es
-spelled_from plan state [] shows legal k d lt = absurd (omega arith)
-spelled_from plan state (e ∷ es) shows legal zero d lt = entry_spelled plan state e legal.0 legal.1 (step_keeps plan state e.box_no e.call legal.0.known shows)
-spelled_from plan state (e ∷ es) shows legal (suc k) d lt =
-    let kept = step_keeps plan state e.box_no e.call legal.0.known shows in
-    spelled_from plan (after_entry state e) es kept.shown legal.2 k d (omega arith)
+spelled_from : (plan : PlanFields) (state : LineState) (calls : ℕ) (es : List Entry) → IsPlan plan → calls < 10 ^ 10 → IsLegalFrom plan state es → All (Tells plan calls) es → All (IsSpelled plan) es
+spelled_from plan state calls [] is few legal told = All-nil (IsSpelled plan)
+spelled_from plan state calls (e ∷ es) is few legal told =
+    All-cons (IsSpelled plan) e es
+    (record {
+      box = known_box plan e.box_no e.call legal.0.known;
+      call = legal.0.known;
+      reply = told_spelled e.reply plan e.box_no calls is few (All-head (Tells plan calls) e es told);
+    })
+    (spelled_from plan (after_entry plan state e) calls es is few legal.2 (All-tail (Tells plan calls) e es told))
 
-pub legal_spelled : (plan : PlanFields) (es : List Entry) → IsLegal plan es → All (IsSpelled plan) es
-legal_spelled plan es legal = spelled_from plan (opening_state plan) es (opens_shown plan) legal
+pub legal_spelled : (plan : PlanFields) (es : List Entry) → IsPlan plan → length es < 10 ^ 10 → IsLegal plan es → All (IsSpelled plan) es
+legal_spelled plan es is few legal = spelled_from plan (opening_state plan) (length es) es is few legal (all_told plan es is legal)

@@ -1,3 +1,3 @@
 pub mod Entries
-pub mod Shown
+pub mod Spellings
 pub mod Histories

@@ -27,7 +27,7 @@ pub fn put_entry(
     out.push_str(" ")?;
     put_call(out, plan, entry.box_no, &entry.call)?;
     out.push_str(" -> ")?;
-    put_reply(out, plan, &entry.reply)?;
+    put_reply(out, plan, entry.box_no, &entry.reply)?;
     out.push_str("\n")
 }
 

@@ -1,10 +1,13 @@
 //! Printed journals, byte for byte.
 
+ghost use Rattle.std.specs.Prelude.{◌↔◌, All, IsTrue};
+ghost use Rattle.line_report.specs.Journals.{IsSpelled};
+
 use super::*;
 use bell_codes::{CALL_ATTENTION, CodeNo, EXPRESS, TESTING};
-use block_words::Way;
+use block_words::{Way, WelwynState};
 use line_law::{Act, Call, Entry, Journal, Reply};
-use line_plan::{Items, read_plan};
+use line_plan::{Items, Plan, read_plan};
 use std::alloc::Global;
 use std::process::Abort;
 use std::test::Fail;
@@ -38,13 +41,20 @@ fn await_bell(side: Way, code: CodeNo) -> Act {
     Act::AwaitBell { side, code }
 }
 
+// Are all these entries spelled on the line of a plan?
+fn are_spelled(plan: &Plan, entries: &[Entry]) -> bool
+    ensures { IsTrue result ↔ All (IsSpelled plan.now) entries.now }
+{
+    entries.iter().all(|e| is_spelled(plan, e))
+}
+
 // The journal of these entries as it is printed on the line of a plan.
 fn printed(rt: &impl Abort, alloc: Global, text: &str, entries: &[Entry]) -> Result<Vec<u8>, Fail> {
     let plan = read_plan(alloc, text.as_bytes())?;
-    assert!(rt; entries.iter().all(|e| is_spelled(&plan, e)));
     let journal = Journal {
         entries: Items::from_vec(entries.to_vec(alloc)?),
     };
+    assert!(rt; are_spelled(&plan, journal.entries.as_slice()));
     Ok(print_journal(alloc, &plan, &journal)?)
 }
 
@@ -237,5 +247,33 @@ fn entries_off_the_line_are_not_spelled(rt: HostRuntime) -> Result<(), Fail> {
         assert_eq!(rt; is_spelled(&plan, &told), wanted, "{told:?}");
     }
     histories_can_be_printed();
+    Ok(())
+}
+
+#[test]
+fn replies_off_the_line_are_not_spelled(rt: HostRuntime) -> Result<(), Fail> {
+    let plan = read_plan(rt.alloc(), IN_MINUTES.as_bytes())?;
+    let up = Act::Hear { side: Way::Up };
+    let given = WelwynState::Given;
+    let ready = WelwynState::Ready;
+    let table = [
+        // The boxes have no places, levers and rows, and the line no trains.
+        (Reply::Passed { train: 1 }, false),
+        (Reply::Occupied { place: 0, train: 1 }, false),
+        (Reply::HomeReversed { lever: 1 }, false),
+        (Reply::HeldByLever { lever: 1, row: 1 }, false),
+        // Ready holds nothing back.
+        (Reply::WelwynHolds { state: given }, true),
+        (Reply::WelwynHolds { state: ready }, false),
+        // Counts of ten digits; moments of the day and of the hour behind it.
+        (Reply::Turned { v: 9_999_999_999 }, true),
+        (Reply::Turned { v: 10_000_000_000 }, false),
+        (Reply::Winding { ready_at: 1499 }, true),
+        (Reply::TooSoon { ready_at: 1500 }, false),
+    ];
+    for (reply, wanted) in table {
+        let told = entry(BEECH, TEN, up, reply);
+        assert_eq!(rt; is_spelled(&plan, &told), wanted, "{told:?}");
+    }
     Ok(())
 }

@@ -5,3 +5,4 @@ mod faults;
 mod gates;
 mod journals;
 mod refusals;
+mod worked;

@@ -33,7 +33,8 @@ use Rattle.script_text.specs.Drafts.{DraftFields, start}
 use Rattle.script_text.specs.Moments.{moment_text}
 use Rattle.script_text.specs.Scripts.{most_script_bytes, IsScriptOf, script_onto, not_falling, call_onto, end_onto, stage_onto, words_onto, has_ended, script_of, call_line, script_text}
 use Rattle.script_text.specs.Spelled.{script_lines, SpellsScript}
-use Rattle.script_text.proofs.CallTexts.{valid_at, moment_in_is, IsCall, moment_and_act, call_text-words, moment_read, act_of-words, moment_word, call_words_are, words_of-call, length-call_text}
+use Rattle.script_text.proofs.Named.{valid_at}
+use Rattle.script_text.proofs.CallTexts.{moment_in_is, IsCall, moment_and_act, call_text-words, moment_read, act_of-words, moment_word, call_words_are, words_of-call, length-call_text}
 use Rattle.script_text.proofs.InTurn.{last_moment, AreCalls-more, last_moment-more}
 use Rattle.line_plan.proofs.KeptLines.{all_onto, lines_are, IsWords, AllWords, words_formed, words_kept, lines_read}
 
@@ -54,6 +55,7 @@ lines_so_far stages.Ended plan b calls = box_line plan b ∷ (call_lines plan ca
 
 -- these lines were read onto a draft of this plan and box, at this stage
 record IsTold (plan : PlanFields) (b : ℕ) (stage : Stage) (texts : List (List ℕ)) (draft : DraftFields) : Type 0 where
+  at : b < length plan.boxes
   same_plan : draft.plan ≡ plan
   same_box : draft.box_no ≡ b
   lines : lines_so_far stage plan b draft.calls ≡ texts
@@ -81,6 +83,7 @@ script_told plan b texts d text h k =
     let own : box_name d.plan d.box_no ≡ box_name plan b = rw (h.same_plan, h.same_box) refl in
     let is : text ≡ box_line plan b = two_are text (codes "script") (box_name plan b) (e ∙ ap (λ (x : List ℕ). x ∷ name ∷ []) k ∙ ap (λ (x : List ℕ). codes "script" ∷ x ∷ []) (named ∙ own)) in
     record {
+      at = h.at;
       same_plan = h.same_plan;
       same_box = h.same_box;
       lines = ap (λ (calls : List Call). box_line plan b ∷ call_lines plan calls) (h.unbegun refl) ∙ ap (λ (t : List ℕ). t ∷ []) (sym is) ∙ ap (λ (ts : List (List ℕ)). ts ++ text ∷ []) h.lines;
@@ -104,13 +107,14 @@ call_told plan b texts d text s h =
     bind_keeps (λ moment. (keyword (words_of text) ≡ moment_text d.plan.version moment) × (moment < moments_of d.plan.version)) (Told plan b (texts ++ text ∷ [])) (moment_in d.plan.version (words_of text)) _ (moment_in_is d.plan.version (words_of text)) (λ read m.
     bind_keeps (λ moment. (moment ≡ read) × (d.moment ≤ moment)) (Told plan b (texts ++ text ∷ [])) (not_falling d.moment read) _ (rises d.moment read) (λ moment r.
     bind_keeps (λ act. IsCall d.plan d.box_no (words_of text) (record { moment = moment; act = act })) (Told plan b (texts ++ text ∷ [])) (act_of d.plan d.box_no (words_of text)) _
-    (moment_and_act d.plan d.box_no (words_of text) moment (some_words text) (rw r.0 m.0) (rw r.0 m.1)) (λ act c.
+    (moment_and_act d.plan d.box_no (words_of text) moment (rw (h.same_plan, h.same_box) h.at) (some_words text) (rw r.0 m.0) (rw r.0 m.1)) (λ act c.
     if_keeps (Told plan b (texts ++ text ∷ [])) (leb 10000 (length d.calls)) _ _ (λ _. tt) (λ room.
     let call : Call = record { moment = moment; act = act } in
     let is : IsCall plan b (words_of text) call = rw (← h.same_plan, ← h.same_box) c in
     let behind : last_moment 0 d.calls ≤ moment = rw h.last r.1 in
     let more : length d.calls < 10000 = grind (arith, nat_tests) in
     rw s (record {
+      at = h.at;
       same_plan = h.same_plan;
       same_box = h.same_box;
       lines = call_lines-more plan b d.calls call texts text h.lines (call_text-words plan text call is.spelled);
@@ -128,6 +132,7 @@ end_told plan b texts d text h k =
     bind_keeps (λ _. words_of text ≡ keyword (words_of text) ∷ []) (Told plan b (texts ++ text ∷ [])) (no_word (words_of text)) _ (no_word_is (words_of text) (some_words text)) (λ _ e.
     let is : text ≡ codes "end" = one_is text (codes "end") (e ∙ ap (λ (x : List ℕ). x ∷ []) k) in
     record {
+      at = h.at;
       same_plan = h.same_plan;
       same_box = h.same_box;
       lines = ap (λ (ts : List (List ℕ)). ts ++ codes "end" ∷ []) h.lines ∙ ap (λ (t : List ℕ). texts ++ t ∷ []) (sym is);
@@ -170,12 +175,12 @@ is_ended draft = has_ended draft.stage
 abbrev AreRead : PlanFields → ℕ → List Line → DraftFields → Type 0
 AreRead plan b lines last = (list_all is_formed lines ≡ true) × (all_onto words_onto (start plan b) (kept lines) ≡ Ok last) × (is_ended last ≡ true)
 
-nothing_told : (plan : PlanFields) (b : ℕ) → Told plan b [] (start plan b)
-nothing_told plan b = record { same_plan = refl; same_box = refl; lines = refl; unbegun = λ _. refl; calls = tt; last = refl; few = omega arith }
+nothing_told : (plan : PlanFields) (b : ℕ) → b < length plan.boxes → Told plan b [] (start plan b)
+nothing_told plan b at = record { at = at; same_plan = refl; same_box = refl; lines = refl; unbegun = λ _. refl; calls = tt; last = refl; few = omega arith }
 
-read_is_spelled : (plan : PlanFields) (b : ℕ) (bytes : List ℕ) (last : DraftFields) → length bytes ≤ most_script_bytes → AreRead plan b (lines_of bytes) last → SpellsScript plan b bytes (script_from last)
-read_is_spelled plan b bytes last fits r =
-    let told : Told plan b (kept (lines_of bytes)) last = subst (OfOk (Told plan b (kept (lines_of bytes)))) r.1 (all_told plan b [] (kept (lines_of bytes)) (start plan b) (nothing_told plan b)) in
+read_is_spelled : (plan : PlanFields) (b : ℕ) (bytes : List ℕ) (last : DraftFields) → b < length plan.boxes → length bytes ≤ most_script_bytes → AreRead plan b (lines_of bytes) last → SpellsScript plan b bytes (script_from last)
+read_is_spelled plan b bytes last at fits r =
+    let told : Told plan b (kept (lines_of bytes)) last = subst (OfOk (Told plan b (kept (lines_of bytes)))) r.1 (all_told plan b [] (kept (lines_of bytes)) (start plan b) (nothing_told plan b at)) in
     let whole_lines = script_lines_are plan b last.stage last.calls (kept (lines_of bytes)) r.2 told.lines in
     record {
       of_box = record { box = told.same_box; calls = told.calls; few = told.few };
@@ -184,22 +189,22 @@ read_is_spelled plan b bytes last fits r =
       lines = rw told.same_box whole_lines;
     }
 
-draft_is_spelled : (plan : PlanFields) (b : ℕ) (bytes : List ℕ) → OfOk (λ last. SpellsScript plan b bytes (script_from last)) (text_onto words_onto is_ended most_script_bytes (start plan b) bytes)
+draft_is_spelled : (plan : PlanFields) (b : ℕ) (bytes : List ℕ) → b < length plan.boxes → OfOk (λ last. SpellsScript plan b bytes (script_from last)) (text_onto words_onto is_ended most_script_bytes (start plan b) bytes)
 unfolding text_onto
-draft_is_spelled plan b bytes =
+draft_is_spelled plan b bytes at =
     if_keeps (λ last. SpellsScript plan b bytes (script_from last)) (ltb 1048576 (length bytes)) _ _ (λ _. tt)
     (λ short. weaker (AreRead plan b (lines_of bytes)) (λ last. SpellsScript plan b bytes (script_from last)) (lines_onto words_onto is_ended 1 (start plan b) (lines_of bytes)) (lines_are words_onto is_ended 1 (start plan b) (lines_of bytes))
-    (λ last r. read_is_spelled plan b bytes last (grind (arith, nat_tests)) r)) where
+    (λ last r. read_is_spelled plan b bytes last at (grind (arith, nat_tests)) r)) where
       weaker : {A E : Type 0} (P Q : A → Type 0) (r : Result A E) → OfOk P r → ((x : A) → P x → Q x) → OfOk Q r
       weaker P Q (Ok x) h f = f x h
       weaker P Q (Err e) h f = tt
 
 -- a text that is read as a script spells it
-pub spelled_script : (plan : PlanFields) (b : ℕ) (bytes : List ℕ) (script : Script) → script_of plan b bytes ≡ Ok script → SpellsScript plan b bytes script
+pub spelled_script : (plan : PlanFields) (b : ℕ) (bytes : List ℕ) (script : Script) → b < length plan.boxes → script_of plan b bytes ≡ Ok script → SpellsScript plan b bytes script
 unfolding script_of
-spelled_script plan b bytes script e =
+spelled_script plan b bytes script at e =
     subst (OfOk (SpellsScript plan b bytes)) e
-    (bind_keeps (λ last. SpellsScript plan b bytes (script_from last)) (SpellsScript plan b bytes) (text_onto words_onto is_ended most_script_bytes (start plan b) bytes) (λ d. Ok (script_from d)) (draft_is_spelled plan b bytes)
+    (bind_keeps (λ last. SpellsScript plan b bytes (script_from last)) (SpellsScript plan b bytes) (text_onto words_onto is_ended most_script_bytes (start plan b) bytes) (λ d. Ok (script_from d)) (draft_is_spelled plan b bytes at)
     (λ last spells. spells))
 
 -- ---- every spelling is read
@@ -361,13 +366,13 @@ printed_script plan b script p h s = every_spelling plan b (script_text plan scr
 abbrev pub IsReading : PlanFields → ℕ → List ℕ → Result Script ReadError → Type 0
 IsReading plan b bytes r = GivesText (λ script. script) r (script_of plan b bytes)
 
-pub reading_spelled : (plan : PlanFields) (b : ℕ) (bytes : List ℕ) (r : Result Script ReadError) → IsReading plan b bytes r → IfOk r (λ script. SpellsScript plan b bytes script)
-reading_spelled plan b bytes (Ok script) e = spelled_script plan b bytes script e
-reading_spelled plan b bytes (Err fault) e = tt
+pub reading_spelled : (plan : PlanFields) (b : ℕ) (bytes : List ℕ) (r : Result Script ReadError) → b < length plan.boxes → IsReading plan b bytes r → IfOk r (λ script. SpellsScript plan b bytes script)
+reading_spelled plan b bytes (Ok script) at e = spelled_script plan b bytes script at e
+reading_spelled plan b bytes (Err fault) at e = tt
 
-pub reading_script : (plan : PlanFields) (b : ℕ) (bytes : List ℕ) (r : Result Script ReadError) → IsReading plan b bytes r → IfOk r (λ script. IsScriptOf plan b script)
-reading_script plan b bytes (Ok script) e = (spelled_script plan b bytes script e).of_box
-reading_script plan b bytes (Err fault) e = tt
+pub reading_script : (plan : PlanFields) (b : ℕ) (bytes : List ℕ) (r : Result Script ReadError) → b < length plan.boxes → IsReading plan b bytes r → IfOk r (λ script. IsScriptOf plan b script)
+reading_script plan b bytes (Ok script) at e = (spelled_script plan b bytes script at e).of_box
+reading_script plan b bytes (Err fault) at e = tt
 
 refused_or_read : (fault : Fault) (script : Script) (r : Result Script Fault) → r ≡ Err fault → r ≡ Ok script → ⊥
 refused_or_read fault script r e k = cc

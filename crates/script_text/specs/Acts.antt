@@ -1,28 +1,33 @@
 -- What the words behind a moment say that a signalman does.
-use Rattle.std.specs.Prelude.{ℕ, Bool, true, List, [], ◌∷◌, length, Option, Some, None, Result, Ok, Err, if◌then◌else◌, bytes_eq, codes, slice_get}
+use Rattle.std.specs.Prelude.{ℕ, List, [], ◌∷◌, length, Option, Some, None, Result, Ok, Err, if◌then◌else◌, bytes_eq, codes, slice_get, decimal}
 use Rattle.std.specs.List.{join_with_byte}
-use Rattle.bell_codes.specs.Codes.{code_text}
 use Rattle.bell_codes.specs.Reading.{code_of}
-use Rattle.bell_codes.specs.Table.{code_at, code_number}
+use Rattle.bell_codes.specs.Table.{code_number}
+use Rattle.block_words.specs.declared.Position.{Position}
 use Rattle.block_words.specs.declared.Way.{Way}
-use Rattle.block_words.specs.declared.Way.TheVariants.{Up, Down}
 use Rattle.rail_text.specs.Gives.{◌>>=◌}
+use Rattle.rail_text.specs.Words.{number_in}
 use Rattle.rail_text.specs.declared.cause.Cause.{Cause}
 use Rattle.rail_text.specs.declared.cause.Cause.TheVariants as causes
 use Rattle.line_plan.specs.Plans.{PlanFields}
+use Rattle.line_plan.specs.Ways.{comes_in}
 use Rattle.line_law.specs.declared.call.Act.{Act}
-use Rattle.line_law.specs.declared.call.Act.TheVariants.{Ring, Hear, AwaitBell}
-use Rattle.line_law.specs.Known.{has_neighbour, is_code_no}
+use Rattle.line_law.specs.declared.call.Act.TheVariants as acts
+use Rattle.line_law.specs.Known.{knows_arm, knows_berth, knows_lever, knows_outgoing, knows_side, knows_train}
+use Rattle.script_text.specs.Names.{way_text, position_text, code_no_text, train_text, way_named, position_named, train_named}
 
--- up or down
-unfoldable pub way_in : List ℕ → Result Way Cause
-way_in word = if bytes_eq word (codes "up") then Ok Up else if bytes_eq word (codes "down") then Ok Down else Err causes.UnknownWord
+-- ---- single words
+
+-- what a fixed word names, or an unknown word
+abbrev pub fixed : {A : Type 0} → Option A → Result A Cause
+fixed None = Err causes.UnknownWord
+fixed (Some x) = Ok x
 
 -- a way on whose side box b has a neighbour
 unfoldable pub side_in : PlanFields → ℕ → List ℕ → Result Way Cause
 side_in plan b word = do
-  way ← way_in word
-  if has_neighbour (length plan.boxes) b way then Ok way else Err causes.NoLine
+  way ← fixed (way_named word)
+  if knows_side plan b way then Ok way else Err causes.NoLine
 
 -- a number of the code table, if the code has one
 abbrev pub numbered : Option ℕ → Result ℕ Cause
@@ -38,6 +43,34 @@ coded table (Some code) = numbered (code_number table code)
 unfoldable pub code_in : PlanFields → List ℕ → Result ℕ Cause
 code_in plan word = coded plan.codes (code_of word)
 
+-- the line of a way comes into box b from a neighbour, and has a berth there
+abbrev pub with_berth : PlanFields → ℕ → Way → Result Way Cause
+with_berth plan b way =
+    if comes_in (length plan.boxes) b way then (if knows_berth plan b way then Ok way else Err causes.NoBerth) else Err causes.NoLine
+
+-- a lever of the frame of box b
+unfoldable pub lever_in : PlanFields → ℕ → List ℕ → Result ℕ Cause
+lever_in plan b word = do
+  lever ← number_in 1 120 word
+  if knows_lever plan b lever then Ok lever else Err causes.UnknownLever
+
+-- a lever of the frame of box b that works a signal or starter
+unfoldable pub arm_in : PlanFields → ℕ → List ℕ → Result ℕ Cause
+arm_in plan b word = do
+  lever ← lever_in plan b word
+  if knows_arm plan b lever then Ok lever else Err causes.NoArm
+
+-- a train that is there, if it is brought at box b
+abbrev pub own_train : PlanFields → ℕ → Option ℕ → Result ℕ Cause
+own_train plan b None = Err causes.UnknownName
+own_train plan b (Some train) = if knows_train plan b train then Ok train else Err causes.OtherBox
+
+-- a train that is brought at box b
+unfoldable pub train_in : PlanFields → ℕ → List ℕ → Result ℕ Cause
+train_in plan b word = own_train plan b (train_named plan word)
+
+-- ---- the words of a line behind the moment and the call's word
+
 -- the first two words, where there is no third
 abbrev pub pair_of_words : Option (List ℕ) → Option (List ℕ) → Option (List ℕ) → Result (List ℕ × List ℕ) Cause
 pair_of_words (Some first) (Some second) None = Ok (first, second)
@@ -45,7 +78,7 @@ pair_of_words (Some first) (Some second) (Some more) = Err causes.WordCount
 pair_of_words (Some first) None more = Err causes.WordCount
 pair_of_words None second more = Err causes.WordCount
 
--- the two words behind the moment and the call's word, where there are exactly two
+-- the two words behind them, where there are exactly two
 abbrev pub two_words : List (List ℕ) → Result (List ℕ × List ℕ) Cause
 two_words words = pair_of_words (slice_get words 2) (slice_get words 3) (slice_get words 4)
 
@@ -59,7 +92,7 @@ single_word None more = Err causes.WordCount
 abbrev pub third_word : List (List ℕ) → Result (List ℕ) Cause
 third_word words = single_word (slice_get words 2) (slice_get words 3)
 
--- WAY CODE
+-- SIDE CODE: the side with its neighbour is tested before the code
 unfoldable pub side_and_code : PlanFields → ℕ → List (List ℕ) → Result (Way × ℕ) Cause
 side_and_code plan b words = do
   both ← two_words words
@@ -67,18 +100,87 @@ side_and_code plan b words = do
   number ← code_in plan both.1
   Ok (side, number)
 
--- WAY
+-- WAY POSITION: the forms of both words
+unfoldable pub way_and_position : List (List ℕ) → Result (Way × Position) Cause
+way_and_position words = do
+  both ← two_words words
+  way ← fixed (way_named both.0)
+  position ← fixed (position_named both.1)
+  Ok (way, position)
+
+-- WAY POSITION of a berth's line
+unfoldable pub berth_and_position : PlanFields → ℕ → List (List ℕ) → Result (Way × Position) Cause
+berth_and_position plan b words = do
+  both ← way_and_position words
+  way ← with_berth plan b both.0
+  Ok (way, both.1)
+
+-- WAY POSITION of an outgoing line
+unfoldable pub outgoing_and_position : PlanFields → ℕ → List (List ℕ) → Result (Way × Position) Cause
+outgoing_and_position plan b words = do
+  both ← way_and_position words
+  if knows_outgoing plan b both.0 then Ok (both.0, both.1) else Err causes.NoLine
+
+-- SIDE
 unfoldable pub one_side : PlanFields → ℕ → List (List ℕ) → Result Way Cause
 one_side plan b words = third_word words >>= side_in plan b
+
+-- WAY of a berth's line
+unfoldable pub one_berth : PlanFields → ℕ → List (List ℕ) → Result Way Cause
+one_berth plan b words = do
+  word ← third_word words
+  way ← fixed (way_named word)
+  with_berth plan b way
+
+-- LEVER
+unfoldable pub one_lever : PlanFields → ℕ → List (List ℕ) → Result ℕ Cause
+one_lever plan b words = third_word words >>= lever_in plan b
+
+-- LEVER with an arm
+unfoldable pub one_arm : PlanFields → ℕ → List (List ℕ) → Result ℕ Cause
+one_arm plan b words = third_word words >>= arm_in plan b
+
+-- TRAIN
+unfoldable pub one_train : PlanFields → ℕ → List (List ℕ) → Result ℕ Cause
+one_train plan b words = third_word words >>= train_in plan b
+
+-- ---- calls by their words
+
+-- calls of an incoming line
+unfoldable pub line_act : PlanFields → ℕ → List (List ℕ) → List ℕ → Result Act Cause
+line_act plan b words word =
+    if bytes_eq word (codes "await_train") then one_berth plan b words >>= (λ way. Ok (acts.AwaitTrain way))
+    else if bytes_eq word (codes "berth") then one_berth plan b words >>= (λ way. Ok (acts.Berth way))
+    else if bytes_eq word (codes "berth_part") then one_berth plan b words >>= (λ way. Ok (acts.BerthPart way))
+    else if bytes_eq word (codes "clear_portion") then one_berth plan b words >>= (λ way. Ok (acts.ClearPortion way))
+    else if bytes_eq word (codes "wind") then one_berth plan b words >>= (λ way. Ok (acts.Wind way))
+    else if bytes_eq word (codes "release") then one_berth plan b words >>= (λ way. Ok (acts.Release way))
+    else Err causes.UnknownWord
+
+-- calls of a lever or a train, and then those of an incoming line
+unfoldable pub lever_act : PlanFields → ℕ → List (List ℕ) → List ℕ → Result Act Cause
+lever_act plan b words word =
+    if bytes_eq word (codes "pull") then one_lever plan b words >>= (λ lever. Ok (acts.Pull lever))
+    else if bytes_eq word (codes "put") then one_lever plan b words >>= (λ lever. Ok (acts.Put lever))
+    else if bytes_eq word (codes "pass") then one_arm plan b words >>= (λ lever. Ok (acts.Pass lever))
+    else if bytes_eq word (codes "overrun") then one_arm plan b words >>= (λ lever. Ok (acts.Overrun lever))
+    else if bytes_eq word (codes "bring") then one_train plan b words >>= (λ train. Ok (acts.Bring train))
+    else line_act plan b words word
+
+-- calls of a bell or an instrument, and then the others
+unfoldable pub bell_act : PlanFields → ℕ → List (List ℕ) → List ℕ → Result Act Cause
+bell_act plan b words word =
+    if bytes_eq word (codes "ring") then side_and_code plan b words >>= (λ both. Ok (acts.Ring both.0 both.1))
+    else if bytes_eq word (codes "hear") then one_side plan b words >>= (λ side. Ok (acts.Hear side))
+    else if bytes_eq word (codes "await_bell") then side_and_code plan b words >>= (λ both. Ok (acts.AwaitBell both.0 both.1))
+    else if bytes_eq word (codes "turn") then berth_and_position plan b words >>= (λ both. Ok (acts.Turn both.0 both.1))
+    else if bytes_eq word (codes "await_block") then outgoing_and_position plan b words >>= (λ both. Ok (acts.AwaitBlock both.0 both.1))
+    else lever_act plan b words word
 
 -- what the call's word, if there is one, says with the words of the line
 abbrev pub act_named : PlanFields → ℕ → List (List ℕ) → Option (List ℕ) → Result Act Cause
 act_named plan b words None = Err causes.UnknownWord
-act_named plan b words (Some word) =
-    if bytes_eq word (codes "ring") then side_and_code plan b words >>= (λ both. Ok (Ring both.0 both.1))
-    else if bytes_eq word (codes "hear") then one_side plan b words >>= (λ side. Ok (Hear side))
-    else if bytes_eq word (codes "await_bell") then side_and_code plan b words >>= (λ both. Ok (AwaitBell both.0 both.1))
-    else Err causes.UnknownWord
+act_named plan b words (Some word) = bell_act plan b words word
 
 -- what a line says behind its moment: the call's word, and the words behind it
 unfoldable pub act_of : PlanFields → ℕ → List (List ℕ) → Result Act Cause
@@ -86,27 +188,25 @@ act_of plan b words = act_named plan b words (slice_get words 1)
 
 -- ---- as it is printed
 
--- a way's word
-abbrev pub way_text : Way → List ℕ
-way_text Up = codes "up"
-way_text Down = codes "down"
-
--- the text of a code by its number
-abbrev pub code_no_text : List (List ℕ) → ℕ → List ℕ
-code_no_text table number = code_text (code_at table number)
-
--- the words of an act: which it is, its side, and its code if it has one
+-- the words of an act
 abbrev pub act_words : PlanFields → Act → List (List ℕ)
-act_words plan (Ring side code) = codes "ring" ∷ way_text side ∷ code_no_text plan.codes code ∷ []
-act_words plan (Hear side) = codes "hear" ∷ way_text side ∷ []
-act_words plan (AwaitBell side code) = codes "await_bell" ∷ way_text side ∷ code_no_text plan.codes code ∷ []
+act_words plan (acts.Ring side code) = codes "ring" ∷ way_text side ∷ code_no_text plan.codes code ∷ []
+act_words plan (acts.Hear side) = codes "hear" ∷ way_text side ∷ []
+act_words plan (acts.AwaitBell side code) = codes "await_bell" ∷ way_text side ∷ code_no_text plan.codes code ∷ []
+act_words plan (acts.Turn way position) = codes "turn" ∷ way_text way ∷ position_text position ∷ []
+act_words plan (acts.AwaitBlock way position) = codes "await_block" ∷ way_text way ∷ position_text position ∷ []
+act_words plan (acts.Pull lever) = codes "pull" ∷ decimal lever ∷ []
+act_words plan (acts.Put lever) = codes "put" ∷ decimal lever ∷ []
+act_words plan (acts.Bring train) = codes "bring" ∷ train_text plan train ∷ []
+act_words plan (acts.Pass lever) = codes "pass" ∷ decimal lever ∷ []
+act_words plan (acts.Overrun lever) = codes "overrun" ∷ decimal lever ∷ []
+act_words plan (acts.AwaitTrain way) = codes "await_train" ∷ way_text way ∷ []
+act_words plan (acts.Berth way) = codes "berth" ∷ way_text way ∷ []
+act_words plan (acts.BerthPart way) = codes "berth_part" ∷ way_text way ∷ []
+act_words plan (acts.ClearPortion way) = codes "clear_portion" ∷ way_text way ∷ []
+act_words plan (acts.Wind way) = codes "wind" ∷ way_text way ∷ []
+act_words plan (acts.Release way) = codes "release" ∷ way_text way ∷ []
 
 -- an act as it is printed: its words, with one space between each two
 abbrev pub act_text : PlanFields → Act → List ℕ
 act_text plan act = join_with_byte 32 (act_words plan act)
-
--- the codes that the act names are in the code table
-abbrev pub names_codes_of : PlanFields → Act → Bool
-names_codes_of plan (Ring side code) = is_code_no plan code
-names_codes_of plan (Hear side) = true
-names_codes_of plan (AwaitBell side code) = is_code_no plan code

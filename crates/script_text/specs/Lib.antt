@@ -1,9 +1,12 @@
 pub mod Gives
 pub mod Limits
 pub mod Moments
+pub mod Names
 pub mod Acts
 pub mod Calls
 pub mod Replies
+pub mod Rows
+pub mod Answers
 pub mod Drafts
 pub mod Scripts
 pub mod Spelled

@@ -11,15 +11,15 @@ two_digits word at =
     if is_digit (slice_index word at) && is_digit (slice_index word (at + 1))
     then Some (10 * (slice_index word at - 48) + (slice_index word (at + 1) - 48)) else None
 
--- hours below 24 and minutes below 60, with a colon between them
-abbrev pub clock : Bool → Option ℕ → Option ℕ → Option ℕ
-clock colon None minutes = None
-clock colon (Some hours) None = None
-clock colon (Some hours) (Some minutes) = if colon && nat_lt hours 24 && nat_lt minutes 60 then Some (60 * hours + minutes) else None
+-- hours below a limit and minutes below 60, with a colon between them
+abbrev pub clock : ℕ → Bool → Option ℕ → Option ℕ → Option ℕ
+clock limit colon None minutes = None
+clock limit colon (Some hours) None = None
+clock limit colon (Some hours) (Some minutes) = if colon && nat_lt hours limit && nat_lt minutes 60 then Some (60 * hours + minutes) else None
 
--- the minutes of the text HH:MM
-abbrev pub clock_of : List ℕ → Option ℕ
-clock_of word = clock (slice_index word 2 == 58) (two_digits word 0) (two_digits word 3)
+-- the minutes of the text HH:MM, with hours below a limit
+abbrev pub clock_of : ℕ → List ℕ → Option ℕ
+clock_of limit word = clock limit (slice_index word 2 == 58) (two_digits word 0) (two_digits word 3)
 
 -- minutes and seconds below 60
 abbrev pub with_seconds : Option ℕ → Option ℕ → Option ℕ
@@ -27,14 +27,26 @@ with_seconds None seconds = None
 with_seconds (Some minutes) None = None
 with_seconds (Some minutes) (Some seconds) = if nat_lt seconds 60 then Some (60 * minutes + seconds) else None
 
--- the seconds of the text HH:MM:SS
-abbrev pub long_moment : List ℕ → Option ℕ
-long_moment word =
-    if length word == 8 && slice_index word 5 == 58 then with_seconds (clock_of word) (two_digits word 6) else None
+-- the seconds of the text HH:MM:SS, with hours below a limit
+abbrev pub long_clock : ℕ → List ℕ → Option ℕ
+long_clock limit word =
+    if length word == 8 && slice_index word 5 == 58 then with_seconds (clock_of limit word) (two_digits word 6) else None
 
--- the moment that a word spells: HH:MM in version 1, else HH:MM:SS
+-- the time that a word spells, with hours below a limit: HH:MM in version 1, else HH:MM:SS
+abbrev pub time_of : ℕ → ℕ → List ℕ → Option ℕ
+time_of limit version word = if version == 1 then (if length word == 5 then clock_of limit word else None) else long_clock limit word
+
+-- the moment of a day that a word spells
 abbrev pub moment_of : ℕ → List ℕ → Option ℕ
-moment_of version word = if version == 1 then (if length word == 5 then clock_of word else None) else long_moment word
+moment_of version word = time_of 24 version word
+
+-- the moment that a word spells at which a release may come: it may lie in the hour behind the day
+abbrev pub ready_of : ℕ → List ℕ → Option ℕ
+ready_of version word = time_of 25 version word
+
+-- how many moments a day has with the hour behind it
+abbrev pub ready_moments : ℕ → ℕ
+ready_moments version = if version == 1 then 1500 else 90000
 
 -- moments below it are printed with two digits for the hours
 abbrev pub hundred_hours : ℕ → ℕ

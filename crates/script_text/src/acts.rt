@@ -1,41 +1,40 @@
 //! What the words behind a moment say that a signalman does.
 
-ghost use Rattle.std.specs.Prelude.{◌≡◌, ◌++◌, ◌∷◌, IfOk, OnOk, length, string_bytes, IsTrue};
-ghost use Rattle.script_text.specs.Gives.{GivesCause};
+ghost use Rattle.std.specs.Prelude.{◌≡◌, ◌<◌, length};
 ghost use Rattle.rail_text.specs.Lines.{words_of};
-ghost use Rattle.line_law.specs.Known.{has_neighbour, is_code_no, knows_act};
-ghost use Rattle.script_text.specs.Acts.{way_in, side_in, code_in, two_words, third_word, side_and_code, one_side, act_of, act_text, way_text, code_no_text, names_codes_of};
+ghost use Rattle.rail_text.specs.Words.{number_in};
+ghost use Rattle.script_text.specs.Gives.{GivesCause};
+ghost use Rattle.script_text.specs.Acts.{fixed, side_in, code_in, with_berth, lever_in, arm_in, train_in, two_words, third_word, side_and_code, way_and_position, berth_and_position, outgoing_and_position, one_side, one_berth, one_lever, one_arm, one_train, line_act, lever_act, bell_act, act_of};
+ghost use Rattle.script_text.specs.Names.{way_named, position_named};
 
+use crate::names::{position_named, train_named, way_named};
 use bell_codes::{CodeNo, read_code};
-use block_words::Way;
-use line_law::{Act, has_neighbour};
-use line_plan::Plan;
-use rail_text::{Cause, TextLine};
-use std::alloc::AllocError;
-use std::fmt::Write;
+use block_words::{Position, Way};
+use line_law::{Act, knows_arm, knows_berth, knows_lever, knows_outgoing, knows_side, knows_train};
+use line_plan::{Plan, comes_in};
+use rail_text::{Cause, TextLine, read_number};
 
 // `up` or `down`.
-#[tactic(auto, unfolding(crate::specs::Acts::way_in))]
 fn way_in(word: &[u8]) -> Result<Way, Cause>
-    ensures { result ≡ way_in word.now }
+    ensures { result ≡ fixed (way_named word.now) }
 {
-    if word == b"up".as_slice() {
-        Ok(Way::Up)
-    } else if word == b"down".as_slice() {
-        Ok(Way::Down)
-    } else {
-        Err(Cause::UnknownWord)
-    }
+    way_named(word).ok_or(Cause::UnknownWord)
+}
+
+// `normal`, `line_clear` or `train_on_line`.
+fn position_in(word: &[u8]) -> Result<Position, Cause>
+    ensures { result ≡ fixed (position_named word.now) }
+{
+    position_named(word).ok_or(Cause::UnknownWord)
 }
 
 // A way on whose side the box has a neighbour.
 #[tactic(auto, unfolding(crate::specs::Acts::side_in))]
 fn side_in(plan: &Plan, box_no: u32, word: &[u8]) -> Result<Way, Cause>
-    ensures exact { result ≡ side_in plan.now box_no word.now }
-    ensures side { IfOk result (λ side. IsTrue (has_neighbour (length plan.now.boxes) box_no side)) }
+    ensures { result ≡ side_in plan.now box_no word.now }
 {
     let side = way_in(word)?;
-    if has_neighbour(plan, box_no, side) {
+    if knows_side(plan, box_no, side) {
         Ok(side)
     } else {
         Err(Cause::NoLine)
@@ -45,12 +44,76 @@ fn side_in(plan: &Plan, box_no: u32, word: &[u8]) -> Result<Way, Cause>
 // The number of a code of the plan's code table.
 #[tactic(auto, unfolding(crate::specs::Acts::code_in))]
 fn code_in(plan: &Plan, word: &[u8]) -> Result<CodeNo, Cause>
-    ensures exact { result ≡ code_in plan.now word.now }
-    ensures number { IfOk result (λ code. IsTrue (is_code_no plan.now code)) }
+    ensures { result ≡ code_in plan.now word.now }
 {
     match read_code(word) {
         Err(_) => Err(Cause::BadCode),
         Ok(code) => plan.codes.number_of(code).ok_or(Cause::UnknownCode),
+    }
+}
+
+// A line that comes into the box from a neighbour and has a berth there.
+fn with_berth(plan: &Plan, box_no: u32, way: Way) -> Result<Way, Cause>
+    requires { box_no < length plan.now.boxes }
+    ensures { result ≡ with_berth plan.now box_no way }
+{
+    if !comes_in(plan.boxes.len() as u32, box_no, way) {
+        Err(Cause::NoLine)
+    } else if knows_berth(plan, box_no, way) {
+        Ok(way)
+    } else {
+        Err(Cause::NoBerth)
+    }
+}
+
+// A number from 1 to 120.
+fn lever_number(word: &[u8]) -> Result<u32, Cause>
+    ensures { result ≡ number_in 1 120 word.now }
+{
+    match read_number(word) {
+        None => Err(Cause::BadNumber),
+        Some(number) if 1 <= number && number <= 120 => Ok(number as u32),
+        Some(_) => Err(Cause::OutOfRange),
+    }
+}
+
+// A lever of the box's frame.
+#[tactic(auto, unfolding(crate::specs::Acts::lever_in))]
+fn lever_in(plan: &Plan, box_no: u32, word: &[u8]) -> Result<u32, Cause>
+    requires { box_no < length plan.now.boxes }
+    ensures { result ≡ lever_in plan.now box_no word.now }
+{
+    let lever = lever_number(word)?;
+    if knows_lever(plan, box_no, lever) {
+        Ok(lever)
+    } else {
+        Err(Cause::UnknownLever)
+    }
+}
+
+// A lever of the box's frame that works a signal or starter.
+#[tactic(auto, unfolding(crate::specs::Acts::arm_in))]
+fn arm_in(plan: &Plan, box_no: u32, word: &[u8]) -> Result<u32, Cause>
+    requires { box_no < length plan.now.boxes }
+    ensures { result ≡ arm_in plan.now box_no word.now }
+{
+    let lever = lever_in(plan, box_no, word)?;
+    if knows_arm(plan, box_no, lever) {
+        Ok(lever)
+    } else {
+        Err(Cause::NoArm)
+    }
+}
+
+// A train that is brought at the box.
+#[tactic(auto, unfolding(crate::specs::Acts::train_in))]
+fn train_in(plan: &Plan, box_no: u32, word: &[u8]) -> Result<u32, Cause>
+    ensures { result ≡ train_in plan.now box_no word.now }
+{
+    match train_named(plan, word) {
+        None => Err(Cause::UnknownName),
+        Some(train) if knows_train(plan, box_no, train) => Ok(train),
+        Some(_) => Err(Cause::OtherBox),
     }
 }
 
@@ -74,12 +137,10 @@ fn third_word<'a>(line: &TextLine<'a>) -> Result<&'a [u8], Cause>
     }
 }
 
-// `WAY CODE`
+// A side with a neighbour, and a code.
 #[tactic(auto, unfolding(crate::specs::Acts::side_and_code))]
 fn side_and_code(plan: &Plan, box_no: u32, line: &TextLine<'_>) -> Result<(Way, CodeNo), Cause>
-    ensures exact { result ≡ side_and_code plan.now box_no (words_of line.now.text.now) }
-    ensures side { IfOk result (λ both. IsTrue (has_neighbour (length plan.now.boxes) box_no both.0)) }
-    ensures number { IfOk result (λ both. IsTrue (is_code_no plan.now both.1)) }
+    ensures { result ≡ side_and_code plan.now box_no (words_of line.now.text.now) }
 {
     let (side, code) = two_words(line)?;
     let side = side_in(plan, box_no, side)?;
@@ -87,24 +148,154 @@ fn side_and_code(plan: &Plan, box_no: u32, line: &TextLine<'_>) -> Result<(Way, 
     Ok((side, code))
 }
 
-// `WAY`
+// A way and a position, by their forms.
+#[tactic(auto, unfolding(crate::specs::Acts::way_and_position))]
+fn way_and_position(line: &TextLine<'_>) -> Result<(Way, Position), Cause>
+    ensures { result ≡ way_and_position (words_of line.now.text.now) }
+{
+    let (way, position) = two_words(line)?;
+    let way = way_in(way)?;
+    let position = position_in(position)?;
+    Ok((way, position))
+}
+
+// A line with a berth, and a position.
+#[tactic(auto, unfolding(crate::specs::Acts::berth_and_position))]
+fn berth_and_position(
+    plan: &Plan,
+    box_no: u32,
+    line: &TextLine<'_>,
+) -> Result<(Way, Position), Cause>
+    requires { box_no < length plan.now.boxes }
+    ensures { result ≡ berth_and_position plan.now box_no (words_of line.now.text.now) }
+{
+    let (way, position) = way_and_position(line)?;
+    let way = with_berth(plan, box_no, way)?;
+    Ok((way, position))
+}
+
+// An outgoing line, and a position.
+#[tactic(auto, unfolding(crate::specs::Acts::outgoing_and_position))]
+fn outgoing_and_position(
+    plan: &Plan,
+    box_no: u32,
+    line: &TextLine<'_>,
+) -> Result<(Way, Position), Cause>
+    ensures { result ≡ outgoing_and_position plan.now box_no (words_of line.now.text.now) }
+{
+    let (way, position) = way_and_position(line)?;
+    if knows_outgoing(plan, box_no, way) {
+        Ok((way, position))
+    } else {
+        Err(Cause::NoLine)
+    }
+}
+
+// A side with a neighbour.
 #[tactic(auto, unfolding(crate::specs::Acts::one_side))]
 fn one_side(plan: &Plan, box_no: u32, line: &TextLine<'_>) -> Result<Way, Cause>
-    ensures exact { result ≡ one_side plan.now box_no (words_of line.now.text.now) }
-    ensures side { IfOk result (λ side. IsTrue (has_neighbour (length plan.now.boxes) box_no side)) }
+    ensures { result ≡ one_side plan.now box_no (words_of line.now.text.now) }
 {
     side_in(plan, box_no, third_word(line)?)
 }
 
-/// What the words of a line behind its first say that a signalman does, or what is wrong with them first.
-#[tactic(auto, unfolding(crate::specs::Acts::act_of))]
-pub fn read_act(plan: &Plan, box_no: u32, line: &TextLine<'_>) -> Result<Act, Cause>
-    ensures exact { result ≡ act_of plan.now box_no (words_of line.now.text.now) }
-    ensures known { IfOk result (λ act. IsTrue (knows_act plan.now box_no act)) }
+// A line with a berth.
+#[tactic(auto, unfolding(crate::specs::Acts::one_berth))]
+fn one_berth(plan: &Plan, box_no: u32, line: &TextLine<'_>) -> Result<Way, Cause>
+    requires { box_no < length plan.now.boxes }
+    ensures { result ≡ one_berth plan.now box_no (words_of line.now.text.now) }
 {
-    let Some(word) = line.word(1) else {
-        return Err(Cause::UnknownWord);
-    };
+    let way = way_in(third_word(line)?)?;
+    with_berth(plan, box_no, way)
+}
+
+// A lever.
+#[tactic(auto, unfolding(crate::specs::Acts::one_lever))]
+fn one_lever(plan: &Plan, box_no: u32, line: &TextLine<'_>) -> Result<u32, Cause>
+    requires { box_no < length plan.now.boxes }
+    ensures { result ≡ one_lever plan.now box_no (words_of line.now.text.now) }
+{
+    lever_in(plan, box_no, third_word(line)?)
+}
+
+// A lever of a signal or starter.
+#[tactic(auto, unfolding(crate::specs::Acts::one_arm))]
+fn one_arm(plan: &Plan, box_no: u32, line: &TextLine<'_>) -> Result<u32, Cause>
+    requires { box_no < length plan.now.boxes }
+    ensures { result ≡ one_arm plan.now box_no (words_of line.now.text.now) }
+{
+    arm_in(plan, box_no, third_word(line)?)
+}
+
+// A train of the box.
+#[tactic(auto, unfolding(crate::specs::Acts::one_train))]
+fn one_train(plan: &Plan, box_no: u32, line: &TextLine<'_>) -> Result<u32, Cause>
+    ensures { result ≡ one_train plan.now box_no (words_of line.now.text.now) }
+{
+    train_in(plan, box_no, third_word(line)?)
+}
+
+// The calls of an incoming line.
+#[tactic(auto, unfolding(crate::specs::Acts::line_act))]
+fn line_act(plan: &Plan, box_no: u32, line: &TextLine<'_>, word: &[u8]) -> Result<Act, Cause>
+    requires { box_no < length plan.now.boxes }
+    ensures { result ≡ line_act plan.now box_no (words_of line.now.text.now) word.now }
+{
+    if word == b"await_train".as_slice() {
+        let way = one_berth(plan, box_no, line)?;
+        Ok(Act::AwaitTrain { way })
+    } else if word == b"berth".as_slice() {
+        let way = one_berth(plan, box_no, line)?;
+        Ok(Act::Berth { way })
+    } else if word == b"berth_part".as_slice() {
+        let way = one_berth(plan, box_no, line)?;
+        Ok(Act::BerthPart { way })
+    } else if word == b"clear_portion".as_slice() {
+        let way = one_berth(plan, box_no, line)?;
+        Ok(Act::ClearPortion { way })
+    } else if word == b"wind".as_slice() {
+        let way = one_berth(plan, box_no, line)?;
+        Ok(Act::Wind { way })
+    } else if word == b"release".as_slice() {
+        let way = one_berth(plan, box_no, line)?;
+        Ok(Act::Release { way })
+    } else {
+        Err(Cause::UnknownWord)
+    }
+}
+
+// The calls of a lever or a train, and then those of an incoming line.
+#[tactic(auto, unfolding(crate::specs::Acts::lever_act))]
+fn lever_act(plan: &Plan, box_no: u32, line: &TextLine<'_>, word: &[u8]) -> Result<Act, Cause>
+    requires { box_no < length plan.now.boxes }
+    ensures { result ≡ lever_act plan.now box_no (words_of line.now.text.now) word.now }
+{
+    if word == b"pull".as_slice() {
+        let lever = one_lever(plan, box_no, line)?;
+        Ok(Act::Pull { lever })
+    } else if word == b"put".as_slice() {
+        let lever = one_lever(plan, box_no, line)?;
+        Ok(Act::Put { lever })
+    } else if word == b"pass".as_slice() {
+        let lever = one_arm(plan, box_no, line)?;
+        Ok(Act::Pass { lever })
+    } else if word == b"overrun".as_slice() {
+        let lever = one_arm(plan, box_no, line)?;
+        Ok(Act::Overrun { lever })
+    } else if word == b"bring".as_slice() {
+        let train = one_train(plan, box_no, line)?;
+        Ok(Act::Bring { train })
+    } else {
+        line_act(plan, box_no, line, word)
+    }
+}
+
+// The calls of a bell or an instrument, and then the others.
+#[tactic(auto, unfolding(crate::specs::Acts::bell_act))]
+fn bell_act(plan: &Plan, box_no: u32, line: &TextLine<'_>, word: &[u8]) -> Result<Act, Cause>
+    requires { box_no < length plan.now.boxes }
+    ensures { result ≡ bell_act plan.now box_no (words_of line.now.text.now) word.now }
+{
     if word == b"ring".as_slice() {
         let (side, code) = side_and_code(plan, box_no, line)?;
         Ok(Act::Ring { side, code })
@@ -114,58 +305,25 @@ pub fn read_act(plan: &Plan, box_no: u32, line: &TextLine<'_>) -> Result<Act, Ca
     } else if word == b"await_bell".as_slice() {
         let (side, code) = side_and_code(plan, box_no, line)?;
         Ok(Act::AwaitBell { side, code })
+    } else if word == b"turn".as_slice() {
+        let (way, position) = berth_and_position(plan, box_no, line)?;
+        Ok(Act::Turn { way, position })
+    } else if word == b"await_block".as_slice() {
+        let (way, position) = outgoing_and_position(plan, box_no, line)?;
+        Ok(Act::AwaitBlock { way, position })
     } else {
-        Err(Cause::UnknownWord)
+        lever_act(plan, box_no, line, word)
     }
 }
 
-fn way_word(way: Way) -> &'static str
-    ensures { result.now ≡ way_text way }
+/// What the words of a line behind its first say that a signalman does, or what is wrong with them first.
+#[tactic(auto, unfolding(crate::specs::Acts::act_of))]
+pub fn read_act(plan: &Plan, box_no: u32, line: &TextLine<'_>) -> Result<Act, Cause>
+    requires { box_no < length plan.now.boxes }
+    ensures { result ≡ act_of plan.now box_no (words_of line.now.text.now) }
 {
-    match way {
-        Way::Up => "up",
-        Way::Down => "down",
-    }
-}
-
-/// Puts a code of the plan's code table behind a text.
-pub fn put_code(out: &mut String, plan: &Plan, code: CodeNo) -> Result<(), AllocError>
-    requires { IsTrue (is_code_no plan.now code) }
-    ensures { OnOk result (string_bytes out.new ≡ string_bytes out.old ++ code_no_text plan.now.codes code) }
-{
-    let code = plan.codes.code(code);
-    write!(out, "{code}")
-}
-
-// A word, a way and a code of the plan.
-fn put_side_and_code(
-    out: &mut String,
-    plan: &Plan,
-    word: &str,
-    side: Way,
-    code: CodeNo,
-) -> Result<(), AllocError>
-    requires { IsTrue (is_code_no plan.now code) }
-    ensures { OnOk result (string_bytes out.new ≡ string_bytes out.old ++ word.now ++ 32 ∷ way_text side ++ 32 ∷ code_no_text plan.now.codes code) }
-{
-    out.push_str(word)?;
-    out.push_str(" ")?;
-    out.push_str(way_word(side))?;
-    out.push_str(" ")?;
-    put_code(out, plan, code)
-}
-
-/// Puts what a signalman does behind a text.
-pub fn put_act(out: &mut String, plan: &Plan, act: Act) -> Result<(), AllocError>
-    requires { IsTrue (names_codes_of plan.now act) }
-    ensures { OnOk result (string_bytes out.new ≡ string_bytes out.old ++ act_text plan.now act) }
-{
-    match act {
-        Act::Ring { side, code } => put_side_and_code(out, plan, "ring", side, code),
-        Act::Hear { side } => {
-            out.push_str("hear ")?;
-            out.push_str(way_word(side))
-        }
-        Act::AwaitBell { side, code } => put_side_and_code(out, plan, "await_bell", side, code),
+    match line.word(1) {
+        Some(word) => bell_act(plan, box_no, line, word),
+        None => Err(Cause::UnknownWord),
     }
 }

@@ -8,7 +8,8 @@ ghost use Rattle.line_law.specs.declared.call.Call.{Call};
 ghost use Rattle.script_text.specs.Calls.{moment_in, call_of, call_text};
 ghost use Rattle.script_text.specs.Spelled.{SpellsCall};
 
-use crate::acts::{put_act, read_act};
+use crate::act_texts::put_act;
+use crate::acts::read_act;
 use crate::moments::{put_moment, read_moment};
 use line_law::Call;
 use line_plan::Plan;
@@ -30,6 +31,7 @@ pub fn moment_in(version: u8, line: &TextLine<'_>) -> Result<u32, Cause>
 // The call of a box that a text spells, or the first cause.
 #[tactic(auto, unfolding(crate::specs::Calls::call_of, crate::specs::Calls::call_in))]
 fn call_of(plan: &Plan, box_no: u32, text: &[u8]) -> Result<Call, Cause>
+    requires { box_no < length plan.now.boxes }
     ensures exact { result ≡ call_of plan.now box_no text.now }
     ensures plan { IsPlan plan.now }
 {
@@ -45,8 +47,11 @@ fn call_of(plan: &Plan, box_no: u32, text: &[u8]) -> Result<Call, Cause>
 
 /// The call of a box that a line's text spells: the moment in the form of the plan's version, then the call. Each call has
 /// one spelling, and any other text is refused by its first cause: `BadMoment`; `UnknownWord` for the call's word;
-/// `WordCount`; then the words from left to right, a way as `UnknownWord` or, with no neighbour on that side, `NoLine`, a
-/// code as `BadCode` or, off the code table, `UnknownCode`.
+/// `WordCount`; then the words from left to right. A way or a position is `UnknownWord`; then the line is `NoLine` where
+/// no neighbour is on that side, and `NoBerth` where it has no berth. A side without a neighbour is `NoLine` before a
+/// code is `BadCode` or, off the code table, `UnknownCode`. A lever is `BadNumber`, `OutOfRange` off 1 to 120,
+/// `UnknownLever` off the frame, and `NoArm` where a signal is needed that it doesn't work. A train is `UnknownName`, or
+/// `OtherBox` where it isn't of this box.
 #[tactic(auto, using(crate::proofs::CallTexts::reading_rules))]
 pub fn read_call(plan: &Plan, box_no: u32, text: &[u8]) -> Result<Call, Cause>
     requires { box_no < length plan.now.boxes }
@@ -65,7 +70,7 @@ pub fn put_call(out: &mut String, plan: &Plan, box_no: u32, call: &Call) -> Resu
 {
     put_moment(out, plan.version, call.moment)?;
     out.push_str(" ")?;
-    put_act(out, plan, call.act)
+    put_act(out, plan, box_no, call.act)
 }
 
 /// A call of a box as it is printed: its moment, then what is done.

@@ -1,23 +1,33 @@
 //! Scripts, calls and replies as texts: what a text spells, what is wrong with it first, and how each is printed.
 #![tactic(auto)]
 
+mod act_texts;
 mod acts;
+mod answers;
 mod calls;
 mod draft;
 mod laws;
 mod moments;
+mod names;
 mod printing;
 mod reading;
 mod replies;
+mod rows;
 mod script;
+mod spelled;
 
+pub use answers::read_reply;
 pub use calls::{print_call, put_call, read_call};
-pub use laws::{calls_law, moments_law, scripts_law};
-pub use moments::{put_moment, read_moment};
+pub use laws::{calls_law, moments_law, replies_law, scripts_law};
+pub use moments::{put_moment, read_moment, read_ready};
 pub use printing::print_script;
 pub use reading::read_script;
-pub use replies::{names_codes, print_reply, put_reply};
+pub use replies::{print_reply, put_reply};
+pub use rows::may_answer;
 pub use script::{MOST_CALLS, SCRIPT_LIMIT, Script};
+pub use spelled::is_spelled_reply;
 
+#[cfg(test)]
+mod reply_tests;
 #[cfg(test)]
 mod tests;

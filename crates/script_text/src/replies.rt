@@ -1,72 +1,251 @@
 //! Replies as they are printed.
 
-ghost use Rattle.std.specs.Prelude.{◌≡◌, ◌<◌, ◌++◌, OnOk, IfOk, IsTrue, length, string_bytes};
+ghost use Rattle.std.specs.Prelude.{◌≡◌, ◌<◌, ◌++◌, ◌∷◌, OnOk, IfOk, IsTrue, length, string_bytes, decimal, codes};
 ghost use Rattle.line_law.specs.Known.{is_code_no};
-ghost use Rattle.script_text.specs.Replies.{reply_text, names_codes, shown_text, shows_code};
+ghost use Rattle.line_plan.specs.Plans.{is_train};
+ghost use Rattle.script_text.specs.Moments.{moment_text, hundred_hours};
+ghost use Rattle.script_text.specs.Names.{way_text, position_text, code_no_text, place_text, train_text};
+ghost use Rattle.script_text.specs.Replies.{reply_text, reply_words, is_spelled_reply, shown_text, state_text, spent_text, shows_code, is_stand, is_place, is_ready_moment};
 
-use crate::acts::put_code;
+use crate::moments::put_moment;
+use crate::names::{
+    place_word, position_word, put_code, put_small, put_train, put_way, train_word,
+};
 use bell_codes::CodeNo;
+use block_words::{Position, Way, WelwynState};
 use line_law::Reply;
 use line_plan::Plan;
 use rail_text::NoMemory;
 use std::alloc::{AllocError, Global};
 use std::fmt::Write;
 
-// A code of the plan's code table.
-fn is_code_no(plan: &Plan, code: CodeNo) -> bool
-    ensures { result ≡ is_code_no plan.now code }
+fn state_word(state: WelwynState) -> &'static str
+    ensures { result.now ≡ state_text state }
 {
-    1 <= code && code as usize <= plan.codes.len()
-}
-
-/// Whether each code of the reply is in the plan's code table, as a reply's text needs it.
-#[tactic(auto, unfolding(crate::specs::Replies::names_codes))]
-pub fn names_codes(plan: &Plan, reply: &Reply) -> bool
-    ensures { result ≡ names_codes plan.now reply.now }
-{
-    match *reply {
-        Reply::BellBusy { code, .. } | Reply::Heard { code, .. } => is_code_no(plan, code),
-        Reply::BellNotYet { shown, .. } => shown.is_none_or(|code| is_code_no(plan, code)),
-        Reply::Rung { .. } | Reply::Silent { .. } => true,
+    match state {
+        WelwynState::Ready => "ready",
+        WelwynState::Given => "given",
+        WelwynState::Berthed => "berthed",
     }
 }
 
-// What a bell shows: a code, or `none`.
-fn put_shown(out: &mut String, plan: &Plan, shown: Option<CodeNo>) -> Result<(), AllocError>
+fn spent_word(spent: bool) -> &'static str
+    ensures { result.now ≡ spent_text spent }
+{
+    if spent { "spent" } else { "unspent" }
+}
+
+// A word alone.
+fn put_word(out: &mut String, word: &str) -> Result<(), AllocError>
+    ensures { OnOk result (string_bytes out.new ≡ string_bytes out.old ++ word.now) }
+{
+    out.push_str(word)
+}
+
+// A word and a number.
+fn put_count(out: &mut String, word: &str, number: u64) -> Result<(), AllocError>
+    ensures { OnOk result (string_bytes out.new ≡ string_bytes out.old ++ (word.now ++ 32 ∷ decimal number)) }
+{
+    out.push_str(word)?;
+    write!(out, " {number}")
+}
+
+// A word, a number and a train.
+fn put_counted_train(
+    out: &mut String,
+    plan: &Plan,
+    word: &str,
+    number: u64,
+    train: u32,
+) -> Result<(), AllocError>
+    requires { IsTrue (is_train plan.now.trains train) }
+    ensures { OnOk result (string_bytes out.new ≡ string_bytes out.old ++ (word.now ++ 32 ∷ decimal number ++ 32 ∷ train_text plan.now train)) }
+{
+    put_count(out, word, number)?;
+    out.push_str(" ")?;
+    out.push_str(train_word(plan, train))
+}
+
+// A word and a Welwyn state.
+fn put_state(out: &mut String, word: &str, state: WelwynState) -> Result<(), AllocError>
+    ensures { OnOk result (string_bytes out.new ≡ string_bytes out.old ++ (word.now ++ 32 ∷ state_text state)) }
+{
+    out.push_str(word)?;
+    out.push_str(" ")?;
+    out.push_str(state_word(state))
+}
+
+// A word, a number and a code.
+fn put_code_told(
+    out: &mut String,
+    plan: &Plan,
+    word: &str,
+    k: u64,
+    code: CodeNo,
+) -> Result<(), AllocError>
+    requires { IsTrue (is_code_no plan.now code) }
+    ensures { OnOk result (string_bytes out.new ≡ string_bytes out.old ++ (word.now ++ 32 ∷ decimal k ++ 32 ∷ code_no_text plan.now.codes code)) }
+{
+    put_count(out, word, k)?;
+    out.push_str(" ")?;
+    put_code(out, plan, code)
+}
+
+// The position that an instrument shows after so many turns.
+fn put_position(out: &mut String, v: u64, shown: Position) -> Result<(), AllocError>
+    ensures { OnOk result (string_bytes out.new ≡ string_bytes out.old ++ (codes "not_yet" ++ 32 ∷ decimal v ++ 32 ∷ position_text shown)) }
+{
+    write!(out, "not_yet {v} ")?;
+    out.push_str(position_word(shown))
+}
+
+// A number, and what a bell then shows: a code, or `none`.
+fn put_shown(out: &mut String, plan: &Plan, k: u64, shown: Option<CodeNo>) -> Result<(), AllocError>
     requires { IsTrue (shows_code plan.now shown) }
-    ensures { OnOk result (string_bytes out.new ≡ string_bytes out.old ++ shown_text plan.now shown) }
+    ensures { OnOk result (string_bytes out.new ≡ string_bytes out.old ++ (codes "not_yet" ++ 32 ∷ decimal k ++ 32 ∷ shown_text plan.now shown)) }
 {
     match shown {
-        Some(code) => put_code(out, plan, code),
-        None => out.push_str("none"),
+        Some(code) => put_code_told(out, plan, "not_yet", k, code),
+        None => write!(out, "not_yet {k} none"),
     }
 }
 
-/// Puts a reply behind a text.
-#[tactic(auto, unfolding(crate::specs::Replies::reply_text, crate::specs::Replies::names_codes))]
-pub fn put_reply(out: &mut String, plan: &Plan, reply: &Reply) -> Result<(), AllocError>
-    requires { IsTrue (names_codes plan.now reply.now) }
-    ensures { OnOk result (string_bytes out.new ≡ string_bytes out.old ++ reply_text plan.now reply.now) }
+// A word, a place of the box and a train.
+fn put_stand(
+    out: &mut String,
+    plan: &Plan,
+    box_no: u32,
+    word: &str,
+    place: u32,
+    train: u32,
+) -> Result<(), AllocError>
+    requires at { box_no < length plan.now.boxes }
+    requires stand { IsTrue (is_stand plan.now box_no place train) }
+    ensures { OnOk result (string_bytes out.new ≡ string_bytes out.old ++ (word.now ++ 32 ∷ place_text plan.now box_no place ++ 32 ∷ train_text plan.now train)) }
+{
+    out.push_str(word)?;
+    out.push_str(" ")?;
+    put_train(out, plan, place_word(plan, box_no, place), train)
+}
+
+// A word, and the lever and the row by which a lever is held.
+fn put_row(out: &mut String, word: &str, lever: u32, row: u32) -> Result<(), AllocError>
+    ensures { OnOk result (string_bytes out.new ≡ string_bytes out.old ++ (word.now ++ 32 ∷ (decimal lever ++ 32 ∷ (codes "row" ++ 32 ∷ decimal row)))) }
+{
+    out.push_str(word)?;
+    write!(out, " {lever} row {row}")
+}
+
+// A position and whether the instrument is spent.
+fn put_sight(out: &mut String, shown: Position, spent: bool) -> Result<(), AllocError>
+    ensures { OnOk result (string_bytes out.new ≡ string_bytes out.old ++ (position_text shown ++ 32 ∷ spent_text spent)) }
+{
+    out.push_str(position_word(shown))?;
+    out.push_str(" ")?;
+    out.push_str(spent_word(spent))
+}
+
+// A word, and the instrument by which a starter is held.
+fn put_instrument(
+    out: &mut String,
+    word: &str,
+    way: Way,
+    v: u64,
+    shown: Position,
+    spent: bool,
+) -> Result<(), AllocError>
+    ensures { OnOk result (string_bytes out.new ≡ string_bytes out.old ++ (word.now ++ 32 ∷ (way_text way ++ 32 ∷ (decimal v ++ 32 ∷ (position_text shown ++ 32 ∷ spent_text spent))))) }
+{
+    put_way(out, word, way)?;
+    write!(out, " {v} ")?;
+    put_sight(out, shown, spent)
+}
+
+// A word and a moment at which a release may come.
+fn put_ready(out: &mut String, version: u8, word: &str, ready_at: u32) -> Result<(), AllocError>
+    requires { ready_at < hundred_hours version }
+    ensures { OnOk result (string_bytes out.new ≡ string_bytes out.old ++ (word.now ++ 32 ∷ moment_text version ready_at)) }
+{
+    out.push_str(word)?;
+    out.push_str(" ")?;
+    put_moment(out, version, ready_at)
+}
+
+/// Puts a reply of a box behind a text.
+#[tactic(auto, using(crate::proofs::MomentTexts::ready_is_short), unfolding(crate::specs::Replies::reply_text, crate::specs::Replies::is_spelled_reply))]
+pub fn put_reply(
+    out: &mut String,
+    plan: &Plan,
+    box_no: u32,
+    reply: &Reply,
+) -> Result<(), AllocError>
+    requires at { box_no < length plan.now.boxes }
+    requires spelled { IsTrue (is_spelled_reply plan.now box_no reply.now) }
+    ensures { OnOk result (string_bytes out.new ≡ string_bytes out.old ++ reply_text plan.now box_no reply.now) }
 {
     match *reply {
-        Reply::Rung { k } => write!(out, "rung {k}"),
-        Reply::BellBusy { k, code } => {
-            write!(out, "bell_busy {k} ")?;
-            put_code(out, plan, code)
+        Reply::Rung { k } => put_count(out, "rung", k),
+        Reply::BellBusy { k, code } => put_code_told(out, plan, "bell_busy", k, code),
+        Reply::Heard { k, code } => put_code_told(out, plan, "heard", k, code),
+        Reply::Silent { k } => put_count(out, "silent", k),
+        Reply::BellNotYet { k, shown } => put_shown(out, plan, k, shown),
+        Reply::Turned { v } => put_count(out, "turned", v),
+        Reply::AlreadyThere => put_word(out, "already_there"),
+        Reply::NotFromNormal => put_word(out, "not_from_normal"),
+        Reply::HomeReversed { lever } => put_small(out, "home_reversed", lever),
+        Reply::TrackOccupied { place, train } => {
+            put_stand(out, plan, box_no, "track_occupied", place, train)
         }
-        Reply::Heard { k, code } => {
-            write!(out, "heard {k} ")?;
-            put_code(out, plan, code)
+        Reply::WelwynHolds { state } => put_state(out, "welwyn_holds", state),
+        Reply::CountFull { out: number } => put_small(out, "count_full", number),
+        Reply::Seen { v } => put_count(out, "seen", v),
+        Reply::BlockNotYet { v, shown } => put_position(out, v, shown),
+        Reply::Pulled => put_word(out, "pulled"),
+        Reply::PulledUnder { v } => put_count(out, "pulled_under", v),
+        Reply::AlreadyReversed => put_word(out, "already_reversed"),
+        Reply::Spare => put_word(out, "spare"),
+        Reply::HeldByLever { lever, row } => put_row(out, "held_by_lever", lever, row),
+        Reply::HeldByTrack { place, train } => {
+            put_stand(out, plan, box_no, "held_by_track", place, train)
         }
-        Reply::Silent { k } => write!(out, "silent {k}"),
-        Reply::BellNotYet { k, shown } => {
-            write!(out, "not_yet {k} ")?;
-            put_shown(out, plan, shown)
+        Reply::HeldByInstrument {
+            way,
+            v,
+            shown,
+            spent,
+        } => put_instrument(out, "held_by_instrument", way, v, shown, spent),
+        Reply::Put => put_word(out, "put"),
+        Reply::AlreadyNormal => put_word(out, "already_normal"),
+        Reply::Brought => put_word(out, "brought"),
+        Reply::AlreadyBrought => put_word(out, "already_brought"),
+        Reply::Occupied { place, train } => put_stand(out, plan, box_no, "occupied", place, train),
+        Reply::Passed { train } => put_train(out, plan, "passed", train),
+        Reply::Entered { k, train } => put_counted_train(out, plan, "entered", k, train),
+        Reply::NoTrain => put_word(out, "no_train"),
+        Reply::AtDanger => put_word(out, "at_danger"),
+        Reply::ArmOff => put_word(out, "arm_off"),
+        Reply::SectionFull { k } => put_count(out, "section_full", k),
+        Reply::Approaching { j, train } => put_counted_train(out, plan, "approaching", j, train),
+        Reply::TrainNotYet { j } => put_count(out, "not_yet", j),
+        Reply::Berthed { j, train } => put_counted_train(out, plan, "berthed", j, train),
+        Reply::PartBerthed { j, train } => {
+            put_counted_train(out, plan, "part_berthed", j, train)
         }
+        Reply::NoTrainAt { j } => put_count(out, "no_train", j),
+        Reply::BerthOccupied { train } => put_train(out, plan, "occupied", train),
+        Reply::PortionAhead { train } => put_train(out, plan, "portion_ahead", train),
+        Reply::Cleared { j, train } => put_counted_train(out, plan, "cleared", j, train),
+        Reply::NoPortion => put_word(out, "no_portion"),
+        Reply::Winding { ready_at } => put_ready(out, plan.version, "winding", ready_at),
+        Reply::AlreadyWinding => put_word(out, "already_winding"),
+        Reply::NotAtNormal => put_word(out, "not_at_normal"),
+        Reply::Released => put_word(out, "released"),
+        Reply::NotWinding => put_word(out, "not_winding"),
+        Reply::TooSoon { ready_at } => put_ready(out, plan.version, "too_soon", ready_at),
     }
 }
 
-/// The reply of a box as it is printed. Its codes are of the code table.
+/// The reply of a box as it is printed: the text from which `read_reply` gives it.
 pub fn print_reply(
     alloc: Global,
     plan: &Plan,
@@ -74,10 +253,10 @@ pub fn print_reply(
     reply: &Reply,
 ) -> Result<Vec<u8>, NoMemory>
     requires at { box_no < length plan.now.boxes }
-    requires codes { IsTrue (names_codes plan.now reply.now) }
-    ensures { IfOk result (λ text. text.items ≡ reply_text plan.now reply.now) }
+    requires spelled { IsTrue (is_spelled_reply plan.now box_no reply.now) }
+    ensures { IfOk result (λ text. text.items ≡ reply_text plan.now box_no reply.now) }
 {
     let mut out = String::new(alloc);
-    put_reply(&mut out, plan, reply)?;
+    put_reply(&mut out, plan, box_no, reply)?;
     Ok(out.into_bytes())
 }

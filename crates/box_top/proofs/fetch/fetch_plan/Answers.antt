@@ -1,6 +1,6 @@
 use Rattle.line_plan.specs.Limits.{most_bytes}
 use Rattle.line_plan.specs.Reading.{plan_of}
-use Rattle.line_plan.proofs.Laws.{plan_of-take}
+use Rattle.line_plan.proofs.SpelledPlans.{plan_of-take}
 use Rattle.box_top.proofs.Fetched.{fetched_given, fetched_stops}
 use Rattle.box_top.proofs.fetch.fetch_plan.Goals as goal
 

@@ -19,4 +19,4 @@ loop-box_no-init g c =
     }
 
 pub returns : goal.returns
-returns g c = c.from_vec.ensures ∙ no_more _ c.loop-box_no.plain.line c.loop-box_no.roster _ c.loop-box_no.invariant.told (sym c.next_box.ensures ∙ c.in_default.is)
+returns g c = c.from_vec.ensures ∙ no_more c.args.plan.now _ c.loop-box_no.plain.line c.loop-box_no.roster _ c.loop-box_no.invariant.told (sym c.next_box.ensures ∙ c.in_default.is)

@@ -1,5 +1,5 @@
 use Rattle.std.proofs.Common.{◌≡◌, ◌+◌, ◌<◌, ◌++◌, ◌^◌}
-use Rattle.line_law.specs.Known.{IsLineOf}
+use Rattle.line_law.specs.Lines.{IsLineOf}
 use Rattle.line_law.specs.Serial.{AreLeft, count_left, serial_journal}
 use Rattle.box_top.specs.Rosters.{calls_of_scripts}
 use Rattle.box_top.specs.Serial.{rest_of}
@@ -11,7 +11,7 @@ invariant-loop-box_no g l = record {
   left : AreLeft l.plan l.plain.line l.roster;
   counted : l.plain.calls + count_left l.roster ≡ count_left (calls_of_scripts l.scripts);
   few : count_left (calls_of_scripts l.scripts) < 2 ^ 32;
-  told : l.entries.items ++ rest_of l.plain.line l.roster ≡ serial_journal l.plan (calls_of_scripts l.scripts);
+  told : l.entries.items ++ rest_of l.plan l.plain.line l.roster ≡ serial_journal l.plan (calls_of_scripts l.scripts);
 }
 
 abbrev pub decreases-loop-box_no : goal.decreases-loop-box_no

@@ -1,10 +1,22 @@
-use Rattle.std.proofs.Common.{◌∙◌, ap}
-use Rattle.line_law.specs.Known.{PlainState}
+use Rattle.std.proofs.Common.{subst}
+use Rattle.line_plan.specs.Plans.{IsPlan, PlanFields}
+use Rattle.line_law.proofs.Keeping.{is_ready}
 use Rattle.line_law.proofs.Lines.{box_fits, pair_fits}
+use Rattle.line_law.proofs.Sides.{known_box}
 use Rattle.line_law.proofs.plain.Plain.answer.Goals as goal
 
-pub answer_on-requires-clause-here : goal.answer_on-requires-clause-here
-answer_on-requires-clause-here c = box_fits _ _ _ _ _ c.requires.line c.requires.call.known (c.deref.ensures.value ∙ ap (λ (p : PlainState). p.line.boxes) c.self.view_is)
+pub answer_here-requires-clause-plan_box : goal.answer_here-requires-clause-plan_box
+answer_here-requires-clause-plan_box c = known_box _ _ _ c.requires.call.known
 
-pub answer_on-requires-clause-pair : goal.answer_on-requires-clause-pair
-answer_on-requires-clause-pair c = pair_fits _ _ _ _ _ c.requires.line c.requires.call.known (c.deref-2.ensures.value ∙ ap (λ (p : PlainState). p.line.pairs) c.self.view_is)
+pub answer_here-requires-clause-here : goal.answer_here-requires-clause-here
+answer_here-requires-clause-here c = box_fits _ _ _ _ c.requires.line c.requires.call.known
+
+pub answer_here-requires-clause-pair : goal.answer_here-requires-clause-pair
+answer_here-requires-clause-pair c =
+    let is : IsPlan c.args.plan.now = subst (λ (p : PlanFields). IsPlan p) c.plan.view_is c.plan.invariant.0 in
+    pair_fits _ _ _ _ is c.requires.line c.requires.call.known
+
+pub answer_here-requires-clause-ready : goal.answer_here-requires-clause-ready
+answer_here-requires-clause-ready c =
+    let is : IsPlan c.args.plan.now = subst (λ (p : PlanFields). IsPlan p) c.plan.view_is c.plan.invariant.0 in
+    is_ready _ _ _ _ is c.requires.line c.requires.call.known c.requires.few

@@ -1,0 +1,12 @@
+use Rattle.std.proofs.Common.{◌≡◌, ◌∙◌, Some, ap, sym}
+use Rattle.line_plan.specs.Frames.{signal_of}
+use Rattle.line_law.specs.Levers.{starter_way}
+use Rattle.line_law.proofs.state.BoxState.pass.Goals as goal
+
+pub pass_signal-requires-clause-room : goal.pass_signal-requires-clause-room
+pass_signal-requires-clause-room c = λ way starts. c.requires.room way (ap starter_way (sym c.in-Some.ensures) ∙ starts)
+
+pub returns-in-Some : goal.returns-in-Some
+returns-in-Some c =
+    let is : signal_of c.args.plan.now c.args.lever ≡ Some c.in-Some.signal.now = sym c.in-Some.ensures in
+    rw is c.pass_signal.ensures

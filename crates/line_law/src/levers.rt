@@ -1,0 +1,160 @@
+//! Pulling a lever, and putting it back.
+
+ghost use Rattle.std.specs.Prelude.{◌≡◌, ◌<◌, length, option_map};
+ghost use Rattle.locking_table.specs.Places.{IsLever};
+ghost use Rattle.line_plan.specs.Frames.{frame_size, leads_to};
+ghost use Rattle.line_law.specs.declared.state.BoxState.{BoxState};
+ghost use Rattle.line_law.specs.Decisions.{Here, on_pair};
+ghost use Rattle.line_law.specs.Levers.{is_unspent_clear, lever_link, lock_refusal, pull, pull_refusal, pulled, pulled_under, put, put_back, put_refusal, starter_way};
+ghost use Rattle.line_law.specs.Lines.{HasFrame};
+ghost use Rattle.line_law.specs.Links.{way_of};
+ghost use Rattle.line_law.specs.Sound.{IsSound};
+
+use crate::call::Reply;
+use crate::state::{Block, BoxState, PairState};
+use crate::tracks::first_standing;
+use block_words::{Position, Way};
+use line_plan::{BoxPlan, Kind, Signal, To};
+use locking_table::{End, end_of};
+
+/// The outgoing line into whose section a signal leads, if there is a signal and it is a starter.
+pub fn starter_way(signal: Option<&Signal>) -> Option<Way>
+    ensures { result ≡ starter_way (option_map (λ signal. signal.now) signal.entry) }
+{
+    match signal?.to {
+        To::Section(way) => Some(way),
+        To::Place(_) | To::Away => None,
+    }
+}
+
+impl Block {
+    /// Whether the instrument shows Line Clear unspent.
+    pub fn is_unspent_clear(self) -> bool
+        ensures { result ≡ is_unspent_clear self }
+    {
+        self.position == Position::LineClear && !self.spent
+    }
+
+    /// What the pull of the starter of that line is answered, which reaches this instrument.
+    pub fn pull_reply(self, way: Way) -> Reply
+        ensures { (here after : BoxState) → (pulled_under here after way self).reply ≡ result }
+    {
+        if self.is_unspent_clear() {
+            Reply::PulledUnder { v: self.turns }
+        } else {
+            Reply::HeldByInstrument {
+                way,
+                v: self.turns,
+                shown: self.position,
+                spent: self.spent,
+            }
+        }
+    }
+}
+
+impl BoxState {
+    // What keeps a lever where it stands: a row of the locking table, or a train on a place that locks it.
+    fn lock_refusal(&self, plan: &BoxPlan, lever: u32) -> Option<Reply>
+        requires sound { IsSound plan.now }
+        requires frame { HasFrame plan.now self.now }
+        requires lever { IsLever (frame_size plan.now.levers) lever }
+        ensures { result ≡ lock_refusal plan.now self.now lever }
+    {
+        if let Some(holder) = plan.table.named_holder(self.ends.as_slice(), lever) {
+            return Some(Reply::HeldByLever {
+                lever: holder.lever,
+                row: holder.row,
+            });
+        }
+        let there = first_standing(self.places.as_slice(), plan.track(lever))?;
+        Some(Reply::HeldByTrack {
+            place: there.place,
+            train: there.train,
+        })
+    }
+
+    /// What a pull is refused for in the box.
+    pub fn pull_refusal(&self, plan: &BoxPlan, lever: u32) -> Option<Reply>
+        requires sound { IsSound plan.now }
+        requires frame { HasFrame plan.now self.now }
+        requires lever { IsLever (frame_size plan.now.levers) lever }
+        ensures { result ≡ pull_refusal plan.now self.now lever }
+    {
+        if end_of(self.ends.as_slice(), lever) == End::Reversed {
+            return Some(Reply::AlreadyReversed);
+        }
+        if plan.kind(lever) == Some(Kind::Spare) {
+            return Some(Reply::Spare);
+        }
+        self.lock_refusal(plan, lever)
+    }
+
+    /// What putting a lever back is refused for.
+    pub fn put_refusal(&self, plan: &BoxPlan, lever: u32) -> Option<Reply>
+        requires sound { IsSound plan.now }
+        requires frame { HasFrame plan.now self.now }
+        requires lever { IsLever (frame_size plan.now.levers) lever }
+        ensures { result ≡ put_refusal plan.now self.now lever }
+    {
+        if end_of(self.ends.as_slice(), lever) == End::Normal {
+            return Some(Reply::AlreadyNormal);
+        }
+        self.lock_refusal(plan, lever)
+    }
+
+    /// Reverses a lever, and lets its arm go off if it has one.
+    pub fn reverse(&mut self, lever: u32, signal: Option<&Signal>)
+        requires lever { IsLever (length self.old.ends) lever }
+        requires arms { length self.old.off ≡ length self.old.ends }
+        ensures { self.new ≡ pulled self.old lever (option_map (λ signal. signal.now) signal.entry) }
+    {
+        self.ends.set(lever as usize - 1, End::Reversed);
+        if signal.is_some() {
+            self.off.set(lever as usize - 1, true);
+        }
+    }
+
+    /// Pulls a lever; the pull of a starter reaches its instrument, and leaves it spent.
+    pub fn pull(&mut self, pair: &mut PairState, plan: &BoxPlan, lever: u32) -> Reply
+        requires sound { IsSound plan.now }
+        requires frame { HasFrame plan.now self.old }
+        requires lever { IsLever (frame_size plan.now.levers) lever }
+        ensures { on_pair (way_of (lever_link plan.now lever)) (pull plan.now self.old lever) pair.old ≡ record { reply = result; here = self.new; word = pair.new } }
+    {
+        if let Some(reply) = self.pull_refusal(plan, lever) {
+            return reply;
+        }
+        let signal = plan.signal(lever);
+        let Some(way) = starter_way(signal) else {
+            self.reverse(lever, signal);
+            return Reply::Pulled;
+        };
+        let block = pair.blocks.get(way);
+        pair.blocks.set(
+            way,
+            Block {
+                spent: true,
+                ..block
+            },
+        );
+        if block.is_unspent_clear() {
+            self.reverse(lever, signal);
+        }
+        block.pull_reply(way)
+    }
+
+    /// Puts a lever back, with its arm at danger.
+    pub fn put(&mut self, plan: &BoxPlan, lever: u32) -> Reply
+        requires sound { IsSound plan.now }
+        requires frame { HasFrame plan.now self.old }
+        requires lever { IsLever (frame_size plan.now.levers) lever }
+        ensures { put plan.now self.old lever ≡ Here result self.new }
+    {
+        if let Some(reply) = self.put_refusal(plan, lever) {
+            return reply;
+        }
+        self.ends.set(lever as usize - 1, End::Normal);
+        self.off.set(lever as usize - 1, false);
+        Reply::Put
+    }
+}

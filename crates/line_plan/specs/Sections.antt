@@ -1,0 +1,45 @@
+-- The sections of a line: each from the starter of its rear box to the berth of its box in advance.
+use Rattle.std.specs.Prelude.{ℕ, ◌+◌, ◌-◌, Option, None, Some, length, IsTrue}
+use Rattle.block_words.specs.declared.Way.{Way}
+use Rattle.block_words.specs.declared.Way.TheVariants.{Up, Down}
+use Rattle.line_plan.specs.Frames.{starter_of, berth_of}
+use Rattle.line_plan.specs.Plans.{PlanFields, box_at}
+use Rattle.line_plan.specs.Ways.{leaves}
+use Rattle.line_plan.specs.declared.berth.Berth.{Berth}
+use Rattle.line_plan.specs.declared.section.Section.{Section}
+use Rattle.line_plan.specs.declared.signal.Signal.{Signal}
+
+-- a section of the plan: the line of its way leaves its rear box to a neighbour
+abbrev pub IsSection : PlanFields → Section → Type 0
+IsSection plan section = IsTrue (leaves (length plan.boxes) section.rear section.way)
+
+-- the box to which the line of a way leads
+abbrev pub next_box : ℕ → Way → ℕ
+next_box b Up = b - 1
+next_box b Down = b + 1
+
+-- the box in advance of a section
+abbrev pub advance_of : Section → ℕ
+advance_of section = next_box section.rear section.way
+
+-- the starter of a section, at its rear box
+abbrev pub section_starter : PlanFields → Section → Option Signal
+section_starter plan section = starter_of (box_at plan.boxes section.rear) section.way
+
+-- the berth of a section, at its box in advance
+abbrev pub section_berth : PlanFields → Section → Option Berth
+section_berth plan section = berth_of (box_at plan.boxes (advance_of section)) section.way
+
+-- how many trains a line may hold: as many as it is permissive of, or one
+abbrev pub most_of : Option ℕ → ℕ
+most_of None = 1
+most_of (Some n) = n
+
+-- the limit of a line by its berth; one without a berth is absolute
+abbrev pub limit_at : Option Berth → ℕ
+limit_at None = 1
+limit_at (Some berth) = most_of berth.permissive
+
+-- the most trains that a section may hold
+abbrev pub limit_of : PlanFields → Section → ℕ
+limit_of plan section = limit_at (section_berth plan section)

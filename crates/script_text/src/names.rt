@@ -1,0 +1,160 @@
+//! The words that name things of a plan and of its boxes.
+
+ghost use Rattle.std.specs.Prelude.{◌≡◌, ◌<◌, ◌++◌, ◌∷◌, decimal, length, position, bytes_eq, true, string_bytes, IsTrue, OnOk};
+ghost use Rattle.std.specs.List.{list_all};
+ghost use Rattle.rail_text.specs.Words.{is_name};
+ghost use Rattle.line_law.specs.Known.{is_code_no};
+ghost use Rattle.line_plan.specs.Plans.{is_train};
+ghost use Rattle.script_text.specs.Names.{code_named, code_no_text, place_named, place_text, position_named, position_text, train_named, train_text, way_named, way_text};
+ghost use Rattle.script_text.specs.Replies.{is_place};
+
+use bell_codes::{CodeNo, read_code};
+use block_words::{Position, Way};
+use line_plan::Plan;
+use rail_text::{Names, name_in};
+use std::alloc::AllocError;
+use std::fmt::Write;
+
+/// The way that a word names.
+pub fn way_named(word: &[u8]) -> Option<Way>
+    ensures { result ≡ way_named word.now }
+{
+    if word == b"up".as_slice() {
+        Some(Way::Up)
+    } else if word == b"down".as_slice() {
+        Some(Way::Down)
+    } else {
+        None
+    }
+}
+
+/// The position that a word names.
+pub fn position_named(word: &[u8]) -> Option<Position>
+    ensures { result ≡ position_named word.now }
+{
+    if word == b"normal".as_slice() {
+        Some(Position::Normal)
+    } else if word == b"line_clear".as_slice() {
+        Some(Position::LineClear)
+    } else if word == b"train_on_line".as_slice() {
+        Some(Position::TrainOnLine)
+    } else {
+        None
+    }
+}
+
+/// The number of the code that a word spells, where it is of the plan's code table.
+pub fn code_named(plan: &Plan, word: &[u8]) -> Option<CodeNo>
+    ensures { result ≡ code_named plan.now word.now }
+{
+    match read_code(word) {
+        Ok(code) => plan.codes.number_of(code),
+        Err(_) => None,
+    }
+}
+
+// The number of a name among names.
+#[tactic(auto, using(crate::proofs::Named::naming_rules))]
+fn number_named(names: &Names, word: &[u8]) -> Option<u32>
+    requires { list_all is_name names.now ≡ true }
+    ensures { result ≡ position (bytes_eq word.now) names.now }
+{
+    match name_in(word) {
+        Ok(name) => names.number_of(name),
+        Err(_) => None,
+    }
+}
+
+/// The place of a box with this name.
+#[tactic(auto, using(crate::proofs::Named::box_named))]
+pub fn place_named(plan: &Plan, box_no: u32, word: &[u8]) -> Option<u32>
+    requires { box_no < length plan.now.boxes }
+    ensures { result ≡ place_named plan.now box_no word.now }
+{
+    let here = &plan.boxes.as_slice()[box_no as usize];
+    number_named(&here.places, word)
+}
+
+/// The train with this name. Trains are numbered from 1.
+pub fn train_named(plan: &Plan, word: &[u8]) -> Option<u32>
+    ensures { result ≡ train_named plan.now word.now }
+{
+    let number = number_named(&plan.train_names, word)?;
+    Some(number + 1)
+}
+
+/// A way's word.
+pub fn way_word(way: Way) -> &'static str
+    ensures { result.now ≡ way_text way }
+{
+    match way {
+        Way::Up => "up",
+        Way::Down => "down",
+    }
+}
+
+/// A position's word.
+pub fn position_word(position: Position) -> &'static str
+    ensures { result.now ≡ position_text position }
+{
+    match position {
+        Position::Normal => "normal",
+        Position::LineClear => "line_clear",
+        Position::TrainOnLine => "train_on_line",
+    }
+}
+
+/// The name of a place of a box.
+#[tactic(auto, using(crate::proofs::Named::place_is))]
+pub fn place_word(plan: &Plan, box_no: u32, place: u32) -> &str
+    requires at { box_no < length plan.now.boxes }
+    requires place { IsTrue (is_place plan.now box_no place) }
+    ensures { result.now ≡ place_text plan.now box_no place }
+{
+    let here = &plan.boxes.as_slice()[box_no as usize];
+    here.places.name_of(place)
+}
+
+/// The name of a train.
+pub fn train_word(plan: &Plan, train: u32) -> &str
+    requires { IsTrue (is_train plan.now.trains train) }
+    ensures { result.now ≡ train_text plan.now train }
+{
+    plan.train(train).name.as_str()
+}
+
+/// Puts a code of the plan's code table behind a text.
+pub fn put_code(out: &mut String, plan: &Plan, code: CodeNo) -> Result<(), AllocError>
+    requires { IsTrue (is_code_no plan.now code) }
+    ensures { OnOk result (string_bytes out.new ≡ string_bytes out.old ++ code_no_text plan.now.codes code) }
+{
+    let code = plan.codes.code(code);
+    write!(out, "{code}")
+}
+
+/// Puts a word and a number behind a text.
+pub fn put_small(out: &mut String, word: &str, number: u32) -> Result<(), AllocError>
+    ensures { OnOk result (string_bytes out.new ≡ string_bytes out.old ++ (word.now ++ 32 ∷ decimal number)) }
+{
+    out.push_str(word)?;
+    write!(out, " {number}")
+}
+
+/// Puts a word and a way behind a text.
+pub fn put_way(out: &mut String, word: &str, way: Way) -> Result<(), AllocError>
+    ensures { OnOk result (string_bytes out.new ≡ string_bytes out.old ++ (word.now ++ 32 ∷ way_text way)) }
+{
+    out.push_str(word)?;
+    out.push_str(" ")?;
+    out.push_str(way_word(way))
+}
+
+/// Puts a word and a train behind a text.
+pub fn put_train(out: &mut String, plan: &Plan, word: &str, train: u32) -> Result<(), AllocError>
+    requires { IsTrue (is_train plan.now.trains train) }
+    ensures { OnOk result (string_bytes out.new ≡ string_bytes out.old ++ (word.now ++ 32 ∷ train_text plan.now train)) }
+{
+    out.push_str(word)?;
+    out.push_str(" ")?;
+    out.push_str(train_word(plan, train))
+}
