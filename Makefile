@@ -1,8 +1,8 @@
 .PHONY: demo build test
 
-example = run data/example.plan data/ash.script data/beech.script
+example = run data/example.plan data/ash.script data/beech.script data/cedar.script
 
-# Builds without proofs and works the example line, in about a minute.
+# Builds without proofs and works the example line of three boxes, in about a minute.
 demo:
 	cd crates/box_main && rt try -- $(example)
 

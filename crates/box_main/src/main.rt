@@ -1,4 +1,4 @@
-//! The program: `run PLAN SCRIPT..` works a line of signal boxes by its signalmen's scripts, and prints the journal.
+//! The program: it does what the words of its command line say, over files and standard output.
 #![tactic(auto)]
 
 use box_top::{OpenGate, Status, box_top};

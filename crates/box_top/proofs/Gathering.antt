@@ -9,8 +9,8 @@ use Rattle.script_text.specs.Scripts.{IsScriptOf, script_of}
 use Rattle.script_text.specs.declared.script.Script.{Script}
 use Rattle.box_top.specs.declared.stop.Stop.{Stop}
 use Rattle.box_top.specs.declared.stop.Stop.TheVariants as stops
-use Rattle.box_top.specs.Told.{Told, Untold, Gives, Refuses, told_then, text_told, IsGiven, IsRefused, IsNotRefused, StopsAt}
-use Rattle.box_top.specs.Runs.{Held, HasScriptFault, scripts_told}
+use Rattle.box_top.specs.Told.{Held, Told, Untold, Gives, Refuses, told_then, text_told, IsGiven, IsRefused, IsNotRefused, StopsAt}
+use Rattle.box_top.specs.Runs.{HasScriptFault, scripts_told}
 
 then_then : {A B C : Type 0} (t : Told A) (f : A → Told B) (g : B → Told C) → told_then (told_then t f) g ≡ told_then t (λ x. told_then (f x) g)
 then_then Untold f g = refl

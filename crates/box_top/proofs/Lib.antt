@@ -6,4 +6,6 @@ pub mod Turning
 pub mod SerialTurns
 pub mod Gathering
 pub mod Inputs
-pub mod Tops
+pub mod Cases
+pub mod Outcomes
+pub mod Headlines

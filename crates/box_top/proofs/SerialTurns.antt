@@ -12,6 +12,7 @@ use Rattle.line_law.specs.Law.{Done, MayCall, step}
 use Rattle.line_law.specs.Lines.{PlainState, IsLineOf}
 use Rattle.line_law.specs.Serial.{AreCalls, AreLeft, AreScripts, calls_left, count_left, go_on, call_next, next_box, serial_from, serial_journal}
 use Rattle.line_law.proofs.Left.{has_box, left_next, count_next, may_call, next_has, none_next}
+use Rattle.line_report.specs.Asked.{AreFew as AreFewEntries}
 use Rattle.script_text.specs.Scripts.{IsScriptOf, most_calls}
 use Rattle.script_text.specs.declared.script.Script.{Script}
 use Rattle.box_top.specs.Rosters.{AreFew, TakesCall, calls_of_scripts, head_of}
@@ -112,13 +113,16 @@ serial_short plan (suc n) state left = goes (λ after rest. serial_short plan n 
   goes short None = omega arith
   goes short (Some b) = calls short b (calls_left left b)
 
--- few entries in all
-pub entries_few : (plan : PlanFields) (scripts : List Script) → IsPlan plan → AreScriptsOf plan scripts → length (serial_journal plan (calls_of_scripts scripts)) < 10 ^ 10
+-- few entries in all: a line can count them, and print each
+pub entries_few : (plan : PlanFields) (scripts : List Script) → IsPlan plan → AreScriptsOf plan scripts → AreFewEntries (serial_journal plan (calls_of_scripts scripts))
 unfolding serial_journal
 entries_few plan scripts is h =
     let few = calls_few plan scripts is h in
     let short = serial_short plan (count_left (calls_of_scripts scripts)) (opening_state plan) (calls_of_scripts scripts) in
     omega (arith, few, short)
+
+pub entries_short : (plan : PlanFields) (scripts : List Script) → IsPlan plan → AreScriptsOf plan scripts → length (serial_journal plan (calls_of_scripts scripts)) < 10 ^ 10
+entries_short plan scripts is h = omega (arith, entries_few plan scripts is h)
 
 -- the start of the run
 pub begins : (plan : PlanFields) (scripts : List (List Call)) → rest_of plan (opening_state plan) scripts ≡ serial_journal plan scripts

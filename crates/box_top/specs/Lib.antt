@@ -1,9 +1,13 @@
-pub mod Command
 pub mod Told
 pub mod Fetches
+pub mod Commands
 pub mod Rosters
 pub mod Looks
 pub mod Serial
 pub mod Statuses
+pub mod Outputs
 pub mod Runs
+pub mod Judgements
+pub mod Outcomes
 pub mod Top
+pub mod Headlines

@@ -1,25 +1,17 @@
 -- What `run` makes of the texts that its words name.
-use Rattle.std.specs.Prelude.{◌≡◌, ℕ, ◌+◌, ◌<◌, zero, suc, ◌==◌, List, [], ◌∷◌, ◌++◌, length, take, get_or, Option, Some, None, IsSome, All, if◌then◌else◌}
+use Rattle.std.specs.Prelude.{◌≡◌, ℕ, ◌+◌, ◌<◌, zero, suc, ◌==◌, List, [], ◌∷◌, ◌++◌, length, take, get_or, if◌then◌else◌}
 use Rattle.rail_text.specs.Causes.{Rose}
 use Rattle.rail_text.specs.declared.cause.Cause.TheVariants as causes
 use Rattle.line_plan.specs.Plans.{PlanFields}
 use Rattle.line_plan.specs.Reading.{plan_of}
 use Rattle.line_law.specs.declared.call.Entry.{Entry}
 use Rattle.line_law.specs.Serial.{serial_journal}
-use Rattle.line_report.specs.Journals.{journal_text}
 use Rattle.script_text.specs.Scripts.{script_of}
 use Rattle.script_text.specs.declared.script.Script.{Script}
+use Rattle.box_top.specs.Outputs.{output_text}
 use Rattle.box_top.specs.Rosters.{calls_of_scripts}
 use Rattle.box_top.specs.Serial.{AreScriptsOf}
-use Rattle.box_top.specs.Told.{Told, Untold, Gives, Refuses, told_then, text_told, IsNotRefused}
-
--- what a shelf holds, by name, where it tells it
-abbrev pub Held : Type 0
-Held = List ℕ → Option (List ℕ)
-
--- the shelf tells the text of each of these names
-abbrev pub AreTold : Held → List (List ℕ) → Type 0
-AreTold held names = All (λ name. IsSome (held name)) names
+use Rattle.box_top.specs.Told.{Held, Told, Gives, Refuses, told_then, text_told, IsNotRefused}
 
 -- the scripts of these names behind those that are read; the script of box b is text b + 2
 abbrev pub scripts_told : Held → PlanFields → List Script → List (List ℕ) → Told (List Script)
@@ -37,20 +29,27 @@ pub record Run : Type 0 where
   pub scripts : List Script
 
 -- in the order of fetching: the plan, the number of scripts, then each script
-abbrev pub run_told : Held → List (List ℕ) → Told Run
-run_told held [] = Untold
-run_told held (name ∷ names) =
-    told_then (text_told 1 plan_of (held name)) (λ plan.
+abbrev pub run_told : Held → List ℕ → List (List ℕ) → Told Run
+run_told held plan_name names =
+    told_then (text_told 1 plan_of (held plan_name)) (λ plan.
     told_then (count_told plan (length names)) (λ counted.
     told_then (scripts_told held plan [] names) (λ scripts. Gives (record { plan = plan; scripts = scripts }))))
 
+-- what is told before text k of a run, from 0, is fetched: the plan, the number of scripts, and the scripts up to there
+abbrev pub run_told_before : Held → List ℕ → List (List ℕ) → ℕ → Told (Unit {0})
+run_told_before held plan_name names zero = Gives tt
+run_told_before held plan_name names (suc k) =
+    told_then (text_told 1 plan_of (held plan_name)) (λ plan.
+    told_then (count_told plan (length names)) (λ counted.
+    told_then (scripts_told held plan [] (take k names)) (λ scripts. Gives tt)))
+
 -- the journal of a run: its scripts' calls, one at a time on one thread
-abbrev pub journal_of : Run → List Entry
-journal_of run = serial_journal run.plan (calls_of_scripts run.scripts)
+abbrev pub run_journal : Run → List Entry
+run_journal run = serial_journal run.plan (calls_of_scripts run.scripts)
 
 -- the text that is printed of a run
 abbrev pub output_of : Run → List ℕ
-output_of run = journal_text run.plan (journal_of run)
+output_of run = output_text run.plan (run_journal run)
 
 -- the scripts of a run that is told are scripts of its line
 abbrev pub AreWorked : Told Run → Type 0
@@ -62,24 +61,3 @@ pub record HasScriptFault (held : Held) (before now : List ℕ → ℕ) (plan : 
   pub within : place < length names
   pub rose : Rose (before (get_or names place [])) (now (get_or names place []))
   pub free : IsNotRefused (scripts_told held plan [] (take place names))
-
--- what is told before the text of name k, from 0, is fetched: the plan, the number of scripts, and the scripts up to there
-abbrev pub told_before : Held → List (List ℕ) → ℕ → Told (Unit {0})
-told_before held names zero = Gives tt
-told_before held [] (suc k) = Gives tt
-told_before held (name ∷ names) (suc k) =
-    told_then (text_told 1 plan_of (held name)) (λ plan.
-    told_then (count_told plan (length names)) (λ counted.
-    told_then (scripts_told held plan [] (take k names)) (λ scripts. Gives tt)))
-
--- the count of some named text rose, and nothing before the fetch of that text is refused
-pub record HasShelfFault (held : Held) (before now : List ℕ → ℕ) (names : List (List ℕ)) : Type 0 where
-  pub place : ℕ
-  pub within : place < length names
-  pub rose : Rose (before (get_or names place [])) (now (get_or names place []))
-  pub free : IsNotRefused (told_before held names place)
-
--- the count of no text that the words name rose
-abbrev pub NoneRose : (List ℕ → ℕ) → (List ℕ → ℕ) → Option (List (List ℕ)) → Type 0
-NoneRose before now None = Unit {0}
-NoneRose before now (Some names) = All (λ name. ¬ Rose (before name) (now name)) names

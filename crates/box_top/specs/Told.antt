@@ -1,8 +1,16 @@
 -- What comes of texts that a shelf may tell.
-use Rattle.std.specs.Prelude.{◌≡◌, ℕ, List, Option, Some, None, Result, Ok, Err}
+use Rattle.std.specs.Prelude.{◌≡◌, ℕ, List, Option, Some, None, IsSome, All, Result, Ok, Err}
 use Rattle.rail_text.specs.Gives.{Fault}
 use Rattle.box_top.specs.declared.stop.Stop.{Stop}
 use Rattle.box_top.specs.declared.stop.Stop.TheVariants as stops
+
+-- what a shelf holds, by name, where it tells it
+abbrev pub Held : Type 0
+Held = List ℕ → Option (List ℕ)
+
+-- the shelf tells the text of each of these names
+abbrev pub AreTold : Held → List (List ℕ) → Type 0
+AreTold held names = All (λ name. IsSome (held name)) names
 
 -- Untold: a text that is needed isn't told by the shelf; Gives: all are told, and this comes of them; Refuses: text n has a fault
 pub data Told (A : Type 0) : Type 0 where

@@ -3,7 +3,26 @@
 ghost use Rattle.std.specs.Prelude.{◌≡◌, string_bytes};
 ghost use Rattle.std.specs.List.{list_all};
 ghost use Rattle.std.specs.Option.{option_map};
-ghost use Rattle.box_top.specs.Command.{bytes_of, is_run, is_text_word, names_in};
+ghost use Rattle.box_top.specs.Commands.{bytes_of, command_of, desk_command_of, desk_shown, is_text_word, judge_in, run_in, shown};
+
+/// A command that the desk serves: it works no line.
+#[derive(Clone, Copy, Debug)]
+pub enum DeskCommand<'a> {
+    /// `judge PLAN JOURNAL`: a journal of the plan's line is judged.
+    Judge { plan: &'a str, journal: &'a str },
+}
+
+/// What the words of a command line ask for, with the names of the texts.
+#[derive(Clone, Copy, Debug)]
+pub enum CommandLine<'a> {
+    /// `run PLAN SCRIPT..`: the plan's line is worked by one script or more.
+    Run {
+        plan: &'a str,
+        scripts: &'a [String],
+    },
+    /// A command of the desk.
+    Desk(DeskCommand<'a>),
+}
 
 // A word that may name a text: not empty, and without a hyphen in front.
 fn is_text_word(word: &str) -> bool
@@ -21,20 +40,68 @@ fn are_text_words(words: &[String]) -> bool
     words.iter().all(|word| is_text_word(word.as_str()))
 }
 
-// `run`, and the names of a plan and of at least one script.
+// The plan and the scripts of `run`, of which there is at least one.
 #[tactic(auto, using(crate::proofs::WordRules::word_rules))]
-fn is_run(command: &str, names: &[String]) -> bool
-    ensures { result ≡ is_run command.now (bytes_of names.now) }
+fn run_in(names: &[String]) -> Option<CommandLine<'_>>
+    ensures { option_map shown result ≡ run_in (bytes_of names.now) }
 {
-    command == "run" && names.len() >= 2 && are_text_words(names)
+    let [plan, scripts @ ..] = names else {
+        return None;
+    };
+    if !scripts.is_empty() && are_text_words(names) {
+        Some(CommandLine::Run {
+            plan: plan.as_str(),
+            scripts,
+        })
+    } else {
+        None
+    }
 }
 
-/// The names of the plan and the scripts, where the words are `run PLAN SCRIPT..`, with at least one script.
-pub fn names_in(words: &[String]) -> Option<&[String]>
-    ensures { option_map (λ names. bytes_of names.now) result ≡ names_in (bytes_of words.now) }
+// The plan and the journal of `judge`.
+#[tactic(auto, using(crate::proofs::WordRules::word_rules))]
+fn judge_in(names: &[String]) -> Option<CommandLine<'_>>
+    ensures { option_map shown result ≡ judge_in (bytes_of names.now) }
 {
-    match words {
-        [command, names @ ..] if is_run(command.as_str(), names) => Some(names),
-        _ => None,
+    let [plan, journal] = names else {
+        return None;
+    };
+    if are_text_words(names) {
+        Some(CommandLine::Desk(DeskCommand::Judge {
+            plan: plan.as_str(),
+            journal: journal.as_str(),
+        }))
+    } else {
+        None
+    }
+}
+
+/// The command of these words, if they are of the table: `run PLAN SCRIPT..`, with one script or more, or `judge PLAN
+/// JOURNAL`. No name of a text is empty or begins with `-`.
+#[tactic(auto, unfolding(crate::specs::Commands::command_of))]
+pub fn command_of(words: &[String]) -> Option<CommandLine<'_>>
+    ensures { option_map shown result ≡ command_of (bytes_of words.now) }
+{
+    let [first, names @ ..] = words else {
+        return None;
+    };
+    if first.as_str() == "run" {
+        run_in(names)
+    } else if first.as_str() == "judge" {
+        judge_in(names)
+    } else {
+        None
+    }
+}
+
+/// The command of these words, if the desk serves it: every command but `run`.
+#[tactic(auto, unfolding(crate::specs::Commands::desk_command_of))]
+pub fn desk_command_of(words: &[String]) -> Option<DeskCommand<'_>>
+    ensures { option_map desk_shown result ≡ desk_command_of (bytes_of words.now) }
+{
+    match command_of(words) {
+        Some(CommandLine::Desk(command)) => Some(command),
+        Some(CommandLine::Run { .. }) => None,
+        None => None,
     }
 }

@@ -1,15 +1,20 @@
 //! A text that is fetched and read.
 
-ghost use Rattle.std.specs.Prelude.{◌≡◌, ℕ, ◌+◌, ◌≤◌, ◌<◌, ◌^◌, List, IfOk, IfErr, IfSome, IsErrOf, length, take};
+ghost use Rattle.std.specs.Prelude.{◌≡◌, ℕ, ◌+◌, ◌≤◌, ◌<◌, ◌^◌, List, IfOk, IfErr, IfSome, IsErrOf, length, take, All};
 ghost use Rattle.rail_text.specs.Causes.{Rose};
 ghost use Rattle.line_plan.specs.Plans.{IsPlan};
 ghost use Rattle.line_plan.specs.Reading.{plan_of};
+ghost use Rattle.line_report.specs.Asked.{AreAsked, AreFew};
+ghost use Rattle.line_report.specs.Reading.{journal_of};
 ghost use Rattle.script_text.specs.Scripts.{IsScriptOf, script_of};
+ghost use Rattle.script_text.specs.Told.{IsSpelled};
 ghost use Rattle.box_top.specs.Told.{Makes, text_told};
 ghost use Rattle.box_top.specs.Fetches.{IsNoRefusal, IsStopOf};
 
 use crate::stop::Stop;
+use line_law::Journal;
 use line_plan::{PLAN_LIMIT, Plan, read_plan};
+use line_report::{most_journal_bytes, read_journal};
 use rail_text::{FetchFault, ReadError, Shelf};
 use script_text::{SCRIPT_LIMIT, Script, read_script};
 use std::alloc::Global;
@@ -79,5 +84,27 @@ pub fn fetch_script<S: Shelf>(
     match read_script(alloc, plan, box_no, &bytes) {
         Ok(script) => Ok(script),
         Err(error) => Err(stop_of(box_no + 2, error)),
+    }
+}
+
+/// The journal of a plan's line under a name, as the second text.
+pub fn fetch_journal<S: Shelf>(
+    alloc: Global,
+    shelf: &mut S,
+    plan: &Plan,
+    name: &str,
+) -> Result<Journal, Stop>
+    ensures journal { Makes (λ journal. journal.entries) result (text_told 2 (journal_of plan.now) (S.held shelf.old name.now)) }
+    ensures asked { IfOk result (λ journal. AreAsked plan.now journal.entries) }
+    ensures few { IfOk result (λ journal. AreFew journal.entries) }
+    ensures spelled { IfOk result (λ journal. All (IsSpelled plan.now) journal.entries) }
+    ensures fault { IsErrOf result Stop.ShelfFault → Rose (S.faults shelf.old name.now) (S.faults shelf.new name.now) }
+    ensures same { (n : List ℕ) → S.held shelf.new n ≡ S.held shelf.old n }
+    ensures later { (n : List ℕ) → S.faults shelf.old n ≤ S.faults shelf.new n }
+{
+    let bytes = fetch_bytes(alloc, shelf, name, most_journal_bytes(plan.version))?;
+    match read_journal(alloc, plan, &bytes) {
+        Ok(journal) => Ok(journal),
+        Err(error) => Err(stop_of(2, error)),
     }
 }

@@ -1,10 +1,11 @@
 //! The plan and the scripts of a run, fetched in their order.
 
 ghost use Rattle.std.specs.Prelude.{◌≡◌, ℕ, ◌+◌, ◌≤◌, ◌<◌, List, [], IfOk, IsErrOf, length};
-ghost use Rattle.box_top.specs.Command.{bytes_of};
-ghost use Rattle.box_top.specs.Told.{Makes};
-ghost use Rattle.box_top.specs.Runs.{HasScriptFault, HasShelfFault, run_told, scripts_told};
+ghost use Rattle.box_top.specs.Commands.{Command, bytes_of};
+ghost use Rattle.box_top.specs.Outcomes.{HasShelfFault};
+ghost use Rattle.box_top.specs.Runs.{HasScriptFault, run_told, scripts_told};
 ghost use Rattle.box_top.specs.Serial.{AreScriptsOf};
+ghost use Rattle.box_top.specs.Told.{Makes};
 
 use crate::fetch::{fetch_plan, fetch_script};
 use crate::stop::Stop;
@@ -47,21 +48,20 @@ fn fetch_scripts<S: Shelf>(
     Ok(scripts)
 }
 
-/// The plan of the first name, and a script of each further name. The first of these that is wrong decides: the plan's
-/// text, the number of scripts, then each script's text.
+/// The plan and the scripts of these names. The first of these that is wrong decides: the plan's text, the number of
+/// scripts, then each script's text.
 pub fn fetch_inputs<S: Shelf>(
     alloc: Global,
     shelf: &mut S,
-    names: &[String],
+    plan_name: &str,
+    script_names: &[String],
 ) -> Result<Inputs, Stop>
-    requires { 1 ≤ length names.now }
-    ensures told { Makes (λ inputs. record { plan = inputs.plan; scripts = inputs.scripts.items }) result (run_told (S.held shelf.old) (bytes_of names.now)) }
+    ensures told { Makes (λ inputs. record { plan = inputs.plan; scripts = inputs.scripts.items }) result (run_told (S.held shelf.old) plan_name.now (bytes_of script_names.now)) }
     ensures own { IfOk result (λ inputs. AreScriptsOf inputs.plan inputs.scripts.items) }
-    ensures fault { IsErrOf result Stop.ShelfFault → HasShelfFault (S.held shelf.old) (S.faults shelf.old) (S.faults shelf.new) (bytes_of names.now) }
+    ensures fault { IsErrOf result Stop.ShelfFault → HasShelfFault (S.held shelf.old) (S.faults shelf.old) (S.faults shelf.new) (Command.Run plan_name.now (bytes_of script_names.now)) }
     ensures same { (n : List ℕ) → S.held shelf.new n ≡ S.held shelf.old n }
 {
-    let plan = fetch_plan(alloc, shelf, names[0].as_str())?;
-    let script_names = &names[1..];
+    let plan = fetch_plan(alloc, shelf, plan_name)?;
     if script_names.len() != plan.boxes.len() {
         return Err(Stop::Refused {
             text: 1,

@@ -2,18 +2,22 @@
 #![tactic(auto)]
 
 mod command;
-mod compose;
+mod desk;
 mod fetch;
 mod gate;
 mod gather;
+mod judging;
 mod look;
+mod put;
 mod roster;
+mod run;
 mod serial;
 mod status;
 mod stop;
 mod top;
 mod turns;
 
+pub use desk::desk_top;
 pub use gate::{Gate, OpenGate};
 pub use status::Status;
 pub use top::box_top;

@@ -1,42 +1,42 @@
 //! The top call.
 
-ghost use Rattle.std.specs.Prelude.{◌≡◌, ◌≢◌, ℕ, List, None, string_bytes, IfOk};
+ghost use Rattle.std.specs.Prelude.{◌≡◌, ℕ, List, ◌∷◌, Some, None};
 ghost use Rattle.rail_text.specs.Causes.{Rose};
-ghost use Rattle.box_top.specs.Command.{bytes_of, names_in};
-ghost use Rattle.box_top.specs.Runs.{NoneRose};
-ghost use Rattle.box_top.specs.Top.{Completes, Headline, Printed, PutText, ShelfCause, refused_line};
+ghost use Rattle.box_top.specs.Commands.{Command, bytes_of, command_of};
+ghost use Rattle.box_top.specs.Headlines.{Headline, Judged};
+ghost use Rattle.box_top.specs.Outcomes.{HasShelfFault, NoneRose};
+ghost use Rattle.box_top.specs.Top.{Completes, Printed, ShelfCause};
 
-use crate::command::names_in;
-use crate::compose::compose;
+use crate::command::{CommandLine, command_of};
+use crate::desk::serve_desk;
 use crate::gate::Gate;
+use crate::put::{WORDS_LINE, put_outcome, put_text};
+use crate::run::run_outcome;
 use crate::status::Status;
-use crate::stop::Stop;
-use rail_text::{Cause, Shelf, Sink, SinkFault, cause_text, put_all};
-use std::alloc::{AllocError, Global};
+use rail_text::{Shelf, Sink};
+use std::alloc::Global;
 use std::sync::Wait;
 use std::thread::Threads;
 
-// The line that is printed of a refused text.
-#[tactic(auto, unfolding(crate::specs::Top::refused_line))]
-fn refused_line(alloc: Global, text: u32, line: u32, cause: Cause) -> Result<String, AllocError>
-    ensures { IfOk result (λ s. string_bytes s ≡ refused_line text (record { line = line; cause = cause })) }
+// Runs the scripts of a plan, on this thread.
+fn serve_run<S: Shelf, K: Sink, G: Gate>(
+    alloc: Global,
+    plan: &str,
+    scripts: &[String],
+    shelf: &mut S,
+    out: &mut K,
+    gate: &G,
+) -> Status
+    ensures printed { Printed (S.held shelf.old) (Some (Command.Run plan.now (bytes_of scripts.now))) (K.taken out.old) (K.taken out.new) result }
+    ensures headline { result ≡ Status.Done → Headline (S.held shelf.old) (Some (Command.Run plan.now (bytes_of scripts.now))) (K.taken out.old) (K.taken out.new) }
+    ensures sink { result ≡ Status.SinkFault → Rose (K.faults out.old) (K.faults out.new) }
+    ensures shelf { result ≡ Status.ShelfFault → HasShelfFault (S.held shelf.old) (S.faults shelf.old) (S.faults shelf.new) (Command.Run plan.now (bytes_of scripts.now)) }
+    ensures not_fetched { result ≡ Status.ShelfFault → out.new ≡ out.old }
+    ensures no_memory { result ≡ Status.NoMemory → out.new ≡ out.old }
+    ensures same { (n : List ℕ) → S.held shelf.new n ≡ S.held shelf.old n }
 {
-    let mut out = format!(in alloc; "refused text {text} line {line}: ")?;
-    out.push_str(cause_text(cause))?;
-    out.push_str("\n")?;
-    Ok(out)
-}
-
-// Puts the text, and answers the status, or that the sink failed.
-fn put_text<K: Sink>(out: &mut K, text: &[u8], status: Status) -> Status
-    requires { status ≢ Status.SinkFault }
-    ensures took { PutText (K.taken out.old) (K.taken out.new) text.now status result }
-    ensures cause { result ≡ Status.SinkFault → Rose (K.faults out.old) (K.faults out.new) }
-{
-    match put_all(out, text) {
-        Ok(()) => status,
-        Err(SinkFault::Failed) => Status::SinkFault,
-    }
+    let outcome = run_outcome(alloc, shelf, plan, scripts, gate);
+    put_outcome(alloc, out, outcome)
 }
 
 // Does what the words say, on this thread.
@@ -47,36 +47,35 @@ fn serve<S: Shelf, K: Sink, G: Gate>(
     out: &mut K,
     gate: &G,
 ) -> Status
-    ensures printed { Printed (S.held shelf.old) (names_in (bytes_of words.now)) (K.taken out.old) (K.taken out.new) result }
-    ensures headline { result ≡ Status.Done → Headline (S.held shelf.old) (names_in (bytes_of words.now)) (K.taken out.old) (K.taken out.new) }
+    ensures printed { Printed (S.held shelf.old) (command_of (bytes_of words.now)) (K.taken out.old) (K.taken out.new) result }
+    ensures headline { result ≡ Status.Done → Headline (S.held shelf.old) (command_of (bytes_of words.now)) (K.taken out.old) (K.taken out.new) }
+    ensures judged { result ≡ Status.Done → Judged (S.held shelf.old) (command_of (bytes_of words.now)) (K.taken out.old) (K.taken out.new) }
     ensures sink { result ≡ Status.SinkFault → Rose (K.faults out.old) (K.faults out.new) }
-    ensures shelf { result ≡ Status.ShelfFault → ShelfCause (S.held shelf.old) (S.faults shelf.old) (S.faults shelf.new) (names_in (bytes_of words.now)) }
+    ensures shelf { result ≡ Status.ShelfFault → ShelfCause (S.held shelf.old) (S.faults shelf.old) (S.faults shelf.new) (command_of (bytes_of words.now)) }
     ensures not_fetched { result ≡ Status.ShelfFault → out.new ≡ out.old }
     ensures no_memory { result ≡ Status.NoMemory → out.new ≡ out.old }
-    ensures not_asked { names_in (bytes_of words.now) ≡ None → shelf.new ≡ shelf.old }
+    ensures not_asked { command_of (bytes_of words.now) ≡ None → shelf.new ≡ shelf.old }
     ensures same { (n : List ℕ) → S.held shelf.new n ≡ S.held shelf.old n }
 {
-    let Some(names) = names_in(words) else {
-        return put_text(out, b"words not understood\n", Status::Words);
-    };
-    match compose(alloc, shelf, names, gate) {
-        Ok(text) => put_text(out, &text, Status::Done),
-        Err(Stop::ShelfFault) => Status::ShelfFault,
-        Err(Stop::NoMemory) => Status::NoMemory,
-        Err(Stop::Refused { text, line, cause }) => match refused_line(alloc, text, line, cause) {
-            Ok(line) => put_text(out, line.as_bytes(), Status::Refused),
-            Err(AllocError) => Status::NoMemory,
-        },
+    match command_of(words) {
+        Some(CommandLine::Run { plan, scripts }) => {
+            serve_run(alloc, plan, scripts, shelf, out, gate)
+        }
+        Some(CommandLine::Desk(command)) => serve_desk(alloc, command, shelf, out),
+        None => put_text(out, WORDS_LINE, Status::Words),
     }
 }
 
-/// Does what the words of a command line say, those behind the program's name: `run PLAN SCRIPT..` fetches the plan and
-/// one script for each of its boxes, in box order, works the scripts, each call behind the gate, and puts the journal.
+/// Does what the words of a command line say, those behind the program's name. `run PLAN SCRIPT..` fetches the plan and
+/// one script for each of its boxes, in box order, works the scripts, each call behind the gate, and puts the whole output:
+/// the journal, the register of each box, the refused calls, and the most trains that each section held. Every other
+/// command is done as `desk_top` does it.
 ///
-/// - `Done`: the journal is put. It is one legal history of the line, and has exactly each script's calls, in order.
+/// - `Done`: what the command prints is put. The journal of a run is one legal history of the line, and has exactly each
+///   script's calls, in order.
 /// - `Words`: the words are no command. Nothing is asked of the shelf, and `words not understood` is put.
 /// - `Refused`: `refused text T line L: CAUSE` is put, for what is wrong first in the order of fetching: the plan as text
-///   1, then at its line 0 the number of scripts, then each script, from text 2 on.
+///   1, then for a run at its line 0 the number of scripts, then each script or the journal, from text 2 on.
 /// - `ShelfFault`: the fetch of a text that the words name failed, and nothing before it is refused. Nothing is put.
 /// - `SinkFault`: the sink failed, and took only a front part of what was to be put.
 /// - `NoMemory`: memory ran out. Nothing is put, since the whole output is built first.
@@ -88,15 +87,16 @@ pub fn box_top<R: Threads + Wait + Sync, S: Shelf, K: Sink, G: Gate>(
     out: &mut K,
     gate: &G,
 ) -> Status
-    ensures printed { Printed (S.held shelf.old) (names_in (bytes_of words.now)) (K.taken out.old) (K.taken out.new) result }
-    ensures headline { result ≡ Status.Done → Headline (S.held shelf.old) (names_in (bytes_of words.now)) (K.taken out.old) (K.taken out.new) }
-    ensures complete { NoneRose (S.faults shelf.old) (S.faults shelf.new) (names_in (bytes_of words.now)) → ¬ Rose (K.faults out.old) (K.faults out.new)
-        → Completes (S.held shelf.old) (names_in (bytes_of words.now)) (K.taken out.old) (K.taken out.new) result }
+    ensures printed { Printed (S.held shelf.old) (command_of (bytes_of words.now)) (K.taken out.old) (K.taken out.new) result }
+    ensures headline { result ≡ Status.Done → Headline (S.held shelf.old) (command_of (bytes_of words.now)) (K.taken out.old) (K.taken out.new) }
+    ensures judged { result ≡ Status.Done → Judged (S.held shelf.old) (command_of (bytes_of words.now)) (K.taken out.old) (K.taken out.new) }
+    ensures complete { NoneRose (S.faults shelf.old) (S.faults shelf.new) (command_of (bytes_of words.now)) → ¬ Rose (K.faults out.old) (K.faults out.new)
+        → Completes (S.held shelf.old) (command_of (bytes_of words.now)) (K.taken out.old) (K.taken out.new) result }
     ensures sink { result ≡ Status.SinkFault → Rose (K.faults out.old) (K.faults out.new) }
-    ensures shelf { result ≡ Status.ShelfFault → ShelfCause (S.held shelf.old) (S.faults shelf.old) (S.faults shelf.new) (names_in (bytes_of words.now)) }
+    ensures shelf { result ≡ Status.ShelfFault → ShelfCause (S.held shelf.old) (S.faults shelf.old) (S.faults shelf.new) (command_of (bytes_of words.now)) }
     ensures not_fetched { result ≡ Status.ShelfFault → out.new ≡ out.old }
     ensures no_memory { result ≡ Status.NoMemory → out.new ≡ out.old }
-    ensures not_asked { names_in (bytes_of words.now) ≡ None → shelf.new ≡ shelf.old }
+    ensures not_asked { command_of (bytes_of words.now) ≡ None → shelf.new ≡ shelf.old }
     ensures same { (n : List ℕ) → S.held shelf.new n ≡ S.held shelf.old n }
 {
     // The scripts are worked on this thread, so nothing is started or waited for.

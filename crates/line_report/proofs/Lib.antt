@@ -1,3 +1,16 @@
 pub mod Entries
 pub mod Spellings
 pub mod Histories
+pub mod Arrows
+pub mod Boxes
+pub mod ReplyLengths
+pub mod AskedEntries
+pub mod PlainWords
+pub mod EntryLines
+pub mod JournalTexts
+pub mod Refused
+pub mod Turns
+pub mod MostTrains
+pub mod PairsHeld
+pub mod PairTexts
+pub mod Verdicts

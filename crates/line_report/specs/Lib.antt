@@ -1,1 +1,10 @@
 pub mod Journals
+pub mod Refusals
+pub mod Sections
+pub mod Between
+pub mod Asked
+pub mod Verdicts
+pub mod Drafts
+pub mod Arrows
+pub mod Reading
+pub mod Spelled

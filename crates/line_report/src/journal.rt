@@ -1,12 +1,13 @@
 //! The printed journal.
 
 ghost use Rattle.std.specs.Prelude.{◌≡◌, ◌++◌, All, IfOk, OnOk, string_bytes};
-ghost use Rattle.line_report.specs.Journals.{IsSpelled, entry_text, entries_text, journal_text};
+ghost use Rattle.script_text.specs.Told.{IsSpelled};
+ghost use Rattle.line_report.specs.Journals.{entry_text, entries_text, journal_text};
 
 use line_law::{Entry, Journal};
 use line_plan::Plan;
 use rail_text::NoMemory;
-use script_text::{put_call, put_reply};
+use script_text::put_told;
 use std::alloc::{AllocError, Global};
 use std::fmt::Write;
 
@@ -25,9 +26,7 @@ pub fn put_entry(
     write!(out, "{number} ")?;
     out.push_str(plan.box_name(entry.box_no))?;
     out.push_str(" ")?;
-    put_call(out, plan, entry.box_no, &entry.call)?;
-    out.push_str(" -> ")?;
-    put_reply(out, plan, entry.box_no, &entry.reply)?;
+    put_told(out, plan, entry)?;
     out.push_str("\n")
 }
 
@@ -42,9 +41,10 @@ fn put_entries(out: &mut String, plan: &Plan, entries: &[Entry]) -> Result<(), A
     Ok(())
 }
 
-// The whole journal, from its first line to its end.
+/// Puts the whole journal behind a text, from its first line to its end. Each entry is one that the line can spell. Where
+/// memory runs out a part may stand behind the text.
 #[tactic(auto, unfolding(crate::specs::Journals::journal_text))]
-fn put_journal(out: &mut String, plan: &Plan, journal: &Journal) -> Result<(), AllocError>
+pub fn put_journal(out: &mut String, plan: &Plan, journal: &Journal) -> Result<(), AllocError>
     requires { All (IsSpelled plan.now) journal.now.entries }
     ensures { OnOk result (string_bytes out.new ≡ string_bytes out.old ++ journal_text plan.now journal.now.entries) }
 {

@@ -1,13 +1,26 @@
-//! What is told of a line after it was worked: its journal as a text.
+//! What is told of a line after it was worked: its journal as a text, printed and read; which calls were refused, the most
+//! trains that each section held, and whether a journal keeps the law.
 #![tactic(auto)]
 
+mod entry_line;
 mod journal;
+mod journal_draft;
+mod judging;
 mod laws;
-mod spelled;
+mod reading;
+mod refusals;
+mod sections;
 
-pub use journal::{print_journal, put_entry};
-pub use laws::histories_can_be_printed;
-pub use spelled::is_spelled;
+pub use journal::{print_journal, put_entry, put_journal};
+pub use judging::{Verdict, judge, may_judge, print_verdict};
+pub use laws::{histories_can_be_printed, most_trains_law, verdict_law};
+pub use reading::{journals_law, most_journal_bytes, read_journal};
+pub use refusals::{is_refused, put_refusals};
+pub use sections::{most_trains, put_sections};
 
+#[cfg(test)]
+mod judge_tests;
+#[cfg(test)]
+mod read_tests;
 #[cfg(test)]
 mod tests;

@@ -1,13 +1,14 @@
 //! Printed journals, byte for byte.
 
 ghost use Rattle.std.specs.Prelude.{◌↔◌, All, IsTrue};
-ghost use Rattle.line_report.specs.Journals.{IsSpelled};
+ghost use Rattle.script_text.specs.Told.{IsSpelled};
 
 use super::*;
-use bell_codes::{CALL_ATTENTION, CodeNo, EXPRESS, TESTING};
-use block_words::{Way, WelwynState};
+use bell_codes::{CALL_ATTENTION, CodeNo, EXPRESS};
+use block_words::Way;
 use line_law::{Act, Call, Entry, Journal, Reply};
 use line_plan::{Items, Plan, read_plan};
+use script_text::is_spelled;
 use std::alloc::Global;
 use std::process::Abort;
 use std::test::Fail;
@@ -185,95 +186,6 @@ fn entry_stands_behind_a_text(rt: HostRuntime) -> Result<(), Fail> {
         text.as_str(),
         "refusals 1\n2 Ash 10:00 ring down 4 -> bell_busy 1 1\n"
     );
-    Ok(())
-}
-
-#[test]
-fn entries_off_the_line_are_not_spelled(rt: HostRuntime) -> Result<(), Fail> {
-    let plan = read_plan(rt.alloc(), IN_MINUTES.as_bytes())?;
-    let up = Act::Hear { side: Way::Up };
-    let silent = Reply::Silent { k: 0 };
-    let table = [
-        (entry(BEECH, TEN, up, silent), true),
-        // No such box, no neighbour on that side, no moment of a day.
-        (entry(2, TEN, up, silent), false),
-        (entry(ASH, TEN, up, silent), false),
-        (entry(BEECH, 1440, up, silent), false),
-        // Codes of a call and of replies: the last of the table, and those before its first and after its last.
-        (
-            entry(BEECH, TEN, ring(Way::Up, 11), Reply::Rung { k: 1 }),
-            false,
-        ),
-        (
-            entry(
-                BEECH,
-                TEN,
-                up,
-                Reply::Heard {
-                    k: 1,
-                    code: TESTING,
-                },
-            ),
-            true,
-        ),
-        (entry(BEECH, TEN, up, Reply::Heard { k: 1, code: 0 }), false),
-        (
-            entry(BEECH, TEN, up, Reply::Heard { k: 1, code: 11 }),
-            false,
-        ),
-        (
-            entry(
-                BEECH,
-                TEN,
-                ring(Way::Up, 1),
-                Reply::BellBusy { k: 1, code: 11 },
-            ),
-            false,
-        ),
-        (
-            entry(
-                BEECH,
-                TEN,
-                await_bell(Way::Up, 1),
-                Reply::BellNotYet {
-                    k: 1,
-                    shown: Some(11),
-                },
-            ),
-            false,
-        ),
-    ];
-    for (told, wanted) in table {
-        assert_eq!(rt; is_spelled(&plan, &told), wanted, "{told:?}");
-    }
     histories_can_be_printed();
-    Ok(())
-}
-
-#[test]
-fn replies_off_the_line_are_not_spelled(rt: HostRuntime) -> Result<(), Fail> {
-    let plan = read_plan(rt.alloc(), IN_MINUTES.as_bytes())?;
-    let up = Act::Hear { side: Way::Up };
-    let given = WelwynState::Given;
-    let ready = WelwynState::Ready;
-    let table = [
-        // The boxes have no places, levers and rows, and the line no trains.
-        (Reply::Passed { train: 1 }, false),
-        (Reply::Occupied { place: 0, train: 1 }, false),
-        (Reply::HomeReversed { lever: 1 }, false),
-        (Reply::HeldByLever { lever: 1, row: 1 }, false),
-        // Ready holds nothing back.
-        (Reply::WelwynHolds { state: given }, true),
-        (Reply::WelwynHolds { state: ready }, false),
-        // Counts of ten digits; moments of the day and of the hour behind it.
-        (Reply::Turned { v: 9_999_999_999 }, true),
-        (Reply::Turned { v: 10_000_000_000 }, false),
-        (Reply::Winding { ready_at: 1499 }, true),
-        (Reply::TooSoon { ready_at: 1500 }, false),
-    ];
-    for (reply, wanted) in table {
-        let told = entry(BEECH, TEN, up, reply);
-        assert_eq!(rt; is_spelled(&plan, &told), wanted, "{told:?}");
-    }
     Ok(())
 }

@@ -1,8 +1,14 @@
 //! Whole runs over texts and a sink in memory.
 
+mod bells;
+mod block;
 mod desk;
 mod faults;
 mod gates;
-mod journals;
+mod judged;
+mod levers;
+mod lines;
 mod refusals;
+mod through;
+mod trains;
 mod worked;

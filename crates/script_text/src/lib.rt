@@ -15,6 +15,7 @@ mod replies;
 mod rows;
 mod script;
 mod spelled;
+mod told;
 
 pub use answers::read_reply;
 pub use calls::{print_call, put_call, read_call};
@@ -26,8 +27,11 @@ pub use replies::{print_reply, put_reply};
 pub use rows::may_answer;
 pub use script::{MOST_CALLS, SCRIPT_LIMIT, Script};
 pub use spelled::is_spelled_reply;
+pub use told::{is_spelled, put_told};
 
 #[cfg(test)]
 mod reply_tests;
 #[cfg(test)]
 mod tests;
+#[cfg(test)]
+mod told_tests;

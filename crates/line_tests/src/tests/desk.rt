@@ -1,6 +1,6 @@
 //! A run over texts and a sink in memory.
 
-use box_top::{Gate, Status, box_top};
+use box_top::{Gate, Status, box_top, desk_top};
 use rail_text::{MemShelf, MemSink, NoMemory};
 use std::alloc::Global;
 use std::sync::Wait;
@@ -12,8 +12,16 @@ pub const RUN_TWO: &[&str] = &["run", "plan", "ash", "beech"];
 /// The words that run a plan of three boxes.
 pub const RUN_THREE: &[&str] = &["run", "plan", "ash", "beech", "cedar"];
 
-// The names under which the shelf holds its texts, in order.
-const NAMES: [&str; 4] = ["plan", "ash", "beech", "cedar"];
+/// The words that judge a journal.
+pub const JUDGE: &[&str] = &["judge", "plan", "journal"];
+
+/// A worked run: its words, the texts that they name, the entries of its journal, and its output.
+pub type Run = (
+    &'static [&'static str],
+    &'static [&'static [u8]],
+    u32,
+    &'static str,
+);
 
 /// A line of two boxes.
 pub const TWO_BOXES: &[u8] =
@@ -42,7 +50,7 @@ pub struct Outside {
 pub const SOUND: Outside = Outside {
     bad_fetch: None,
     bad_put: None,
-    room: 4096,
+    room: 16384,
 };
 
 /// The status of a run, and the bytes that its sink has taken.
@@ -68,9 +76,15 @@ fn fails_of(alloc: Global, call: Option<u64>) -> Result<Vec<u64>, NoMemory> {
     Ok(fails)
 }
 
-fn shelf_of(alloc: Global, texts: &[&[u8]], bad_fetch: Option<u64>) -> Result<MemShelf, NoMemory> {
+// The texts, each under the word that names it.
+fn shelf_of(
+    alloc: Global,
+    words: &[&str],
+    texts: &[&[u8]],
+    bad_fetch: Option<u64>,
+) -> Result<MemShelf, NoMemory> {
     let mut held = Vec::new(alloc);
-    for (name, text) in NAMES.iter().zip(texts) {
+    for (name, text) in words.iter().skip(1).zip(texts) {
         held.push((String::from_str(alloc, name)?, text.to_vec(alloc)?))?;
     }
     Ok(MemShelf::new(held, fails_of(alloc, bad_fetch)?))
@@ -88,7 +102,7 @@ fn answer_of(alloc: Global, status: Status, out: &MemSink) -> Result<Answer, NoM
     })
 }
 
-/// Does what the words say, over a shelf of these texts: `plan`, `ash`, `beech` and `cedar`, as many as are given.
+/// Does what the words say, over a shelf of the texts that the words behind the first name, as many as are given.
 pub fn work_behind<R: Threads + Wait + Sync, G: Gate>(
     rt: &R,
     alloc: Global,
@@ -97,9 +111,18 @@ pub fn work_behind<R: Threads + Wait + Sync, G: Gate>(
     outside: Outside,
     gate: &G,
 ) -> Result<Answer, NoMemory> {
+    let mut shelf = shelf_of(alloc, words, texts, outside.bad_fetch)?;
     let words = words_of(alloc, words)?;
-    let mut shelf = shelf_of(alloc, texts, outside.bad_fetch)?;
     let mut out = sink_of(alloc, outside)?;
     let status = box_top(rt, alloc, &words, &mut shelf, &mut out, gate);
+    answer_of(alloc, status, &out)
+}
+
+/// Does at the desk alone what the words say, over a shelf of the texts that the words behind the first name.
+pub fn serve_at_desk(alloc: Global, words: &[&str], texts: &[&[u8]]) -> Result<Answer, NoMemory> {
+    let mut shelf = shelf_of(alloc, words, texts, None)?;
+    let words = words_of(alloc, words)?;
+    let mut out = sink_of(alloc, SOUND)?;
+    let status = desk_top(alloc, &words, &mut shelf, &mut out);
     answer_of(alloc, status, &out)
 }

@@ -1,57 +1,95 @@
 //! Texts that can't be fetched, and output that can't be written.
 
-use crate::tests::desk::{ASH_IDLE, BEECH_IDLE, Outside, RUN_TWO, SOUND, TWO_BOXES, work_behind};
+use crate::tests::desk::{
+    ASH_IDLE, BEECH_IDLE, JUDGE, Outside, RUN_TWO, SOUND, TWO_BOXES, work_behind,
+};
 use box_top::{OpenGate, Status};
 use std::test::Fail;
 
-// A failed call of the shelf, the texts that are there, and the status.
-type Fetch = (Option<u64>, &'static [&'static [u8]], Status);
+const IDLE_JOURNAL: &[u8] = b"journal 1\nend\n";
 
-const FETCHES: [Fetch; 10] = [
+// The output of a run without a call.
+const IDLE: &[u8] = b"journal 1\nend\nregister Ash 0\nregister Beech 0\nrefusals 0\n\
+    section down Ash Beech most 0\nsection up Beech Ash most 0\n";
+
+// A failed call of the shelf, the words, the texts that are there, and the status.
+type Fetch = (
+    Option<u64>,
+    &'static [&'static str],
+    &'static [&'static [u8]],
+    Status,
+);
+
+const FETCHES: [Fetch; 14] = [
     (
         Some(1),
+        RUN_TWO,
         &[TWO_BOXES, ASH_IDLE, BEECH_IDLE],
         Status::ShelfFault,
     ),
     (
         Some(2),
+        RUN_TWO,
         &[TWO_BOXES, ASH_IDLE, BEECH_IDLE],
         Status::ShelfFault,
     ),
     (
         Some(3),
+        RUN_TWO,
         &[TWO_BOXES, ASH_IDLE, BEECH_IDLE],
         Status::ShelfFault,
     ),
     // There is no fourth call.
-    (Some(4), &[TWO_BOXES, ASH_IDLE, BEECH_IDLE], Status::Done),
+    (
+        Some(4),
+        RUN_TWO,
+        &[TWO_BOXES, ASH_IDLE, BEECH_IDLE],
+        Status::Done,
+    ),
     // A text is missing.
-    (None, &[], Status::ShelfFault),
-    (None, &[TWO_BOXES], Status::ShelfFault),
-    (None, &[TWO_BOXES, ASH_IDLE], Status::ShelfFault),
+    (None, RUN_TWO, &[], Status::ShelfFault),
+    (None, RUN_TWO, &[TWO_BOXES], Status::ShelfFault),
+    (None, RUN_TWO, &[TWO_BOXES, ASH_IDLE], Status::ShelfFault),
     // A later text is wrong, but isn't reached.
-    (Some(1), &[b"plan", b"", b""], Status::ShelfFault),
+    (Some(1), RUN_TWO, &[b"plan", b"", b""], Status::ShelfFault),
     (
         Some(2),
+        RUN_TWO,
         &[TWO_BOXES, b"script", b"script"],
         Status::ShelfFault,
     ),
     (
         Some(3),
+        RUN_TWO,
         &[TWO_BOXES, ASH_IDLE, b"script"],
         Status::ShelfFault,
     ),
+    (
+        Some(1),
+        JUDGE,
+        &[TWO_BOXES, IDLE_JOURNAL],
+        Status::ShelfFault,
+    ),
+    (
+        Some(2),
+        JUDGE,
+        &[TWO_BOXES, IDLE_JOURNAL],
+        Status::ShelfFault,
+    ),
+    (None, JUDGE, &[TWO_BOXES], Status::ShelfFault),
+    // A plan that is refused is refused before the journal is fetched.
+    (Some(2), JUDGE, &[b"", IDLE_JOURNAL], Status::Refused),
 ];
 
 #[test]
 fn failed_fetches_print_nothing(rt: HostRuntime) -> Result<(), Fail> {
-    for (bad_fetch, texts, status) in FETCHES {
+    for (bad_fetch, words, texts, status) in FETCHES {
         let outside = Outside { bad_fetch, ..SOUND };
-        let answer = work_behind(&rt, rt.alloc(), RUN_TWO, texts, outside, &OpenGate)?;
-        let printed: &[u8] = if status == Status::Done {
-            b"journal 1\nend\n"
-        } else {
-            b""
+        let answer = work_behind(&rt, rt.alloc(), words, texts, outside, &OpenGate)?;
+        let printed: &[u8] = match status {
+            Status::Done => IDLE,
+            Status::Refused => b"refused text 1 line 1: no end\n",
+            _ => b"",
         };
         assert_eq!(rt; answer.status, status, "without fetch {bad_fetch:?}");
         assert_eq!(rt; answer.taken.as_slice(), printed);
@@ -68,7 +106,7 @@ type Output = (
     u64,
 );
 
-const OUTPUTS: [Output; 3] = [
+const OUTPUTS: [Output; 4] = [
     (
         RUN_TWO,
         &[
@@ -77,8 +115,16 @@ const OUTPUTS: [Output; 3] = [
             BEECH_IDLE,
         ],
         Status::Done,
-        b"journal 1\n1 Ash 10:00 ring down 1 -> rung 1\nend\n",
-        5,
+        b"journal 1\n\
+            1 Ash 10:00 ring down 1 -> rung 1\n\
+            end\n\
+            register Ash 1\n\
+            1 10:00 ring down 1 -> rung 1\n\
+            register Beech 0\n\
+            refusals 0\n\
+            section down Ash Beech most 0\n\
+            section up Beech Ash most 0\n",
+        18,
     ),
     (
         RUN_TWO,
@@ -88,6 +134,16 @@ const OUTPUTS: [Output; 3] = [
         3,
     ),
     (&["run"], &[], Status::Words, b"words not understood\n", 3),
+    (
+        JUDGE,
+        &[
+            TWO_BOXES,
+            b"journal 1\n1 Beech 10:00 hear up -> heard 1 1\nend\n",
+        ],
+        Status::Done,
+        b"wrong at 1\nsaid heard 1 1\nlaw silent 0\n",
+        4,
+    ),
 ];
 
 #[test]

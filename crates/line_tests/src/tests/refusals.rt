@@ -127,7 +127,7 @@ fn cut_plans_are_refused(rt: HostRuntime) -> Result<(), Fail> {
 }
 
 // Words off the command table.
-const OFF: [&[&str]; 11] = [
+const OFF: [&[&str]; 16] = [
     &[],
     &["run"],
     &["run", "plan"],
@@ -139,6 +139,11 @@ const OFF: [&[&str]; 11] = [
     &["run", "", "ash", "beech"],
     &["run", "plan", "ash", ""],
     &["run", "plan", "-ash", "beech"],
+    &["judge"],
+    &["judge", "plan"],
+    &["judge", "plan", "journal", "journal"],
+    &["judge", "plan", ""],
+    &["judge", "-plan", "journal"],
 ];
 
 #[test]

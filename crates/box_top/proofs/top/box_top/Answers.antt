@@ -1,4 +1,4 @@
-use Rattle.box_top.proofs.Tops.{completes}
+use Rattle.box_top.proofs.Outcomes.{completes}
 use Rattle.box_top.proofs.top.box_top.Goals as goal
 
 pub returns-clause-complete : goal.returns-clause-complete

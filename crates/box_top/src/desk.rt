@@ -1,0 +1,87 @@
+//! The desk: the commands that work no line.
+
+ghost use Rattle.std.specs.Prelude.{◌≡◌, ℕ, List, Some, None, IsErrOf, OnOk};
+ghost use Rattle.rail_text.specs.Causes.{Rose};
+ghost use Rattle.box_top.specs.Commands.{bytes_of, desk_command_of, desk_shown};
+ghost use Rattle.box_top.specs.Headlines.{Judged};
+ghost use Rattle.box_top.specs.Outcomes.{HasShelfFault, IsSound, NoneRose, command_told};
+ghost use Rattle.box_top.specs.Told.{Makes};
+ghost use Rattle.box_top.specs.Top.{Completes, Printed, ShelfCause};
+
+use crate::command::{DeskCommand, desk_command_of};
+use crate::judging::judge_outcome;
+use crate::put::{WORDS_LINE, put_outcome, put_text};
+use crate::status::Status;
+use crate::stop::Stop;
+use rail_text::{Shelf, Sink};
+use std::alloc::Global;
+
+// What a command of the desk is to print; or why there is nothing.
+fn desk_outcome<S: Shelf>(
+    alloc: Global,
+    shelf: &mut S,
+    command: DeskCommand<'_>,
+) -> Result<Vec<u8>, Stop>
+    ensures told { Makes (λ text. text.items) result (command_told (S.held shelf.old) (desk_shown command.entry)) }
+    ensures sound { OnOk result (IsSound (S.held shelf.old) (desk_shown command.entry)) }
+    ensures fault { IsErrOf result Stop.ShelfFault → HasShelfFault (S.held shelf.old) (S.faults shelf.old) (S.faults shelf.new) (desk_shown command.entry) }
+    ensures same { (n : List ℕ) → S.held shelf.new n ≡ S.held shelf.old n }
+{
+    match command {
+        DeskCommand::Judge { plan, journal } => judge_outcome(alloc, shelf, plan, journal),
+    }
+}
+
+/// Does what a command of the desk asks for.
+pub fn serve_desk<S: Shelf, K: Sink>(
+    alloc: Global,
+    command: DeskCommand<'_>,
+    shelf: &mut S,
+    out: &mut K,
+) -> Status
+    ensures printed { Printed (S.held shelf.old) (Some (desk_shown command.entry)) (K.taken out.old) (K.taken out.new) result }
+    ensures judged { result ≡ Status.Done → Judged (S.held shelf.old) (Some (desk_shown command.entry)) (K.taken out.old) (K.taken out.new) }
+    ensures sink { result ≡ Status.SinkFault → Rose (K.faults out.old) (K.faults out.new) }
+    ensures shelf { result ≡ Status.ShelfFault → HasShelfFault (S.held shelf.old) (S.faults shelf.old) (S.faults shelf.new) (desk_shown command.entry) }
+    ensures not_fetched { result ≡ Status.ShelfFault → out.new ≡ out.old }
+    ensures no_memory { result ≡ Status.NoMemory → out.new ≡ out.old }
+    ensures same { (n : List ℕ) → S.held shelf.new n ≡ S.held shelf.old n }
+{
+    let outcome = desk_outcome(alloc, shelf, command);
+    put_outcome(alloc, out, outcome)
+}
+
+/// Does what the words of a command line say, those behind the program's name, where they ask for no line to be worked:
+/// `judge PLAN JOURNAL` fetches the plan and a journal of its line, judges the journal, and puts `legal` and the number of
+/// its entries, or the first entry whose reply isn't the law's, with both replies. Nothing is waited for.
+///
+/// - `Done`: what the command prints is put. A wrong reply in a journal is an answer too.
+/// - `Words`: the words are no such command, as those of `run` aren't. Nothing is asked of the shelf, and `words not
+///   understood` is put.
+/// - `Refused`: `refused text T line L: CAUSE` is put, for the text that is refused first, the plan being text 1 and the
+///   journal text 2.
+/// - `ShelfFault`: the fetch of a text that the words name failed, and nothing before it is refused. Nothing is put.
+/// - `SinkFault`: the sink failed, and took only a front part of what was to be put.
+/// - `NoMemory`: memory ran out. Nothing is put, since what is put is built whole first.
+pub fn desk_top<S: Shelf, K: Sink>(
+    alloc: Global,
+    words: &[String],
+    shelf: &mut S,
+    out: &mut K,
+) -> Status
+    ensures printed { Printed (S.held shelf.old) (desk_command_of (bytes_of words.now)) (K.taken out.old) (K.taken out.new) result }
+    ensures judged { result ≡ Status.Done → Judged (S.held shelf.old) (desk_command_of (bytes_of words.now)) (K.taken out.old) (K.taken out.new) }
+    ensures complete { NoneRose (S.faults shelf.old) (S.faults shelf.new) (desk_command_of (bytes_of words.now)) → ¬ Rose (K.faults out.old) (K.faults out.new)
+        → Completes (S.held shelf.old) (desk_command_of (bytes_of words.now)) (K.taken out.old) (K.taken out.new) result }
+    ensures sink { result ≡ Status.SinkFault → Rose (K.faults out.old) (K.faults out.new) }
+    ensures shelf { result ≡ Status.ShelfFault → ShelfCause (S.held shelf.old) (S.faults shelf.old) (S.faults shelf.new) (desk_command_of (bytes_of words.now)) }
+    ensures not_fetched { result ≡ Status.ShelfFault → out.new ≡ out.old }
+    ensures no_memory { result ≡ Status.NoMemory → out.new ≡ out.old }
+    ensures not_asked { desk_command_of (bytes_of words.now) ≡ None → shelf.new ≡ shelf.old }
+    ensures same { (n : List ℕ) → S.held shelf.new n ≡ S.held shelf.old n }
+{
+    match desk_command_of(words) {
+        Some(command) => serve_desk(alloc, command, shelf, out),
+        None => put_text(out, WORDS_LINE, Status::Words),
+    }
+}

@@ -1,0 +1,77 @@
+//! The output of a run, built whole.
+
+ghost use Rattle.std.specs.Prelude.{◌≡◌, ◌++◌, ℕ, List, All, IfOk, IsErrOf, OnOk, string_bytes};
+ghost use Rattle.line_law.specs.History.{IsLegal};
+ghost use Rattle.line_report.specs.Asked.{AreFew};
+ghost use Rattle.script_text.specs.Told.{IsSpelled};
+ghost use Rattle.box_top.specs.Commands.{Command, bytes_of};
+ghost use Rattle.box_top.specs.Outcomes.{HasShelfFault, command_told};
+ghost use Rattle.box_top.specs.Outputs.{output_text};
+ghost use Rattle.box_top.specs.Runs.{AreWorked, output_of, run_told};
+ghost use Rattle.box_top.specs.Serial.{AreScriptsOf};
+ghost use Rattle.box_top.specs.Told.{Makes};
+
+use crate::gate::Gate;
+use crate::gather::{Inputs, fetch_inputs};
+use crate::serial::work_serially;
+use crate::stop::Stop;
+use line_law::Journal;
+use line_plan::Plan;
+use line_report::{put_journal, put_refusals, put_sections};
+use rail_text::{NoMemory, Shelf};
+use std::alloc::Global;
+use train_register::{Ended, put_registers};
+
+// Puts the whole output of a journal behind a text: the journal, the registers, the refused calls and the sections.
+#[tactic(auto, unfolding(crate::specs::Outputs::output_text))]
+fn put_output(
+    out: &mut String,
+    alloc: Global,
+    plan: &Plan,
+    journal: &Journal,
+) -> Result<(), NoMemory>
+    requires legal { IsLegal plan.now journal.now.entries }
+    requires few { AreFew journal.now.entries }
+    requires spelled { All (IsSpelled plan.now) journal.now.entries }
+    ensures { OnOk result (string_bytes out.new ≡ string_bytes out.old ++ output_text plan.now journal.now.entries) }
+{
+    let ended = Ended::of_journal(alloc, plan, journal)?;
+    put_journal(out, plan, journal)?;
+    put_registers(out, plan, &ended)?;
+    put_refusals(out, plan, journal)?;
+    put_sections(out, alloc, plan, journal)
+}
+
+// The whole output of a plan and its scripts.
+fn output_text<G: Gate>(alloc: Global, inputs: &Inputs, gate: &G) -> Result<Vec<u8>, NoMemory>
+    requires { AreScriptsOf inputs.now.plan inputs.now.scripts.items }
+    ensures { IfOk result (λ text. text.items ≡ output_of (record { plan = inputs.now.plan; scripts = inputs.now.scripts.items })) }
+{
+    let plan = &inputs.plan;
+    // The read shows the proof what the type of a plan keeps.
+    let _two = plan.boxes.len();
+    let journal = work_serially(alloc, plan, &inputs.scripts, gate)?;
+    let mut out = String::new(alloc);
+    put_output(&mut out, alloc, plan, &journal)?;
+    Ok(out.into_bytes())
+}
+
+/// The output of the run of the named texts; or why there is none.
+pub fn run_outcome<S: Shelf, G: Gate>(
+    alloc: Global,
+    shelf: &mut S,
+    plan_name: &str,
+    script_names: &[String],
+    gate: &G,
+) -> Result<Vec<u8>, Stop>
+    ensures told { Makes (λ text. text.items) result (command_told (S.held shelf.old) (Command.Run plan_name.now (bytes_of script_names.now))) }
+    ensures worked { OnOk result (AreWorked (run_told (S.held shelf.old) plan_name.now (bytes_of script_names.now))) }
+    ensures fault { IsErrOf result Stop.ShelfFault → HasShelfFault (S.held shelf.old) (S.faults shelf.old) (S.faults shelf.new) (Command.Run plan_name.now (bytes_of script_names.now)) }
+    ensures same { (n : List ℕ) → S.held shelf.new n ≡ S.held shelf.old n }
+{
+    let inputs = fetch_inputs(alloc, shelf, plan_name, script_names)?;
+    match output_text(alloc, &inputs, gate) {
+        Ok(text) => Ok(text),
+        Err(NoMemory) => Err(Stop::NoMemory),
+    }
+}

@@ -1,0 +1,147 @@
+//! The journal as far as its text is read, and which line may come next.
+
+use crate::entry_line::{box_in, call_after, entry_number, reply_behind, told_texts};
+use line_law::{Entry, Journal};
+use line_plan::{Items, Plan};
+use rail_text::{Cause, LineFault, NoMemory, TextLine, has_keyword, no_word, number_in, one_word};
+use std::alloc::Global;
+use std::marker::Model;
+
+/// Which line comes next.
+#[derive(Clone, Copy, Debug, PartialEq, Eq)]
+pub enum Stage {
+    Heading,
+    Entries,
+    Ended,
+}
+
+/// What is read so far: the plan for which it is read, the stage, the last moment of each box, and the entries.
+#[derive(Drop)]
+pub struct JournalDraft<'a> {
+    plan: &'a Plan,
+    stage: Stage,
+    moments: Vec<u32>,
+    entries: Vec<Entry>,
+}
+
+impl<'a> Model for JournalDraft<'a> {
+    ghost use Rattle.line_report.specs.Drafts.{DraftFields, IsDraft};
+
+    ghost Value = { DraftFields };
+
+    ghost view = { λ d. record { plan = d.plan.now; stage = d.stage; moments = d.moments.items; entries = d.entries.items } };
+
+    ghost invariant = { λ d. IsDraft (record { plan = d.plan.now; stage = d.stage; moments = d.moments.items; entries = d.entries.items }) };
+}
+
+impl<'a> JournalDraft<'a> {
+    ghost use Rattle.std.specs.Prelude.{◌≡◌, ◌<◌, IfOk, length};
+    ghost use Rattle.rail_text.specs.Gives.{GivesLine};
+    ghost use Rattle.rail_text.specs.Lines.{words_of};
+    ghost use Rattle.line_report.specs.Drafts.{start};
+    ghost use Rattle.line_report.specs.Reading.{end_onto, entry_in, entry_onto, has_ended, heading_onto, line_onto, stage_onto};
+
+    /// Nothing is read.
+    pub fn new(alloc: Global, plan: &'a Plan) -> Result<JournalDraft<'a>, NoMemory>
+        ensures { IfOk result (λ draft. draft ≡ start plan.now) }
+    {
+        Ok(JournalDraft {
+            plan,
+            stage: Stage::Heading,
+            moments: vec![in alloc; 0; plan.boxes.len()]?,
+            entries: Vec::new(alloc),
+        })
+    }
+
+    // `journal V`: V is the plan's version.
+    #[tactic(auto, unfolding(crate::specs::Reading::heading_onto))]
+    fn heading_line(&mut self, line: &TextLine<'_>) -> Result<(), LineFault>
+        ensures { GivesLine (λ _. self.new) result (heading_onto self.old (words_of line.now.text.now)) }
+    {
+        let word = one_word(line)?;
+        let plan = self.plan;
+        let version = u32::from(plan.version);
+        number_in(word, version, version)?;
+        self.stage = Stage::Entries;
+        Ok(())
+    }
+
+    // The entry of a line: its number, its box, its call and its reply.
+    #[tactic(auto, unfolding(crate::specs::Reading::entry_in))]
+    fn entry_in(&self, line: &TextLine<'_>) -> Result<Entry, Cause>
+        ensures exact { result ≡ entry_in self.now (words_of line.now.text.now) }
+        ensures below { IfOk result (λ e. e.box_no < length self.now.moments) }
+    {
+        let plan = self.plan;
+        entry_number(self.entries.len() as u64 + 1, line)?;
+        let box_no = box_in(plan, line)?;
+        let (call, reply) = told_texts(line);
+        let call = call_after(plan, box_no, self.moments[box_no as usize], call)?;
+        let reply = reply_behind(plan, box_no, &call, reply)?;
+        Ok(Entry {
+            box_no,
+            call,
+            reply,
+        })
+    }
+
+    // An entry more, whose moment is the last one of its box.
+    #[tactic(auto, unfolding(crate::specs::Reading::entry_onto))]
+    fn entry_line(&mut self, line: &TextLine<'_>) -> Result<(), LineFault>
+        ensures { GivesLine (λ _. self.new) result (entry_onto self.old (words_of line.now.text.now)) }
+    {
+        let entry = self.entry_in(line)?;
+        self.entries.push(entry)?;
+        self.moments[entry.box_no as usize] = entry.call.moment;
+        Ok(())
+    }
+
+    // `end`: the journal ends.
+    #[tactic(auto, unfolding(crate::specs::Reading::end_onto))]
+    fn end_line(&mut self, line: &TextLine<'_>) -> Result<(), LineFault>
+        ensures { GivesLine (λ _. self.new) result (end_onto self.old (words_of line.now.text.now)) }
+    {
+        no_word(line)?;
+        self.stage = Stage::Ended;
+        Ok(())
+    }
+
+    // The words of a line.
+    #[tactic(auto, unfolding(crate::specs::Reading::stage_onto))]
+    fn words_line(&mut self, line: &TextLine<'_>) -> Result<(), LineFault>
+        ensures { GivesLine (λ _. self.new) result (stage_onto self.old.stage self.old (words_of line.now.text.now)) }
+    {
+        match self.stage {
+            Stage::Heading if has_keyword(line, b"journal") => self.heading_line(line),
+            Stage::Heading => Err(LineFault::Cause(Cause::WrongKeyword)),
+            Stage::Entries if has_keyword(line, b"end") => self.end_line(line),
+            Stage::Entries => self.entry_line(line),
+            Stage::Ended => Ok(()),
+        }
+    }
+
+    /// A line: its form first, by which none is skipped, then its words.
+    #[tactic(auto, unfolding(crate::specs::Reading::line_onto))]
+    pub fn read_line(&mut self, line: &TextLine<'_>) -> Result<(), LineFault>
+        ensures { GivesLine (λ _. self.new) result (line_onto self.old (record { text = line.now.text.now; ended = line.now.ended })) }
+    {
+        line.form(false)?;
+        self.words_line(line)
+    }
+
+    /// Whether the journal has ended.
+    pub fn has_ended(&self) -> bool
+        ensures { result ≡ has_ended self.now.stage }
+    {
+        self.stage == Stage::Ended
+    }
+
+    /// The journal.
+    pub fn into_journal(self) -> Journal
+        ensures { result.entries ≡ self.entry.entries }
+    {
+        Journal {
+            entries: Items::from_vec(self.entries),
+        }
+    }
+}

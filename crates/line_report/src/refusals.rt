@@ -1,0 +1,101 @@
+//! The refused calls of a journal.
+
+ghost use Rattle.std.specs.Prelude.{◌≡◌, ◌++◌, All, OnOk, string_bytes};
+ghost use Rattle.script_text.specs.Told.{IsSpelled};
+ghost use Rattle.line_report.specs.Refusals.{
+  is_refused,
+  is_success,
+  refusals_text,
+  refused_count,
+  refused_entries,
+  refused_entry,
+};
+
+use crate::journal::put_entry;
+use line_law::{Entry, Journal, Reply};
+use line_plan::Plan;
+use std::alloc::AllocError;
+use std::fmt::Write;
+
+// Whether what was asked for is done.
+fn is_success(reply: Reply) -> bool
+    ensures { result ≡ is_success reply }
+{
+    match reply {
+        Reply::Rung { .. }
+        | Reply::Heard { .. }
+        | Reply::Turned { .. }
+        | Reply::Seen { .. }
+        | Reply::Pulled
+        | Reply::PulledUnder { .. }
+        | Reply::Put
+        | Reply::Brought
+        | Reply::Passed { .. }
+        | Reply::Entered { .. }
+        | Reply::Approaching { .. }
+        | Reply::Berthed { .. }
+        | Reply::PartBerthed { .. }
+        | Reply::Cleared { .. }
+        | Reply::Winding { .. }
+        | Reply::Released => true,
+        _ => false,
+    }
+}
+
+/// Whether a reply is a refusal: what was asked for isn't done.
+pub fn is_refused(reply: &Reply) -> bool
+    ensures { result ≡ is_refused reply.now }
+{
+    !is_success(*reply)
+}
+
+// How many entries are refused.
+fn refused_count(entries: &[Entry]) -> usize
+    ensures { result ≡ refused_count entries.now }
+{
+    entries
+        .iter()
+        .filter(|entry| is_refused(&entry.reply))
+        .count()
+}
+
+// An entry's line with its number in the journal, if its reply is refused.
+fn put_refused(
+    out: &mut String,
+    plan: &Plan,
+    number: usize,
+    entry: &Entry,
+) -> Result<(), AllocError>
+    requires { IsSpelled plan.now entry.now }
+    ensures { OnOk result (string_bytes out.new ≡ string_bytes out.old ++ refused_entry plan.now number entry.now) }
+{
+    if is_refused(&entry.reply) {
+        put_entry(out, plan, number, entry)?;
+    }
+    Ok(())
+}
+
+// The lines of all refused entries, by their numbers in the journal.
+fn put_refused_entries(out: &mut String, plan: &Plan, entries: &[Entry]) -> Result<(), AllocError>
+    requires { All (IsSpelled plan.now) entries.now }
+    ensures { OnOk result (string_bytes out.new ≡ string_bytes out.old ++ refused_entries plan.now 1 entries.now) }
+{
+    for (place, entry) in entries.iter().enumerate() {
+        put_refused(out, plan, place + 1, entry)?;
+    }
+    Ok(())
+}
+
+/// Puts the refused calls of a journal behind a text: `refusals` and how many there are, and the journal's line of each, with
+/// its number in the journal. Each entry is one that the line can spell, as `is_spelled` tells. Where memory runs out a part
+/// may stand behind the text.
+#[tactic(auto, unfolding(crate::specs::Refusals::refusals_text))]
+pub fn put_refusals(out: &mut String, plan: &Plan, journal: &Journal) -> Result<(), AllocError>
+    requires { All (IsSpelled plan.now) journal.now.entries }
+    ensures { OnOk result (string_bytes out.new ≡ string_bytes out.old ++ refusals_text plan.now journal.now.entries) }
+{
+    let entries = journal.entries.as_slice();
+    let count = refused_count(entries);
+    write!(out, "refusals {count}\n")?;
+    put_refused_entries(out, plan, entries)
+}

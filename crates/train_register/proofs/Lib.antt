@@ -1,0 +1,3 @@
+pub mod ToldLines
+pub mod Counts
+pub mod Parts
