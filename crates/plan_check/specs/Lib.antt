@@ -1,0 +1,4 @@
+pub mod Clashes
+pub mod Found
+pub mod Texts
+pub mod Told
