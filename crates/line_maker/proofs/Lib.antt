@@ -1,0 +1,7 @@
+pub mod Growing
+pub mod MadeLine
+pub mod BaseRead
+pub mod TrainNames
+pub mod TrainsRead
+pub mod PlanRead
+pub mod CallsKnown

@@ -1,0 +1,6 @@
+use Rattle.std.proofs.Common.{arith}
+use Rattle.line_maker.proofs.CallsKnown.{made_scripts_work}
+use Rattle.line_maker.proofs.making.make_line.Goals as goal
+
+pub returns-clause-known : goal.returns-clause-known
+returns-clause-known c = made_scripts_work c.args.n c.in_ok-plan.plan c.in_ok-scripts.scripts.items (omega arith) c.in_ok-plan.ensures.plan c.in_ok-scripts.ensures

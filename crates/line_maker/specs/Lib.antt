@@ -1,0 +1,3 @@
+pub mod MadeTrains
+pub mod MadeTexts
+pub mod MadeCalls

@@ -1,0 +1,14 @@
+//! The made line: three boxes and so many trains, with the scripts by which they are worked.
+#![tactic(auto)]
+
+mod error;
+mod making;
+mod plan_text;
+mod scripts;
+mod working;
+
+pub use error::MakeError;
+pub use making::{MOST_TRAINS, make_line};
+
+#[cfg(test)]
+mod tests;
