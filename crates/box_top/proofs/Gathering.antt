@@ -1,6 +1,6 @@
 -- One script after another.
-use Rattle.std.proofs.Common.{◌≡◌, ℕ, zero, suc, ◌+◌, ◌<◌, ◌≤◌, List, [], ◌∷◌, ◌++◌, length, take, drop, get_or, map, Some, slice_get, String, string_bytes, refl, sym, ap, subst, ◌∙◌, arith, add-one, drop-cons}
-use Rattle.std.specs.Global.{Global}
+use Rattle.std.proofs.Common.{◌≡◌, ℕ, zero, suc, ◌+◌, ◌<◌, ◌≤◌, List, [], ◌∷◌, ◌++◌, length, take, drop, get_or, map, Some, slice_get, refl, sym, ap, subst, ◌∙◌, arith, add-one, drop-cons}
+use Rattle.std.specs.Borrow.{Bor}
 use Rattle.std.proofs.lemmas.List.{length-append, take_more, take_all, take-append-drop}
 use Rattle.rail_text.specs.Causes.{Rose}
 use Rattle.rail_text.specs.Gives.{Fault}
@@ -128,7 +128,7 @@ own_more plan done script own last b s e =
     subst (λ (n : ℕ). IsScriptOf plan n s) back (own_behind plan 0 done script here (subst (λ (n : ℕ). IsScriptOf plan n script) ended last) b s e)
 
 -- the next name
-pub name_at : (xs : List (String Global)) (i : ℕ) (x : String Global) → i < length xs → x ≡ get_or xs i x → string_bytes x ≡ get_or (map (λ name. string_bytes name) xs) i []
-name_at [] i x lt e = absurd (omega arith)
-name_at (y ∷ ys) zero x lt e = ap (λ (name : String Global). string_bytes name) e
-name_at (y ∷ ys) (suc i) x lt e = name_at ys i x (omega arith) e
+pub name_at : (xs : List (Bor (List ℕ))) (i : ℕ) (none : Bor (List ℕ)) → i < length xs → (get_or xs i none).now ≡ get_or (map (λ name. name.now) xs) i []
+name_at [] i none lt = absurd (omega arith)
+name_at (y ∷ ys) zero none lt = refl
+name_at (y ∷ ys) (suc i) none lt = name_at ys i none (omega arith)

@@ -1,4 +1,10 @@
-pub mod WordRules
+pub mod AddedCommands
+pub mod MatchRules
+pub mod Enters
+pub mod RunWords
+pub mod ShortWords
+pub mod Forms
+pub mod FoundCommands
 pub mod Fetched
 pub mod LeftOf
 pub mod NextBox
@@ -8,4 +14,9 @@ pub mod Gathering
 pub mod Inputs
 pub mod Cases
 pub mod Outcomes
+pub mod AllTold
+pub mod PlanReports
+pub mod StressWords
+pub mod MadeLine
 pub mod Headlines
+pub mod DeskDone

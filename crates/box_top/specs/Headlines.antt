@@ -1,51 +1,105 @@
 -- What is printed where a command is done.
-use Rattle.std.specs.Prelude.{◌≡◌, ◌↔◌, ◌≤◌, ℕ, List, [], ◌∷◌, ◌++◌, Option, Some, None, length}
+use Rattle.std.specs.Prelude.{◌≡◌, ◌↔◌, ◌<◌, ◌≤◌, ℕ, List, [], ◌∷◌, ◌++◌, Option, Some, None, Ok, Contains, length}
 use Rattle.rail_text.specs.Bytes.{appended}
-use Rattle.line_plan.specs.Plans.{PlanFields}
+use Rattle.line_plan.specs.Limits.{most_bytes}
+use Rattle.line_plan.specs.Plans.{PlanFields, box_at, box_name}
+use Rattle.line_plan.specs.Printing.{plan_text}
+use Rattle.line_plan.specs.Reading.{plan_of}
 use Rattle.line_plan.specs.Sections.{IsSection, limit_of}
+use Rattle.line_plan.specs.Upgrades.{upgraded}
 use Rattle.line_plan.specs.declared.section.Section.{Section}
 use Rattle.line_law.specs.declared.call.Entry.{Entry}
 use Rattle.line_law.specs.declared.call.Reply.{Reply}
 use Rattle.line_law.specs.History.{IsLegal, calls_of, state_of}
 use Rattle.line_law.specs.Sections.{IsClean, held_by}
 use Rattle.line_law.specs.Serial.{calls_left, serial_journal}
+use Rattle.line_maker.specs.MadeCalls.{made_scripts}
+use Rattle.line_maker.specs.MadeTexts.{made_plan_text}
 use Rattle.line_report.specs.Verdicts.{IsWrongAt, box_told, judgement_text, legal_text, wrong_text}
+use Rattle.plan_check.specs.declared.finding.Finding.{Finding}
+use Rattle.plan_check.specs.declared.finding.Finding.TheVariants.{LeverWithoutRow, NoBerth, NoStarter, RowsClash}
+use Rattle.plan_check.specs.Found.{findings_of}
+use Rattle.plan_check.specs.Texts.{findings_text}
+use Rattle.plan_check.specs.Told.{HasNoRow, LacksBerth, LacksStarter, RowsClashAt}
 use Rattle.box_top.specs.Commands.{Command}
+use Rattle.box_top.specs.Frames.{frame_text}
 use Rattle.box_top.specs.Judgements.{Case, case_told}
+use Rattle.box_top.specs.Made.{summary_text}
 use Rattle.box_top.specs.Outputs.{output_text}
 use Rattle.box_top.specs.Rosters.{calls_of_scripts}
 use Rattle.box_top.specs.Runs.{Run, run_told}
-use Rattle.box_top.specs.Told.{AreTold, Held, Gives}
+use Rattle.box_top.specs.Told.{AreTold, Held, Gives, plan_told}
 
--- ---- a run
+-- ---- a line that is worked
 
 -- after each prefix of a journal that is clean for a section, the section holds no more trains than it may
 abbrev pub HoldsFew : PlanFields → List Entry → Type 0
 HoldsFew plan journal = (section : Section) (es more : List Entry) → IsSection plan section → journal ≡ es ++ more → IsClean plan section es → held_by plan (state_of plan es) section ≤ limit_of plan section
 
--- The text is the whole output of one legal history, which has exactly each script's calls, in order, as they come on one thread; and while it
+-- The journal is one legal history, which has exactly each script's calls, in order, as they come on one thread; and while it
 -- records no overrun, left portion or release in a section, that section holds no more trains than it may.
-pub record IsJournalOf (run : Run) (journal : List Entry) (text : List ℕ) : Type 0 where
-  pub printed : text ≡ output_text run.plan journal
+pub record IsJournalOf (run : Run) (journal : List Entry) : Type 0 where
   pub serial : journal ≡ serial_journal run.plan (calls_of_scripts run.scripts)
   pub legal : IsLegal run.plan journal
   pub calls : (b : ℕ) → calls_of b journal ≡ calls_left (calls_of_scripts run.scripts) b
   pub trains : HoldsFew run.plan journal
 
--- the texts of these names spell a plan and its scripts, and the bytes taken are the output of their run
+-- the texts of these names spell a plan and its scripts, and the bytes taken are the whole output of a journal of their run
 pub record PrintsJournal (held : Held) (plan : List ℕ) (scripts : List (List ℕ)) (old new : Option (List ℕ)) : Type 0 where
   pub run : Run
   pub spelled : run_told held plan scripts ≡ Gives run
   pub journal : List Entry
-  pub text : List ℕ
-  pub is : IsJournalOf run journal text
-  pub taken : new ≡ appended old text
+  pub is : IsJournalOf run journal
+  pub taken : new ≡ appended old (output_text run.plan journal)
 
--- The words are a command; where they are those of `run`, and the shelf tells all their texts, these spell a run, whose output is what was taken.
+-- the text of the made line of n trains spells a plan, and the bytes taken are the summary of a journal of that line, worked by its own scripts
+pub record PrintsSummary (n : ℕ) (old new : Option (List ℕ)) : Type 0 where
+  pub plan : PlanFields
+  pub spelled : plan_of (made_plan_text n) ≡ Ok plan
+  pub journal : List Entry
+  pub is : IsJournalOf (record { plan = plan; scripts = made_scripts n }) journal
+  pub taken : new ≡ appended old (summary_text n plan journal)
+
+-- The words are a command; where they are those of `run`, and the shelf tells all their texts, these spell a run, whose output is what was taken; where
+-- they are those of `stress`, the summary of the made line is what was taken.
 abbrev pub Headline : Held → Option Command → Option (List ℕ) → Option (List ℕ) → Type 0
 Headline held None old new = ⊥
 Headline held (Some (Command.Run plan scripts)) old new = AreTold held (plan ∷ scripts) → PrintsJournal held plan scripts old new
+Headline held (Some (Command.Stress n)) old new = PrintsSummary n old new
+Headline held (Some (Command.Check plan)) old new = Unit {0}
+Headline held (Some (Command.Tables plan name)) old new = Unit {0}
 Headline held (Some (Command.Judge plan journal)) old new = Unit {0}
+Headline held (Some (Command.Upgrade plan)) old new = Unit {0}
+
+-- ---- a check
+
+-- Two rows of a box are found exactly where they clash, a lever exactly where it isn't spare and no row names it, a section exactly where it has a starter
+-- and no berth, or a berth and no starter; and they stand in the stated order.
+pub record AreFindings (plan : PlanFields) (findings : List Finding) : Type 0 where
+  pub order : findings ≡ findings_of plan
+  pub clash : (b first second lever : ℕ) → Contains findings (RowsClash b first second lever) ↔ RowsClashAt plan b first second lever
+  pub lever : (b lever : ℕ) → Contains findings (LeverWithoutRow b lever) ↔ HasNoRow plan b lever
+  pub no_berth : (section : Section) → Contains findings (NoBerth section) ↔ LacksBerth plan section
+  pub no_starter : (section : Section) → Contains findings (NoStarter section) ↔ LacksStarter plan section
+
+-- the text of this name spells a plan, and the bytes taken are the findings on it
+pub record PrintsFindings (held : Held) (name : List ℕ) (old new : Option (List ℕ)) : Type 0 where
+  pub plan : PlanFields
+  pub spelled : plan_told held name ≡ Gives plan
+  pub findings : List Finding
+  pub exact : AreFindings plan findings
+  pub taken : new ≡ appended old (findings_text plan findings)
+
+-- ---- a frame
+
+-- the text of the plan's name spells a plan that has a box of the other name, and the bytes taken are the frame of that box
+pub record PrintsFrame (held : Held) (plan_name name : List ℕ) (old new : Option (List ℕ)) : Type 0 where
+  pub plan : PlanFields
+  pub spelled : plan_told held plan_name ≡ Gives plan
+  pub box_no : ℕ
+  pub within : box_no < length plan.boxes
+  pub named : box_name plan box_no ≡ name
+  pub taken : new ≡ appended old (frame_text (box_at plan.boxes box_no))
 
 -- ---- a judgement
 
@@ -72,8 +126,24 @@ pub record PrintsJudgement (held : Held) (plan journal : List ℕ) (old new : Op
   pub is : IsJudgementOf case text
   pub taken : new ≡ appended old text
 
--- The words are a command; where they are those of `judge`, and the shelf tells both texts, these spell a case, and what is found of it is what was taken.
-abbrev pub Judged : Held → Option Command → Option (List ℕ) → Option (List ℕ) → Type 0
-Judged held None old new = ⊥
-Judged held (Some (Command.Run plan scripts)) old new = Unit {0}
-Judged held (Some (Command.Judge plan journal)) old new = AreTold held (plan ∷ journal ∷ []) → PrintsJudgement held plan journal old new
+-- ---- an upgrade
+
+-- the text of this name spells a plan, and the bytes taken are its upgrade as plans are printed; where these keep within the limit of a plan's text, they spell it
+pub record PrintsUpgrade (held : Held) (name : List ℕ) (old new : Option (List ℕ)) : Type 0 where
+  pub plan : PlanFields
+  pub spelled : plan_told held name ≡ Gives plan
+  pub read : length (plan_text (upgraded plan)) ≤ most_bytes → plan_of (plan_text (upgraded plan)) ≡ Ok (upgraded plan)
+  pub taken : new ≡ appended old (plan_text (upgraded plan))
+
+-- ---- the desk
+
+-- The words are a command; where they are one of the desk's, and the shelf tells its texts, these spell what the command needs, and what it prints of
+-- them is what was taken.
+abbrev pub Reported : Held → Option Command → Option (List ℕ) → Option (List ℕ) → Type 0
+Reported held None old new = ⊥
+Reported held (Some (Command.Run plan scripts)) old new = Unit {0}
+Reported held (Some (Command.Stress n)) old new = Unit {0}
+Reported held (Some (Command.Check plan)) old new = AreTold held (plan ∷ []) → PrintsFindings held plan old new
+Reported held (Some (Command.Tables plan name)) old new = AreTold held (plan ∷ []) → PrintsFrame held plan name old new
+Reported held (Some (Command.Judge plan journal)) old new = AreTold held (plan ∷ journal ∷ []) → PrintsJudgement held plan journal old new
+Reported held (Some (Command.Upgrade plan)) old new = AreTold held (plan ∷ []) → PrintsUpgrade held plan old new

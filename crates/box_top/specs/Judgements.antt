@@ -1,14 +1,13 @@
 -- What `judge` makes of the texts that its words name.
 use Rattle.std.specs.Prelude.{◌≡◌, ◌↔◌, ℕ, zero, suc, List}
 use Rattle.line_plan.specs.Plans.{PlanFields}
-use Rattle.line_plan.specs.Reading.{plan_of}
 use Rattle.line_law.specs.declared.call.Entry.{Entry}
 use Rattle.line_law.specs.declared.call.Reply.{Reply}
 use Rattle.line_law.specs.History.{IsLegal}
 use Rattle.line_report.specs.declared.judging.Verdict.TheVariants.{Legal, WrongAt}
 use Rattle.line_report.specs.Reading.{journal_of}
 use Rattle.line_report.specs.Verdicts.{IsWrongAt, judgement_text, verdict_of}
-use Rattle.box_top.specs.Told.{Held, Told, Gives, told_then, text_told}
+use Rattle.box_top.specs.Told.{Held, Told, Gives, told_then, text_told, plan_told}
 
 -- a plan, and a journal of its line
 pub record Case : Type 0 where
@@ -18,13 +17,13 @@ pub record Case : Type 0 where
 -- in the order of fetching: the plan, then the journal
 abbrev pub case_told : Held → List ℕ → List ℕ → Told Case
 case_told held plan_name journal_name =
-    told_then (text_told 1 plan_of (held plan_name)) (λ plan.
+    told_then (plan_told held plan_name) (λ plan.
     told_then (text_told 2 (journal_of plan) (held journal_name)) (λ entries. Gives (record { plan = plan; entries = entries })))
 
 -- what is told before text k of a case, from 0, is fetched
 abbrev pub case_told_before : Held → List ℕ → ℕ → Told (Unit {0})
 case_told_before held plan_name zero = Gives tt
-case_told_before held plan_name (suc k) = told_then (text_told 1 plan_of (held plan_name)) (λ plan. Gives tt)
+case_told_before held plan_name (suc k) = told_then (plan_told held plan_name) (λ plan. Gives tt)
 
 -- the text that is printed of a case
 abbrev pub judgement_of : Case → List ℕ

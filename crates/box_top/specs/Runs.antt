@@ -3,7 +3,6 @@ use Rattle.std.specs.Prelude.{◌≡◌, ℕ, ◌+◌, ◌<◌, zero, suc, ◌==
 use Rattle.rail_text.specs.Causes.{Rose}
 use Rattle.rail_text.specs.declared.cause.Cause.TheVariants as causes
 use Rattle.line_plan.specs.Plans.{PlanFields}
-use Rattle.line_plan.specs.Reading.{plan_of}
 use Rattle.line_law.specs.declared.call.Entry.{Entry}
 use Rattle.line_law.specs.Serial.{serial_journal}
 use Rattle.script_text.specs.Scripts.{script_of}
@@ -11,7 +10,7 @@ use Rattle.script_text.specs.declared.script.Script.{Script}
 use Rattle.box_top.specs.Outputs.{output_text}
 use Rattle.box_top.specs.Rosters.{calls_of_scripts}
 use Rattle.box_top.specs.Serial.{AreScriptsOf}
-use Rattle.box_top.specs.Told.{Held, Told, Gives, Refuses, told_then, text_told, IsNotRefused}
+use Rattle.box_top.specs.Told.{Held, Told, Gives, Refuses, told_then, text_told, plan_told, IsNotRefused}
 
 -- the scripts of these names behind those that are read; the script of box b is text b + 2
 abbrev pub scripts_told : Held → PlanFields → List Script → List (List ℕ) → Told (List Script)
@@ -31,7 +30,7 @@ pub record Run : Type 0 where
 -- in the order of fetching: the plan, the number of scripts, then each script
 abbrev pub run_told : Held → List ℕ → List (List ℕ) → Told Run
 run_told held plan_name names =
-    told_then (text_told 1 plan_of (held plan_name)) (λ plan.
+    told_then (plan_told held plan_name) (λ plan.
     told_then (count_told plan (length names)) (λ counted.
     told_then (scripts_told held plan [] names) (λ scripts. Gives (record { plan = plan; scripts = scripts }))))
 
@@ -39,7 +38,7 @@ run_told held plan_name names =
 abbrev pub run_told_before : Held → List ℕ → List (List ℕ) → ℕ → Told (Unit {0})
 run_told_before held plan_name names zero = Gives tt
 run_told_before held plan_name names (suc k) =
-    told_then (text_told 1 plan_of (held plan_name)) (λ plan.
+    told_then (plan_told held plan_name) (λ plan.
     told_then (count_told plan (length names)) (λ counted.
     told_then (scripts_told held plan [] (take k names)) (λ scripts. Gives tt)))
 

@@ -1,6 +1,8 @@
 -- What comes of texts that a shelf may tell.
 use Rattle.std.specs.Prelude.{◌≡◌, ℕ, List, Option, Some, None, IsSome, All, Result, Ok, Err}
 use Rattle.rail_text.specs.Gives.{Fault}
+use Rattle.line_plan.specs.Plans.{PlanFields}
+use Rattle.line_plan.specs.Reading.{plan_of}
 use Rattle.box_top.specs.declared.stop.Stop.{Stop}
 use Rattle.box_top.specs.declared.stop.Stop.TheVariants as stops
 
@@ -33,6 +35,10 @@ read_told n (Err fault) = Refuses n fault
 abbrev pub text_told : {A : Type 0} → ℕ → (List ℕ → Result A Fault) → Option (List ℕ) → Told A
 text_told n read None = Untold
 text_told n read (Some bytes) = read_told n (read bytes)
+
+-- the plan that the first text of this name spells
+abbrev pub plan_told : Held → List ℕ → Told PlanFields
+plan_told held name = text_told 1 plan_of (held name)
 
 -- this is given, if the texts are told
 abbrev pub IsGiven : {A : Type 0} → A → Told A → Type 0

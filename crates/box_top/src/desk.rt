@@ -3,17 +3,19 @@
 ghost use Rattle.std.specs.Prelude.{◌≡◌, ℕ, List, Some, None, IsErrOf, OnOk};
 ghost use Rattle.rail_text.specs.Causes.{Rose};
 ghost use Rattle.box_top.specs.Commands.{bytes_of, desk_command_of, desk_shown};
-ghost use Rattle.box_top.specs.Headlines.{Judged};
+ghost use Rattle.box_top.specs.Headlines.{Reported};
 ghost use Rattle.box_top.specs.Outcomes.{HasShelfFault, IsSound, NoneRose, command_told};
 ghost use Rattle.box_top.specs.Told.{Makes};
 ghost use Rattle.box_top.specs.Top.{Completes, Printed, ShelfCause};
 
 use crate::command::{DeskCommand, desk_command_of};
+use crate::frames::frame_outcome;
 use crate::judging::judge_outcome;
 use crate::put::{WORDS_LINE, put_outcome, put_text};
+use crate::reports::{check_outcome, upgrade_outcome};
 use crate::status::Status;
 use crate::stop::Stop;
-use rail_text::{Shelf, Sink};
+use rail_text::{NoMemory, Shelf, Sink};
 use std::alloc::Global;
 
 // What a command of the desk is to print; or why there is nothing.
@@ -28,7 +30,10 @@ fn desk_outcome<S: Shelf>(
     ensures same { (n : List ℕ) → S.held shelf.new n ≡ S.held shelf.old n }
 {
     match command {
+        DeskCommand::Check { plan } => check_outcome(alloc, shelf, plan),
+        DeskCommand::Tables { plan, box_name } => frame_outcome(alloc, shelf, plan, box_name),
         DeskCommand::Judge { plan, journal } => judge_outcome(alloc, shelf, plan, journal),
+        DeskCommand::Upgrade { plan } => upgrade_outcome(alloc, shelf, plan),
     }
 }
 
@@ -40,7 +45,7 @@ pub fn serve_desk<S: Shelf, K: Sink>(
     out: &mut K,
 ) -> Status
     ensures printed { Printed (S.held shelf.old) (Some (desk_shown command.entry)) (K.taken out.old) (K.taken out.new) result }
-    ensures judged { result ≡ Status.Done → Judged (S.held shelf.old) (Some (desk_shown command.entry)) (K.taken out.old) (K.taken out.new) }
+    ensures reported { result ≡ Status.Done → Reported (S.held shelf.old) (Some (desk_shown command.entry)) (K.taken out.old) (K.taken out.new) }
     ensures sink { result ≡ Status.SinkFault → Rose (K.faults out.old) (K.faults out.new) }
     ensures shelf { result ≡ Status.ShelfFault → HasShelfFault (S.held shelf.old) (S.faults shelf.old) (S.faults shelf.new) (desk_shown command.entry) }
     ensures not_fetched { result ≡ Status.ShelfFault → out.new ≡ out.old }
@@ -51,15 +56,22 @@ pub fn serve_desk<S: Shelf, K: Sink>(
     put_outcome(alloc, out, outcome)
 }
 
-/// Does what the words of a command line say, those behind the program's name, where they ask for no line to be worked:
-/// `judge PLAN JOURNAL` fetches the plan and a journal of its line, judges the journal, and puts `legal` and the number of
-/// its entries, or the first entry whose reply isn't the law's, with both replies. Nothing is waited for.
+/// Does what the words of a command line say, those behind the program's name, where they ask for no line to be worked.
+/// Nothing is waited for. Each command fetches the plan first.
 ///
-/// - `Done`: what the command prints is put. A wrong reply in a journal is an answer too.
-/// - `Words`: the words are no such command, as those of `run` aren't. Nothing is asked of the shelf, and `words not
-///   understood` is put.
+/// - `check PLAN` puts the findings on the plan: how many there are, and a line for each.
+/// - `tables PLAN BOX` puts the frame of the box with that name: its levers with their colours, and its rows.
+/// - `judge PLAN JOURNAL` fetches a journal of the plan's line, and puts `legal` and the number of its entries, or the first
+///   entry whose reply isn't the law's, with both replies.
+/// - `upgrade PLAN` puts the plan in version 2.
+///
+/// How it ends:
+///
+/// - `Done`: what the command prints is put. A finding, or a wrong reply in a journal, is an answer too.
+/// - `Words`: the words are no such command, as those of `run` and `stress` aren't. Nothing is asked of the shelf, and
+///   `words not understood` is put.
 /// - `Refused`: `refused text T line L: CAUSE` is put, for the text that is refused first, the plan being text 1 and the
-///   journal text 2.
+///   journal text 2. A name that no box has is refused as `unknown name` at line 0 of the plan.
 /// - `ShelfFault`: the fetch of a text that the words name failed, and nothing before it is refused. Nothing is put.
 /// - `SinkFault`: the sink failed, and took only a front part of what was to be put.
 /// - `NoMemory`: memory ran out. Nothing is put, since what is put is built whole first.
@@ -70,7 +82,7 @@ pub fn desk_top<S: Shelf, K: Sink>(
     out: &mut K,
 ) -> Status
     ensures printed { Printed (S.held shelf.old) (desk_command_of (bytes_of words.now)) (K.taken out.old) (K.taken out.new) result }
-    ensures judged { result ≡ Status.Done → Judged (S.held shelf.old) (desk_command_of (bytes_of words.now)) (K.taken out.old) (K.taken out.new) }
+    ensures reported { result ≡ Status.Done → Reported (S.held shelf.old) (desk_command_of (bytes_of words.now)) (K.taken out.old) (K.taken out.new) }
     ensures complete { NoneRose (S.faults shelf.old) (S.faults shelf.new) (desk_command_of (bytes_of words.now)) → ¬ Rose (K.faults out.old) (K.faults out.new)
         → Completes (S.held shelf.old) (desk_command_of (bytes_of words.now)) (K.taken out.old) (K.taken out.new) result }
     ensures sink { result ≡ Status.SinkFault → Rose (K.faults out.old) (K.faults out.new) }
@@ -80,8 +92,9 @@ pub fn desk_top<S: Shelf, K: Sink>(
     ensures not_asked { desk_command_of (bytes_of words.now) ≡ None → shelf.new ≡ shelf.old }
     ensures same { (n : List ℕ) → S.held shelf.new n ≡ S.held shelf.old n }
 {
-    match desk_command_of(words) {
-        Some(command) => serve_desk(alloc, command, shelf, out),
-        None => put_text(out, WORDS_LINE, Status::Words),
+    match desk_command_of(alloc, words) {
+        Ok(Some(command)) => serve_desk(alloc, command, shelf, out),
+        Ok(None) => put_text(out, WORDS_LINE, Status::Words),
+        Err(NoMemory) => Status::NoMemory,
     }
 }

@@ -1,7 +1,7 @@
 //! The plan and the scripts of a run, fetched in their order.
 
 ghost use Rattle.std.specs.Prelude.{◌≡◌, ℕ, ◌+◌, ◌≤◌, ◌<◌, List, [], IfOk, IsErrOf, length};
-ghost use Rattle.box_top.specs.Commands.{Command, bytes_of};
+ghost use Rattle.box_top.specs.Commands.{Command, named};
 ghost use Rattle.box_top.specs.Outcomes.{HasShelfFault};
 ghost use Rattle.box_top.specs.Runs.{HasScriptFault, run_told, scripts_told};
 ghost use Rattle.box_top.specs.Serial.{AreScriptsOf};
@@ -28,12 +28,12 @@ fn fetch_scripts<S: Shelf>(
     alloc: Global,
     shelf: &mut S,
     plan: &Plan,
-    names: &[String],
+    names: &[&str],
 ) -> Result<Vec<Script>, Stop>
     requires { length names.now ≡ length plan.now.boxes }
-    ensures told { Makes (λ scripts. scripts.items) result (scripts_told (S.held shelf.old) plan.now [] (bytes_of names.now)) }
+    ensures told { Makes (λ scripts. scripts.items) result (scripts_told (S.held shelf.old) plan.now [] (named names.now)) }
     ensures own { IfOk result (λ scripts. AreScriptsOf plan.now scripts.items) }
-    ensures fault { IsErrOf result Stop.ShelfFault → HasScriptFault (S.held shelf.old) (S.faults shelf.old) (S.faults shelf.new) plan.now (bytes_of names.now) }
+    ensures fault { IsErrOf result Stop.ShelfFault → HasScriptFault (S.held shelf.old) (S.faults shelf.old) (S.faults shelf.new) plan.now (named names.now) }
     ensures same { (n : List ℕ) → S.held shelf.new n ≡ S.held shelf.old n }
     ensures later { (n : List ℕ) → S.faults shelf.old n ≤ S.faults shelf.new n }
 {
@@ -42,7 +42,7 @@ fn fetch_scripts<S: Shelf>(
     let mut scripts = Vec::new(alloc);
     for name in names {
         let box_no = scripts.len() as u32;
-        let script = fetch_script(alloc, shelf, plan, box_no, name.as_str())?;
+        let script = fetch_script(alloc, shelf, plan, box_no, name)?;
         scripts.push(script)?;
     }
     Ok(scripts)
@@ -54,11 +54,11 @@ pub fn fetch_inputs<S: Shelf>(
     alloc: Global,
     shelf: &mut S,
     plan_name: &str,
-    script_names: &[String],
+    script_names: &[&str],
 ) -> Result<Inputs, Stop>
-    ensures told { Makes (λ inputs. record { plan = inputs.plan; scripts = inputs.scripts.items }) result (run_told (S.held shelf.old) plan_name.now (bytes_of script_names.now)) }
+    ensures told { Makes (λ inputs. record { plan = inputs.plan; scripts = inputs.scripts.items }) result (run_told (S.held shelf.old) plan_name.now (named script_names.now)) }
     ensures own { IfOk result (λ inputs. AreScriptsOf inputs.plan inputs.scripts.items) }
-    ensures fault { IsErrOf result Stop.ShelfFault → HasShelfFault (S.held shelf.old) (S.faults shelf.old) (S.faults shelf.new) (Command.Run plan_name.now (bytes_of script_names.now)) }
+    ensures fault { IsErrOf result Stop.ShelfFault → HasShelfFault (S.held shelf.old) (S.faults shelf.old) (S.faults shelf.new) (Command.Run plan_name.now (named script_names.now)) }
     ensures same { (n : List ℕ) → S.held shelf.new n ≡ S.held shelf.old n }
 {
     let plan = fetch_plan(alloc, shelf, plan_name)?;

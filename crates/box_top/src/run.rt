@@ -4,10 +4,10 @@ ghost use Rattle.std.specs.Prelude.{◌≡◌, ◌++◌, ℕ, List, All, IfOk, I
 ghost use Rattle.line_law.specs.History.{IsLegal};
 ghost use Rattle.line_report.specs.Asked.{AreFew};
 ghost use Rattle.script_text.specs.Told.{IsSpelled};
-ghost use Rattle.box_top.specs.Commands.{Command, bytes_of};
+ghost use Rattle.box_top.specs.Commands.{Command, named};
 ghost use Rattle.box_top.specs.Outcomes.{HasShelfFault, command_told};
 ghost use Rattle.box_top.specs.Outputs.{output_text};
-ghost use Rattle.box_top.specs.Runs.{AreWorked, output_of, run_told};
+ghost use Rattle.box_top.specs.Runs.{AreWorked, output_of, run_journal, run_told};
 ghost use Rattle.box_top.specs.Serial.{AreScriptsOf};
 ghost use Rattle.box_top.specs.Told.{Makes};
 
@@ -42,17 +42,32 @@ fn put_output(
     put_sections(out, alloc, plan, journal)
 }
 
+/// The journal of a plan that is worked by its scripts. It is legal, and it can be printed.
+pub fn worked_journal<G: Gate>(
+    alloc: Global,
+    inputs: &Inputs,
+    gate: &G,
+) -> Result<Journal, NoMemory>
+    requires { AreScriptsOf inputs.now.plan inputs.now.scripts.items }
+    ensures journal { IfOk result (λ journal. journal.entries ≡ run_journal (record { plan = inputs.now.plan; scripts = inputs.now.scripts.items })) }
+    ensures legal { IfOk result (λ journal. IsLegal inputs.now.plan journal.entries) }
+    ensures few { IfOk result (λ journal. AreFew journal.entries) }
+    ensures spelled { IfOk result (λ journal. All (IsSpelled inputs.now.plan) journal.entries) }
+{
+    let plan = &inputs.plan;
+    // The read shows the proof what the type of a plan keeps.
+    let _two = plan.boxes.len();
+    work_serially(alloc, plan, &inputs.scripts, gate)
+}
+
 // The whole output of a plan and its scripts.
 fn output_text<G: Gate>(alloc: Global, inputs: &Inputs, gate: &G) -> Result<Vec<u8>, NoMemory>
     requires { AreScriptsOf inputs.now.plan inputs.now.scripts.items }
     ensures { IfOk result (λ text. text.items ≡ output_of (record { plan = inputs.now.plan; scripts = inputs.now.scripts.items })) }
 {
-    let plan = &inputs.plan;
-    // The read shows the proof what the type of a plan keeps.
-    let _two = plan.boxes.len();
-    let journal = work_serially(alloc, plan, &inputs.scripts, gate)?;
+    let journal = worked_journal(alloc, inputs, gate)?;
     let mut out = String::new(alloc);
-    put_output(&mut out, alloc, plan, &journal)?;
+    put_output(&mut out, alloc, &inputs.plan, &journal)?;
     Ok(out.into_bytes())
 }
 
@@ -61,12 +76,12 @@ pub fn run_outcome<S: Shelf, G: Gate>(
     alloc: Global,
     shelf: &mut S,
     plan_name: &str,
-    script_names: &[String],
+    script_names: &[&str],
     gate: &G,
 ) -> Result<Vec<u8>, Stop>
-    ensures told { Makes (λ text. text.items) result (command_told (S.held shelf.old) (Command.Run plan_name.now (bytes_of script_names.now))) }
-    ensures worked { OnOk result (AreWorked (run_told (S.held shelf.old) plan_name.now (bytes_of script_names.now))) }
-    ensures fault { IsErrOf result Stop.ShelfFault → HasShelfFault (S.held shelf.old) (S.faults shelf.old) (S.faults shelf.new) (Command.Run plan_name.now (bytes_of script_names.now)) }
+    ensures told { Makes (λ text. text.items) result (command_told (S.held shelf.old) (Command.Run plan_name.now (named script_names.now))) }
+    ensures worked { OnOk result (AreWorked (run_told (S.held shelf.old) plan_name.now (named script_names.now))) }
+    ensures fault { IsErrOf result Stop.ShelfFault → HasShelfFault (S.held shelf.old) (S.faults shelf.old) (S.faults shelf.new) (Command.Run plan_name.now (named script_names.now)) }
     ensures same { (n : List ℕ) → S.held shelf.new n ≡ S.held shelf.old n }
 {
     let inputs = fetch_inputs(alloc, shelf, plan_name, script_names)?;

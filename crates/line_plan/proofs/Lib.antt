@@ -32,4 +32,4 @@ pub mod Longer
 pub mod Following
 pub mod SpellLaws
 mod Copied
-mod Upgraded
+pub mod Upgraded

@@ -1,5 +1,5 @@
 -- The sections of a line: each from the starter of its rear box to the berth of its box in advance.
-use Rattle.std.specs.Prelude.{ℕ, ◌+◌, ◌-◌, Option, None, Some, length, IsTrue}
+use Rattle.std.specs.Prelude.{ℕ, ◌+◌, ◌-◌, zero, suc, List, [], ◌∷◌, Option, None, Some, length, IsTrue}
 use Rattle.block_words.specs.declared.Way.{Way}
 use Rattle.block_words.specs.declared.Way.TheVariants.{Up, Down}
 use Rattle.line_plan.specs.Frames.{starter_of, berth_of}
@@ -43,3 +43,12 @@ limit_at (Some berth) = most_of berth.permissive
 -- the most trains that a section may hold
 abbrev pub limit_of : PlanFields → Section → ℕ
 limit_of plan section = limit_at (section_berth plan section)
+
+-- the sections of so many pairs of neighbours, from box b and the next on: of each pair the down line's, then the up line's
+abbrev pub sections_from : ℕ → ℕ → List Section
+sections_from b zero = []
+sections_from b (suc pairs) = record { rear = b; way = Down } ∷ record { rear = b + 1; way = Up } ∷ sections_from (b + 1) pairs
+
+-- the sections of a line, in the order in which they are printed
+abbrev pub sections_of : PlanFields → List Section
+sections_of plan = sections_from 0 (length plan.boxes - 1)

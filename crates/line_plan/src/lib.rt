@@ -31,7 +31,7 @@ pub use label::Label;
 pub use limits::{MOST_LOOKS, PLAN_LIMIT, most_boxes, most_delay};
 pub use numbers::Numbers;
 pub use plan::{Class, Plan, TrainPlan};
-pub use printing::print_plan;
+pub use printing::{kind_word, print_plan, way_word};
 pub use reading::{read_is_a_plan, read_plan};
 pub use section::Section;
 pub use signal::{Signal, To, TrackLock};

@@ -53,7 +53,8 @@ fn put_end(out: &mut Vec<u8>) -> Result<(), NoMemory>
     Ok(())
 }
 
-fn way_word(way: Way) -> &'static str
+/// The word of a way: `up` or `down`.
+pub fn way_word(way: Way) -> &'static str
     ensures { result.now ≡ way_word way }
 {
     match way {
@@ -62,7 +63,8 @@ fn way_word(way: Way) -> &'static str
     }
 }
 
-fn kind_word(kind: Kind) -> &'static str
+/// The word of a lever's kind, as `signal` or `points`.
+pub fn kind_word(kind: Kind) -> &'static str
     ensures { result.now ≡ kind_word kind }
 {
     match kind {

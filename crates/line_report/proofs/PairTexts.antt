@@ -4,11 +4,12 @@ use Rattle.std.specs.List.{flat_map}
 use Rattle.std.proofs.lemmas.List.{append-nil, drop_all, drop_more}
 use Rattle.block_words.specs.declared.Way.TheVariants.{Up, Down}
 use Rattle.line_plan.specs.Plans.{PlanFields}
+use Rattle.line_plan.specs.Sections.{sections_from}
 use Rattle.line_plan.specs.declared.section.Section.{Section}
 use Rattle.line_law.specs.declared.call.Entry.{Entry}
 use Rattle.line_law.specs.declared.ways.ByWay.{ByWay}
 use Rattle.line_report.specs.Between.{AreMost, most_between, pair_text, pairs_text, section_between, trains_at}
-use Rattle.line_report.specs.Sections.{most_of, section_text, sections_from, sections_text}
+use Rattle.line_report.specs.Sections.{most_of, section_text, sections_text}
 
 -- a section's line with the most trains that it held
 abbrev line_told : PlanFields → List Entry → Section → List ℕ

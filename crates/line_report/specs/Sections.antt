@@ -1,24 +1,14 @@
 -- The most trains that each section held.
-use Rattle.std.specs.Prelude.{ℕ, ◌+◌, ◌-◌, zero, suc, List, [], ◌∷◌, ◌++◌, length, codes, decimal, max}
+use Rattle.std.specs.Prelude.{ℕ, List, [], ◌∷◌, ◌++◌, codes, decimal, max}
 use Rattle.std.specs.List.{flat_map}
-use Rattle.block_words.specs.declared.Way.TheVariants.{Up, Down}
 use Rattle.line_plan.specs.Plans.{PlanFields, box_name}
-use Rattle.line_plan.specs.Sections.{advance_of}
+use Rattle.line_plan.specs.Sections.{advance_of, sections_of}
 use Rattle.line_plan.specs.declared.section.Section.{Section}
 use Rattle.line_law.specs.declared.call.Entry.{Entry}
 use Rattle.line_law.specs.History.{after_entry}
 use Rattle.line_law.specs.Sections.{held_by}
 use Rattle.line_law.specs.States.{LineState, opening_state}
 use Rattle.script_text.specs.Names.{way_text}
-
--- the sections of so many pairs of neighbours, from box b and the next on: of each pair the down line's, then the up line's
-abbrev pub sections_from : ℕ → ℕ → List Section
-sections_from b zero = []
-sections_from b (suc pairs) = record { rear = b; way = Down } ∷ record { rear = b + 1; way = Up } ∷ sections_from (b + 1) pairs
-
--- the sections of a line, in the order in which they are printed
-abbrev pub sections_of : PlanFields → List Section
-sections_of plan = sections_from 0 (length plan.boxes - 1)
 
 -- the most trains that a section holds in a state, and after each of these entries from there
 abbrev pub most_from : PlanFields → Section → LineState → List Entry → ℕ

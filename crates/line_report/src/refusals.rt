@@ -49,8 +49,8 @@ pub fn is_refused(reply: &Reply) -> bool
     !is_success(*reply)
 }
 
-// How many entries are refused.
-fn refused_count(entries: &[Entry]) -> usize
+/// How many of these entries have a reply that is a refusal.
+pub fn refused_count(entries: &[Entry]) -> usize
     ensures { result ≡ refused_count entries.now }
 {
     entries

@@ -15,6 +15,7 @@ use block_words::Way;
 use line_law::{ByWay, Entry, Journal, Plain};
 use line_plan::{Plan, Section};
 use rail_text::NoMemory;
+use script_text::way_word;
 use std::alloc::{AllocError, Global};
 use std::fmt::Write;
 
@@ -150,16 +151,6 @@ fn most_by_pairs(alloc: Global, plan: &Plan, entries: &[Entry]) -> Result<Vec<By
         raise_beside(&mut most, &plain, plan, entry.box_no);
     }
     Ok(most)
-}
-
-// A way's word.
-fn way_word(way: Way) -> &'static str
-    ensures { result.now ≡ way_text way }
-{
-    match way {
-        Way::Up => "up",
-        Way::Down => "down",
-    }
 }
 
 // A section as it is named: its way, its rear box and its box in advance.

@@ -9,6 +9,7 @@ mod judged;
 mod levers;
 mod lines;
 mod refusals;
+mod reports;
 mod through;
 mod trains;
 mod worked;

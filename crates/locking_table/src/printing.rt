@@ -68,8 +68,9 @@ fn put_conds(out: &mut String, conds: &[Cond]) -> Result<(), AllocError>
     }
 }
 
+/// Puts the one text that spells a row behind a text. Where memory runs out a part may stand behind it.
 #[tactic(auto, using(crate::proofs::PrintLemmas::print_rules))]
-fn put_row(out: &mut String, row: &Row) -> Result<(), AllocError>
+pub fn put_row(out: &mut String, row: &Row) -> Result<(), AllocError>
     ensures { OnOk result (string_bytes out.new ≡ string_bytes out.old ++ row_text row.now) }
 {
     let subject = row.subject;

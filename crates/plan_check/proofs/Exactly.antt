@@ -10,7 +10,7 @@ use Rattle.locking_table.specs.Sound.{IsRow, RowFits}
 use Rattle.locking_table.specs.declared.row.Row.{Row}
 use Rattle.line_plan.specs.Frames.{BoxFields, frame_size}
 use Rattle.line_plan.specs.Plans.{IsBoxRow, IsPlan, PlanFields, box_at, no_box}
-use Rattle.line_plan.specs.Sections.{IsSection, section_berth, section_starter}
+use Rattle.line_plan.specs.Sections.{IsSection, section_berth, section_starter, sections_from, sections_of}
 use Rattle.line_plan.specs.Ways.{leaves}
 use Rattle.line_plan.specs.declared.berth.Berth.{Berth}
 use Rattle.line_plan.specs.declared.frame.Kind.{Kind}
@@ -20,7 +20,7 @@ use Rattle.line_plan.specs.declared.section.Section.{Section}
 use Rattle.line_plan.specs.declared.signal.Signal.{Signal}
 use Rattle.line_law.proofs.PlanFacts.{sound}
 use Rattle.plan_check.specs.Clashes.{Clash, do_clash}
-use Rattle.plan_check.specs.Found.{box_findings, boxes_findings, clash_findings, clashes_from, clashes_with, findings_of, gap_findings, is_spare, lever_findings, section_findings, sections_from, sections_of, stands_in}
+use Rattle.plan_check.specs.Found.{box_findings, boxes_findings, clash_findings, clashes_from, clashes_with, findings_of, gap_findings, is_spare, lever_findings, section_findings, stands_in}
 use Rattle.plan_check.specs.Told.{HasNoRow, LacksBerth, LacksStarter, RowsClashAt, no_row, row_at}
 use Rattle.plan_check.specs.declared.finding.Finding.{Finding}
 use Rattle.plan_check.specs.declared.finding.Finding.TheVariants.{RowsClash, LeverWithoutRow, NoBerth, NoStarter}

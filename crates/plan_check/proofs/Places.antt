@@ -7,13 +7,13 @@ use Rattle.block_words.specs.declared.Way.TheVariants.{Up, Down}
 use Rattle.locking_table.specs.declared.row.Row.{Row}
 use Rattle.line_plan.specs.Frames.{BoxFields}
 use Rattle.line_plan.specs.Plans.{IsPlan, PlanFields}
-use Rattle.line_plan.specs.Sections.{IsSection, section_berth, section_starter}
+use Rattle.line_plan.specs.Sections.{IsSection, section_berth, section_starter, sections_from, sections_of}
 use Rattle.line_plan.specs.declared.berth.Berth.{Berth}
 use Rattle.line_plan.specs.declared.frame.Lever.{Lever}
 use Rattle.line_plan.specs.declared.section.Section.{Section}
 use Rattle.line_plan.specs.declared.signal.Signal.{Signal}
 use Rattle.plan_check.specs.Clashes.{do_clash}
-use Rattle.plan_check.specs.Found.{IsOfPlan, box_findings, boxes_findings, clash_findings, clashes_from, clashes_with, findings_of, gap_findings, is_spare, lever_findings, section_findings, sections_from, sections_of, stands_in}
+use Rattle.plan_check.specs.Found.{IsOfPlan, box_findings, boxes_findings, clash_findings, clashes_from, clashes_with, findings_of, gap_findings, is_spare, lever_findings, section_findings, stands_in}
 use Rattle.plan_check.specs.declared.finding.Finding.{Finding}
 use Rattle.plan_check.specs.declared.finding.Finding.TheVariants.{RowsClash, LeverWithoutRow, NoBerth, NoStarter}
 

@@ -4,7 +4,8 @@ use Rattle.std.specs.List.{flat_map}
 use Rattle.block_words.specs.declared.Way.TheVariants.{Up, Down}
 use Rattle.line_plan.specs.Plans.{PlanFields}
 use Rattle.plan_check.specs.declared.finding.Finding.{Finding}
-use Rattle.plan_check.specs.Found.{pair_findings, section_findings, sections_from}
+use Rattle.line_plan.specs.Sections.{sections_from}
+use Rattle.plan_check.specs.Found.{pair_findings, section_findings}
 
 -- the pairs from the first on
 pub pair_first : (plan : PlanFields) (b n : ℕ) → b < n → flat_map (section_findings plan) (sections_from b (n - b)) ≡ pair_findings plan b ++ flat_map (section_findings plan) (sections_from (b + 1) (n - (b + 1)))

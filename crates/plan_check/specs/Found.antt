@@ -1,11 +1,11 @@
 -- The findings on a plan.
-use Rattle.std.specs.Prelude.{ℕ, ◌+◌, ◌-◌, ◌<◌, zero, suc, List, [], ◌∷◌, ◌++◌, length, Bool, true, false, not, ◌&&◌, ◌||◌, ◌==◌, if◌then◌else◌, Option, Some, None}
+use Rattle.std.specs.Prelude.{ℕ, ◌+◌, ◌<◌, List, [], ◌∷◌, ◌++◌, length, Bool, true, false, not, ◌&&◌, ◌||◌, ◌==◌, if◌then◌else◌, Option, Some, None}
 use Rattle.std.specs.List.{flat_map, list_any}
 use Rattle.block_words.specs.declared.Way.TheVariants.{Up, Down}
 use Rattle.locking_table.specs.declared.row.Row.{Row}
 use Rattle.line_plan.specs.Frames.{BoxFields}
 use Rattle.line_plan.specs.Plans.{PlanFields}
-use Rattle.line_plan.specs.Sections.{IsSection, section_berth, section_starter}
+use Rattle.line_plan.specs.Sections.{IsSection, section_berth, section_starter, sections_of}
 use Rattle.line_plan.specs.declared.berth.Berth.{Berth}
 use Rattle.line_plan.specs.declared.frame.Kind.{Kind}
 use Rattle.line_plan.specs.declared.frame.Kind.TheVariants as kinds
@@ -54,15 +54,6 @@ abbrev pub lever_findings : ℕ → List Row → Lever → List Finding
 lever_findings b rows lever = if not (is_spare lever.kind) && not (stands_in rows lever.number) then LeverWithoutRow b lever.number ∷ [] else []
 
 -- ---- sections
-
--- the sections of so many pairs of neighbours, from box b and the next on: of each pair the down line's, then the up line's
-abbrev pub sections_from : ℕ → ℕ → List Section
-sections_from b zero = []
-sections_from b (suc pairs) = record { rear = b; way = Down } ∷ record { rear = b + 1; way = Up } ∷ sections_from (b + 1) pairs
-
--- the sections of a line, in the order in which they are printed
-abbrev pub sections_of : PlanFields → List Section
-sections_of plan = sections_from 0 (length plan.boxes - 1)
 
 -- a section with a starter and no berth, or with a berth and no starter
 abbrev pub gap_findings : Section → Option Signal → Option Berth → List Finding

@@ -2,8 +2,8 @@
 
 ghost use Rattle.std.specs.Prelude.{◌≡◌, ◌++◌, ◌+◌, ◌<◌, OnOk, length, option_map};
 ghost use Rattle.std.specs.List.{flat_map};
-ghost use Rattle.line_plan.specs.Sections.{IsSection};
-ghost use Rattle.plan_check.specs.Found.{pair_findings, section_findings, sections_of};
+ghost use Rattle.line_plan.specs.Sections.{IsSection, sections_of};
+ghost use Rattle.plan_check.specs.Found.{pair_findings, section_findings};
 
 use crate::finding::Finding;
 use block_words::Way;

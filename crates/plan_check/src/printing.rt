@@ -9,21 +9,10 @@ ghost use Rattle.plan_check.specs.Found.{IsOfPlan};
 ghost use Rattle.plan_check.specs.Texts.{box_text, clash_text, finding_text, findings_text, gap_text, lever_text};
 
 use crate::finding::Finding;
-use block_words::Way;
-use line_plan::{Plan, Section};
+use line_plan::{Plan, Section, way_word};
 use rail_text::NoMemory;
 use std::alloc::{AllocError, Global};
 use std::fmt::Write;
-
-// A way's word.
-fn way_word(way: Way) -> &'static str
-    ensures { result.now ≡ way_word way }
-{
-    match way {
-        Way::Up => "up",
-        Way::Down => "down",
-    }
-}
 
 // A box as it is named.
 #[tactic(auto, unfolding(crate::specs::Texts::box_text))]

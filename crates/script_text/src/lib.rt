@@ -21,6 +21,7 @@ pub use answers::read_reply;
 pub use calls::{print_call, put_call, read_call};
 pub use laws::{calls_law, moments_law, replies_law, scripts_law};
 pub use moments::{put_moment, read_moment, read_ready};
+pub use names::way_word;
 pub use printing::print_script;
 pub use reading::read_script;
 pub use replies::{print_reply, put_reply};

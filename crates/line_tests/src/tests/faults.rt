@@ -20,7 +20,7 @@ type Fetch = (
     Status,
 );
 
-const FETCHES: [Fetch; 14] = [
+const FETCHES: [Fetch; 19] = [
     (
         Some(1),
         RUN_TWO,
@@ -79,6 +79,27 @@ const FETCHES: [Fetch; 14] = [
     (None, JUDGE, &[TWO_BOXES], Status::ShelfFault),
     // A plan that is refused is refused before the journal is fetched.
     (Some(2), JUDGE, &[b"", IDLE_JOURNAL], Status::Refused),
+    (
+        Some(1),
+        &["check", "plan"],
+        &[TWO_BOXES],
+        Status::ShelfFault,
+    ),
+    (None, &["check", "plan"], &[], Status::ShelfFault),
+    (
+        Some(1),
+        &["tables", "plan", "Ash"],
+        &[TWO_BOXES],
+        Status::ShelfFault,
+    ),
+    (
+        Some(1),
+        &["upgrade", "plan"],
+        &[TWO_BOXES],
+        Status::ShelfFault,
+    ),
+    // The name of a box names no text.
+    (Some(2), &["tables", "plan", "Ash"], &[b""], Status::Refused),
 ];
 
 #[test]
@@ -106,7 +127,7 @@ type Output = (
     u64,
 );
 
-const OUTPUTS: [Output; 4] = [
+const OUTPUTS: [Output; 6] = [
     (
         RUN_TWO,
         &[
@@ -143,6 +164,28 @@ const OUTPUTS: [Output; 4] = [
         Status::Done,
         b"wrong at 1\nsaid heard 1 1\nlaw silent 0\n",
         4,
+    ),
+    (
+        &["tables", "plan", "Ash"],
+        &[b"plan 1\nboxes 2\ndelay 2\nlooks 9\nbox Ash\nlever 1 lock\nbox Beech\nend\n"],
+        Status::Done,
+        b"frame Ash\nlever 1 lock blue\nrows 0\n",
+        4,
+    ),
+    (
+        &["stress", "1"],
+        &[],
+        Status::Done,
+        b"stress 1\n\
+            boxes 3\n\
+            trains 1\n\
+            calls 60\n\
+            refused 0\n\
+            section down Ash Beech most 1\n\
+            section up Beech Ash most 0\n\
+            section down Beech Cedar most 1\n\
+            section up Cedar Beech most 0\n",
+        17,
     ),
 ];
 

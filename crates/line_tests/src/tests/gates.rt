@@ -82,3 +82,14 @@ fn calls_pass_the_gate_once_and_in_order(rt: HostRuntime) -> Result<(), Fail> {
     }
     Ok(())
 }
+
+#[test]
+fn calls_of_a_made_line_pass_the_gate(rt: HostRuntime) -> Result<(), Fail> {
+    let gate = Notebook {
+        calls: AtomicU64::new(0),
+        notes: AtomicU64::new(0),
+    };
+    let _answer = work_behind(&rt, rt.alloc(), &["stress", "2"], &[], SOUND, &gate)?;
+    assert_eq!(rt; gate.calls.load(Ordering::SeqCst), 120);
+    Ok(())
+}

@@ -127,7 +127,7 @@ fn cut_plans_are_refused(rt: HostRuntime) -> Result<(), Fail> {
 }
 
 // Words off the command table.
-const OFF: [&[&str]; 16] = [
+const OFF: [&[&str]; 35] = [
     &[],
     &["run"],
     &["run", "plan"],
@@ -144,6 +144,25 @@ const OFF: [&[&str]; 16] = [
     &["judge", "plan", "journal", "journal"],
     &["judge", "plan", ""],
     &["judge", "-plan", "journal"],
+    &["-x"],
+    &["help"],
+    &["help", "run"],
+    &["run", "--", "plan", "ash"],
+    &["check"],
+    &["check", "plan", "ash"],
+    &["check", "-h"],
+    &["tables", "plan"],
+    &["tables", "plan", ""],
+    &["tables", "plan", "Ash", "Beech"],
+    &["upgrade"],
+    &["upgrade", "plan", "plan"],
+    &["stress"],
+    &["stress", "0"],
+    &["stress", "201"],
+    &["stress", "01"],
+    &["stress", "+1"],
+    &["stress", "one"],
+    &["stress", "1", "1"],
 ];
 
 #[test]

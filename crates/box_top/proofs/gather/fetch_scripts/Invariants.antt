@@ -1,4 +1,4 @@
-use Rattle.std.proofs.Common.{◌≡◌, ℕ, ◌≤◌, List, Some, map, slice_get, string_bytes, vec_len}
+use Rattle.std.proofs.Common.{◌≡◌, ℕ, ◌≤◌, List, Some, map, slice_get, vec_len}
 use Rattle.script_text.specs.Scripts.{IsScriptOf}
 use Rattle.script_text.specs.declared.script.Script.{Script}
 use Rattle.box_top.proofs.Gathering.{AreRead}
@@ -10,7 +10,7 @@ invariant-loop-name g l =
     record {
       same : (n : List ℕ) → g.S.Shelf.held l.shelf n ≡ held n;
       later : (n : List ℕ) → g.S.Shelf.faults l.fn.shelf n ≤ g.S.Shelf.faults l.shelf n;
-      read : AreRead held l.plan (map (λ name. string_bytes name) l.names) l.name-index l.scripts.items;
+      read : AreRead held l.plan (map (λ name. name.now) l.names) l.name-index l.scripts.items;
       counted : vec_len l.scripts ≡ l.name-index;
       own : (b : ℕ) (script : Script) → slice_get l.scripts.items b ≡ Some script → IsScriptOf l.plan b script;
     }

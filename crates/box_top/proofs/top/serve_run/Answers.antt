@@ -1,11 +1,11 @@
 use Rattle.std.proofs.Common.{refl}
-use Rattle.box_top.specs.Commands.{Command, bytes_of}
+use Rattle.box_top.specs.Commands.{Command, named}
 use Rattle.box_top.proofs.Headlines.{run_done}
 use Rattle.box_top.proofs.Outcomes.{outcome_printed}
 use Rattle.box_top.proofs.top.serve_run.Goals as goal
 
 pub returns-clause-printed : goal.returns-clause-printed
-returns-clause-printed g c = outcome_printed c.run_outcome-outcome.result (λ text. text.items) (g.S.Shelf.held c.args.shelf.now) _ (Command.Run c.args.plan.now (bytes_of c.args.scripts.now)) _ _ _ refl c.run_outcome-outcome.ensures.told c.put_outcome.ensures.took
+returns-clause-printed g c = outcome_printed c.run_outcome-outcome.result (λ text. text.items) (g.S.Shelf.held c.args.shelf.now) _ (Command.Run c.args.plan.now (named c.args.scripts.now)) _ _ _ refl c.run_outcome-outcome.ensures.told c.put_outcome.ensures.took
 
 pub returns-clause-headline : goal.returns-clause-headline
-returns-clause-headline g c done told = run_done c.run_outcome-outcome.result (λ text. text.items) (g.S.Shelf.held c.args.shelf.now) c.args.plan.now (bytes_of c.args.scripts.now) _ _ _ c.run_outcome-outcome.ensures.told c.run_outcome-outcome.ensures.worked c.put_outcome.ensures.took done told
+returns-clause-headline g c done told = run_done c.run_outcome-outcome.result (λ text. text.items) (g.S.Shelf.held c.args.shelf.now) c.args.plan.now (named c.args.scripts.now) _ _ _ c.run_outcome-outcome.ensures.told c.run_outcome-outcome.ensures.worked c.put_outcome.ensures.took done told

@@ -1,6 +1,7 @@
 use Rattle.std.proofs.Common.{◌≡◌, ◌-◌, ◌++◌, length}
 use Rattle.std.specs.List.{flat_map}
-use Rattle.plan_check.specs.Found.{section_findings, sections_from, sections_of}
+use Rattle.line_plan.specs.Sections.{sections_from, sections_of}
+use Rattle.plan_check.specs.Found.{section_findings}
 use Rattle.plan_check.proofs.gaps.add_gaps.Given as goal
 
 abbrev pub invariant-loop-rear : goal.invariant-loop-rear

@@ -1,0 +1,172 @@
+-- What is printed where a command of the desk is done.
+use Rattle.std.proofs.Common.{◌≡◌, ℕ, List, [], ◌∷◌, Option, Some, None, Result, Ok, Err, OnOk, length, get_or, refl, sym, ap, subst, ◌∙◌, arith}
+use Rattle.std.proofs.lemmas.List.{length-map}
+use Rattle.rail_text.specs.Bytes.{appended}
+use Rattle.rail_text.specs.Gives.{Fault}
+use Rattle.line_plan.specs.Plans.{IsPlan, PlanFields, names_of}
+use Rattle.line_plan.specs.Printing.{plan_text}
+use Rattle.line_plan.specs.Reading.{plan_of}
+use Rattle.line_plan.specs.Upgrades.{upgraded}
+use Rattle.line_plan.proofs.Drafted.{plan_of_is_plan}
+use Rattle.line_plan.proofs.SpelledPlans.{printed_is_read}
+use Rattle.line_plan.proofs.Upgraded.{upgraded_is}
+use Rattle.line_law.specs.declared.call.Entry.{Entry}
+use Rattle.line_law.specs.History.{IsLegal}
+use Rattle.line_report.specs.declared.judging.Verdict.{Verdict}
+use Rattle.line_report.specs.declared.judging.Verdict.TheVariants.{Legal, WrongAt}
+use Rattle.line_report.specs.Verdicts.{judgement_text, legal_text, verdict_of, verdict_text, wrong_text}
+use Rattle.plan_check.specs.Found.{findings_of}
+use Rattle.plan_check.specs.Texts.{findings_text}
+use Rattle.plan_check.proofs.Exactly.{clash_exactly, lever_exactly, no_berth_exactly, no_starter_exactly}
+use Rattle.script_text.proofs.Named.{found_is}
+use Rattle.box_top.specs.declared.command.DeskCommand.{DeskCommand}
+use Rattle.box_top.specs.declared.command.DeskCommand.TheVariants as desk
+use Rattle.box_top.specs.declared.status.Status.{Status}
+use Rattle.box_top.specs.declared.status.Status.TheVariants as statuses
+use Rattle.box_top.specs.declared.stop.Stop.{Stop}
+use Rattle.box_top.specs.Commands.{Command, desk_shown}
+use Rattle.box_top.specs.Frames.{box_named, box_told, frame_text, frame_told}
+use Rattle.box_top.specs.Headlines.{AreFindings, IsJudgementOf, IsWrongText, PrintsFindings, PrintsFrame, PrintsJudgement, PrintsUpgrade, Reported}
+use Rattle.box_top.specs.Judgements.{Case, IsJudged, IsLawful, case_told, judgement_of}
+use Rattle.box_top.specs.Outcomes.{IsSound, command_told}
+use Rattle.box_top.specs.Told.{AreTold, Held, Told, Untold, Gives, Refuses, IsGiven, Makes, plan_told, read_told, text_told, told_then}
+use Rattle.box_top.specs.Top.{PutOutcome}
+use Rattle.box_top.proofs.AllTold.{IsTold, told_case, told_plan}
+use Rattle.box_top.proofs.Outcomes.{IsPut, outcome_done}
+
+-- ---- a plan and what is printed of it
+
+-- a plan that is told is a plan
+plan_is : (held : Held) (name : List ℕ) (plan : PlanFields) → plan_told held name ≡ Gives plan → IsPlan plan
+plan_is held name plan e = go (held name) e where
+  reads : (bytes : List ℕ) (r : Result PlanFields Fault) → plan_of bytes ≡ r → read_told 1 r ≡ Gives plan → IsPlan plan
+  reads bytes (Ok read) is f = let same : read ≡ plan = cc in subst IsPlan same (plan_of_is_plan bytes read is)
+  reads bytes (Err fault) is f = absurd cc
+
+  go : (o : Option (List ℕ)) → text_told 1 plan_of o ≡ Gives plan → IsPlan plan
+  go None f = absurd cc
+  go (Some bytes) f = reads bytes (plan_of bytes) refl f
+
+-- the text of this name spells a plan, and the bytes taken are what is told of it
+record PrintsOf (held : Held) (name : List ℕ) (told : PlanFields → Told (List ℕ)) (old new : Option (List ℕ)) : Type 0 where
+  pub plan : PlanFields
+  pub spelled : plan_told held name ≡ Gives plan
+  pub text : List ℕ
+  pub given : IsGiven text (told plan)
+  pub taken : new ≡ appended old text
+
+plan_done : {X : Type 0} (outcome : Result X Stop) (view : X → List ℕ) (held : Held) (name : List ℕ) (told : PlanFields → Told (List ℕ)) (old new : Option (List ℕ)) (status : Status)
+    → Makes view outcome (told_then (plan_told held name) told) → PutOutcome view outcome old new status → status ≡ statuses.Done → AreTold held (name ∷ []) → PrintsOf held name told old new
+plan_done {X = X} outcome view held name told old new status made put e all = go (outcome_done outcome view old new status put e) where
+  prints : (text : List ℕ) (t : Told PlanFields) → new ≡ appended old text → plan_told held name ≡ t → IsTold t → IsGiven text (told_then t told) → PrintsOf held name told old new
+  prints text Untold taken is there h = absurd there
+  prints text (Gives plan) taken is there h = record { plan = plan; spelled = is; text = text; given = h; taken = taken }
+  prints text (Refuses n fault) taken is there h = absurd h
+
+  go : IsPut outcome view old new → PrintsOf held name told old new
+  go p =
+      let given : Makes view (Ok p.made) (told_then (plan_told held name) told) = subst (λ (o : Result X Stop). Makes view o (told_then (plan_told held name) told)) p.is made in
+      prints (view p.made) (plan_told held name) p.taken refl (told_plan held name all) given
+
+-- ---- a check
+
+findings_are : (plan : PlanFields) → IsPlan plan → AreFindings plan (findings_of plan)
+findings_are plan is = record {
+  order = refl;
+  clash = λ b first second lever. clash_exactly plan b first second lever is;
+  lever = λ b lever. lever_exactly plan b lever;
+  no_berth = λ section. no_berth_exactly plan section;
+  no_starter = λ section. no_starter_exactly plan section;
+}
+
+check_done : (held : Held) (name : List ℕ) (old new : Option (List ℕ)) → PrintsOf held name (λ plan. Gives (findings_text plan (findings_of plan))) old new → PrintsFindings held name old new
+check_done held name old new p = record {
+  plan = p.plan;
+  spelled = p.spelled;
+  findings = findings_of p.plan;
+  exact = findings_are p.plan (plan_is held name p.plan p.spelled);
+  taken = p.taken ∙ ap (appended old) (sym p.given);
+}
+
+-- ---- a frame
+
+frame_done : (held : Held) (plan_name name : List ℕ) (old new : Option (List ℕ)) → PrintsOf held plan_name (λ plan. frame_told plan name) old new → PrintsFrame held plan_name name old new
+frame_done held plan_name name old new p = go (box_named p.plan name) refl p.given where
+  go : (found : Option ℕ) → box_named p.plan name ≡ found → IsGiven p.text (told_then (box_told p.plan found) (λ box_plan. Gives (frame_text box_plan))) → PrintsFrame held plan_name name old new
+  go None e h = absurd h
+  go (Some b) e h =
+      let is = found_is (names_of p.plan.boxes) name b e in
+      record {
+        plan = p.plan;
+        spelled = p.spelled;
+        box_no = b;
+        within = omega (arith, is.0, length-map p.plan.boxes (λ box_plan. box_plan.name));
+        named = sym is.1;
+        taken = p.taken ∙ ap (appended old) (sym h);
+      }
+
+-- ---- an upgrade
+
+upgrade_done : (held : Held) (name : List ℕ) (old new : Option (List ℕ)) → PrintsOf held name (λ plan. Gives (plan_text (upgraded plan))) old new → PrintsUpgrade held name old new
+upgrade_done held name old new p = record {
+  plan = p.plan;
+  spelled = p.spelled;
+  read = printed_is_read (upgraded p.plan) (upgraded_is p.plan (plan_is held name p.plan p.spelled));
+  taken = p.taken ∙ ap (appended old) (sym p.given);
+}
+
+-- ---- a judgement
+
+-- what is printed of a wrong reply doesn't say that the journal is legal
+says_legal : (plan : PlanFields) (es : List Entry) (verdict : Verdict) → verdict_text plan es verdict ≡ legal_text (length es) → verdict ≡ Legal
+unfolding legal_text wrong_text
+says_legal plan es Legal e = refl
+says_legal plan es (WrongAt line said law) e = let first : ◌≡◌ {A = ℕ} 119 108 = ap (λ (text : List ℕ). get_or text 0 0) e in absurd (omega arith)
+
+legal_said : (plan : PlanFields) (es : List Entry) → judgement_text plan es ≡ legal_text (length es) → verdict_of plan es ≡ Legal
+unfolding judgement_text
+legal_said plan es e = says_legal plan es (verdict_of plan es) e
+
+legal_told : (plan : PlanFields) (es : List Entry) → verdict_of plan es ≡ Legal → judgement_text plan es ≡ legal_text (length es)
+unfolding judgement_text
+legal_told plan es e = ap (verdict_text plan es) e
+
+-- a journal that isn't legal is wrong at an entry
+wrong_told : (case : Case) (verdict : Verdict) → IsLawful case.plan case.entries → verdict_of case.plan case.entries ≡ verdict → ¬ IsLegal case.plan case.entries → IsWrongText case (judgement_of case)
+unfolding judgement_text
+wrong_told case Legal law e not = absurd (not (law.legal.0 e))
+wrong_told case (WrongAt line said lawful) law e not =
+    record { line = line; said = said; law = lawful; is = law.wrong line said lawful e; printed = ap (verdict_text case.plan case.entries) e }
+
+judgement_is : (case : Case) → IsJudged (Gives case) → IsJudgementOf case (judgement_of case)
+judgement_is case judged =
+    let law = judged case refl in
+    record {
+      printed = refl;
+      legal = (λ said. law.legal.0 (legal_said case.plan case.entries said), λ is. legal_told case.plan case.entries (law.legal.1 is));
+      wrong = wrong_told case (verdict_of case.plan case.entries) law refl;
+    }
+
+judge_done : {X : Type 0} (outcome : Result X Stop) (view : X → List ℕ) (held : Held) (name other : List ℕ) (old new : Option (List ℕ)) (status : Status)
+    → Makes view outcome (command_told held (Command.Judge name other)) → OnOk outcome (IsJudged (case_told held name other)) → PutOutcome view outcome old new status → status ≡ statuses.Done
+    → AreTold held (name ∷ other ∷ []) → PrintsJudgement held name other old new
+judge_done {X = X} outcome view held name other old new status made judged put e told = go (outcome_done outcome view old new status put e) where
+  prints : (text : List ℕ) (t : Told Case) → new ≡ appended old text → case_told held name other ≡ t → IsTold t → IsGiven text (told_then t (λ case. Gives (judgement_of case))) → IsJudged t → PrintsJudgement held name other old new
+  prints text Untold taken is told h judged = absurd told
+  prints text (Gives case) taken is told h judged = record { case = case; spelled = is; text = text; is = rw (sym h) (judgement_is case judged); taken = taken }
+  prints text (Refuses n fault) taken is told h judged = absurd h
+
+  go : IsPut outcome view old new → PrintsJudgement held name other old new
+  go p =
+      let given : Makes view (Ok p.made) (command_told held (Command.Judge name other)) = subst (λ (o : Result X Stop). Makes view o (command_told held (Command.Judge name other))) p.is made in
+      let sound : IsJudged (case_told held name other) = subst (λ (o : Result X Stop). OnOk o (IsJudged (case_told held name other))) p.is judged in
+      prints (view p.made) (case_told held name other) p.taken refl (told_case held name other told) given sound
+
+-- ---- a command of the desk
+
+pub desk_done : {X : Type 0} (command : DeskCommand) (outcome : Result X Stop) (view : X → List ℕ) (held : Held) (old new : Option (List ℕ)) (status : Status)
+    → Makes view outcome (command_told held (desk_shown command)) → OnOk outcome (IsSound held (desk_shown command)) → PutOutcome view outcome old new status → status ≡ statuses.Done → Reported held (Some (desk_shown command)) old new
+desk_done (desk.Check plan) outcome view held old new status made sound put e = λ all. check_done held plan.now old new (plan_done outcome view held plan.now _ old new status made put e all)
+desk_done (desk.Tables plan name) outcome view held old new status made sound put e = λ all. frame_done held plan.now name.now old new (plan_done outcome view held plan.now _ old new status made put e all)
+desk_done (desk.Judge plan journal) outcome view held old new status made sound put e = judge_done outcome view held plan.now journal.now old new status made sound put e
+desk_done (desk.Upgrade plan) outcome view held old new status made sound put e = λ all. upgrade_done held plan.now old new (plan_done outcome view held plan.now _ old new status made put e all)
