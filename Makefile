@@ -1,4 +1,4 @@
-.PHONY: demo build test
+.PHONY: demo build cases test
 
 example = run data/example.plan data/ash.script data/beech.script data/cedar.script
 
@@ -9,6 +9,11 @@ demo:
 # Proves the program and what it stands on, works the example line, and leaves the program as crates/box_main/out/box_main.
 build:
 	cd crates/box_main && rt run -- $(example)
+
+# Works the worked cases without proofs, in about two minutes, and tells each that differs. The largest texts take
+# minutes in a build that tests each step, so the files named *_limits are left to `make test`.
+cases:
+	cd crates/worked_cases && rt try $$(find data -type f ! -name '*_limits' -printf '--data %p=%p ') -- data
 
 # The gate: every proof, the must-fail edits, the tests, and the program as two compilers make it.
 test:

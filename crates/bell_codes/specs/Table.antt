@@ -1,5 +1,6 @@
 -- The code table: the codes in the order of their numbers, which begin at 1.
-use Rattle.std.specs.Prelude.{◌≡◌, ◌≢◌, ℕ, ◌+◌, ◌-◌, ◌<◌, ◌≤◌, true, List, [], ◌∷◌, ◌++◌, length, slice_get, slice_index_or, Option, Some, None, position, bytes_eq}
+use Rattle.std.specs.Prelude.{◌≡◌, ◌≢◌, ℕ, ◌+◌, ◌-◌, ◌<◌, ◌≤◌, true, List, [], ◌∷◌, ◌++◌, length, slice_get}
+use Rattle.std.specs.Prelude.{slice_index_or, Option, Some, None, position, bytes_eq}
 use Rattle.std.specs.List.{list_all, AllPairs}
 use Rattle.std.specs.Option.{option_map}
 use Rattle.bell_codes.specs.Codes.{is_code}

@@ -5,8 +5,6 @@ mod code;
 mod fault;
 mod reading;
 mod table;
-#[cfg(test)]
-mod tests;
 
 pub use code::{Code, print_code};
 pub use fault::{AddFault, BadCode, NoMemory};

@@ -1,9 +1,12 @@
 //! The code table: the bell codes that a line uses, with their numbers.
 
-ghost use Rattle.std.specs.Prelude.{◌≡◌, ◌↔◌, ℕ, ◌+◌, ◌-◌, ◌≤◌, ◌<◌, List, [], ◌∷◌, ◌++◌, length, position, bytes_eq, IsTrue, IsNone, IfSome, Contains, IfOk, IfErr, OnErr, IsErrOf, Some, None, slice_get};
+ghost use Rattle.std.specs.Prelude.{◌≡◌, ◌↔◌, ℕ, ◌+◌, ◌-◌, ◌≤◌, ◌<◌, List, [], ◌∷◌, ◌++◌, length, position, bytes_eq};
+ghost use Rattle.std.specs.Prelude.{IsTrue, IsNone, IfSome, Contains, IfOk, IfErr, OnErr, IsErrOf, Some, None};
+ghost use Rattle.std.specs.Prelude.{slice_get};
 ghost use Rattle.std.specs.Cmp.{partial_equiv_from_equiv};
 ghost use Rattle.std.specs.Cmp.Lexicographic.{pointwise, lists_equiv, nat_list_eq_equiv};
-ghost use Rattle.bell_codes.specs.Table.{code_number, code_at, opening_codes, AddsCode, IsCodeTable, IsNumber, IsWhyNotAdded};
+ghost use Rattle.bell_codes.specs.Table.{code_number, code_at, opening_codes, AddsCode, IsCodeTable, IsNumber};
+ghost use Rattle.bell_codes.specs.Table.{IsWhyNotAdded};
 
 use crate::{AddFault, Code, NoMemory};
 use std::alloc::{AllocError, Global};

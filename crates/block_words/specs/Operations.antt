@@ -1,7 +1,8 @@
 -- What an operation makes of the shared word that it meets.
 use Rattle.std.specs.Prelude.{ℕ, ◌+◌, ◌%◌, ◌^◌, ◌==◌, if◌then◌else◌, bit_and, bit_or}
 use Rattle.block_words.specs.declared.WordOp.{WordOp}
-use Rattle.block_words.specs.declared.WordOp.TheVariants.{Local, Ring, Hear, LookBell, Turn, Pull, LookBlock, LookSection, Enter, TakeOut}
+use Rattle.block_words.specs.declared.WordOp.TheVariants.{Local, Ring, Hear, LookBell, Turn, Pull, LookBlock}
+use Rattle.block_words.specs.declared.WordOp.TheVariants.{LookSection, Enter, TakeOut}
 use Rattle.block_words.specs.declared.bells.TheConstants.{COUNT_MASK}
 use Rattle.block_words.specs.declared.instruments.TheConstants.{SPENT_BIT}
 

@@ -3,7 +3,8 @@ use Rattle.std.specs.Prelude.{ℕ, ◌+◌, ◌-◌, ◌*◌, ◌/◌, ◌%◌, 
 
 -- the lowest bit of the lane of the i-th train
 abbrev pub lane_unit : ℕ → ℕ
-lane_unit i = if i % 4 == 0 then 1 else (if i % 4 == 1 then 65536 else (if i % 4 == 2 then 4294967296 else 281474976710656))
+lane_unit i = if i % 4 == 0 then 1
+    else (if i % 4 == 1 then 65536 else (if i % 4 == 2 then 4294967296 else 281474976710656))
 
 -- the train in the lane of the i-th train, or 0
 abbrev pub lane : ℕ → ℕ → ℕ

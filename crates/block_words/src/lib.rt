@@ -90,6 +90,3 @@ pub enum WordOp {
     /// Keeps the bits of `mask` of a section, and so empties the lane that it leaves out.
     TakeOut { way: Way, mask: u64 },
 }
-
-#[cfg(test)]
-mod tests;

@@ -8,12 +8,12 @@ use Rattle.line_plan.specs.Reading.{plan_of}
 use Rattle.line_report.specs.Reading.{journal_of}
 use Rattle.script_text.specs.Scripts.{script_of}
 use Rattle.script_text.specs.declared.script.Script.{Script}
-use Rattle.box_top.specs.Judgements.{case_told}
-use Rattle.box_top.specs.Runs.{count_told, run_told, scripts_told}
-use Rattle.box_top.specs.Told.{AreTold, Held, Told, Untold, Gives, Refuses, plan_told, read_told, text_told, told_then}
+use Rattle.desk_reports.specs.Judgements.{case_told}
+use Rattle.text_fetch.specs.Runs.{count_told, run_told, scripts_told}
+use Rattle.text_fetch.specs.FromTexts.{AreTold, Held, FromTexts, Untold, Gives, Refuses, plan_told, read_told, text_told, told_then}
 
 -- no text that is needed is untold
-abbrev pub IsTold : {A : Type 0} → Told A → Type 0
+abbrev pub IsTold : {A : Type 0} → FromTexts A → Type 0
 IsTold Untold = ⊥
 IsTold (Gives x) = Unit {0}
 IsTold (Refuses n fault) = Unit {0}
@@ -26,7 +26,7 @@ told_text : {A : Type 0} (n : ℕ) (read : List ℕ → Result A Fault) (o : Opt
 told_text n read None h = absurd cc
 told_text n read (Some bytes) h = told_read n (read bytes)
 
-both_told : {A B : Type 0} (t : Told A) (f : A → Told B) → IsTold t → ((x : A) → IsTold (f x)) → IsTold (told_then t f)
+both_told : {A B : Type 0} (t : FromTexts A) (f : A → FromTexts B) → IsTold t → ((x : A) → IsTold (f x)) → IsTold (told_then t f)
 both_told Untold f h k = absurd h
 both_told (Gives x) f h k = k x
 both_told (Refuses n fault) f h k = tt

@@ -19,17 +19,17 @@ use Rattle.plan_check.specs.Found.{findings_of}
 use Rattle.plan_check.specs.Texts.{findings_text}
 use Rattle.plan_check.proofs.Exactly.{clash_exactly, lever_exactly, no_berth_exactly, no_starter_exactly}
 use Rattle.script_text.proofs.Named.{found_is}
-use Rattle.box_top.specs.declared.command.DeskCommand.{DeskCommand}
-use Rattle.box_top.specs.declared.command.DeskCommand.TheVariants as desk
+use Rattle.command_words.specs.declared.command.DeskCommand.{DeskCommand}
+use Rattle.command_words.specs.declared.command.DeskCommand.TheVariants as desk
 use Rattle.box_top.specs.declared.status.Status.{Status}
 use Rattle.box_top.specs.declared.status.Status.TheVariants as statuses
-use Rattle.box_top.specs.declared.stop.Stop.{Stop}
-use Rattle.box_top.specs.Commands.{Command, desk_shown}
-use Rattle.box_top.specs.Frames.{box_named, box_told, frame_text, frame_told}
+use Rattle.text_fetch.specs.declared.stop.Stop.{Stop}
+use Rattle.command_words.specs.Commands.{Command, desk_shown}
+use Rattle.desk_reports.specs.Frames.{box_named, box_told, frame_text, frame_told}
 use Rattle.box_top.specs.Headlines.{AreFindings, IsJudgementOf, IsWrongText, PrintsFindings, PrintsFrame, PrintsJudgement, PrintsUpgrade, Reported}
-use Rattle.box_top.specs.Judgements.{Case, IsJudged, IsLawful, case_told, judgement_of}
+use Rattle.desk_reports.specs.Judgements.{Case, IsJudged, IsLawful, case_told, judgement_of}
 use Rattle.box_top.specs.Outcomes.{IsSound, command_told}
-use Rattle.box_top.specs.Told.{AreTold, Held, Told, Untold, Gives, Refuses, IsGiven, Makes, plan_told, read_told, text_told, told_then}
+use Rattle.text_fetch.specs.FromTexts.{AreTold, Held, FromTexts, Untold, Gives, Refuses, IsGiven, Makes, plan_told, read_told, text_told, told_then}
 use Rattle.box_top.specs.Top.{PutOutcome}
 use Rattle.box_top.proofs.AllTold.{IsTold, told_case, told_plan}
 use Rattle.box_top.proofs.Outcomes.{IsPut, outcome_done}
@@ -48,17 +48,17 @@ plan_is held name plan e = go (held name) e where
   go (Some bytes) f = reads bytes (plan_of bytes) refl f
 
 -- the text of this name spells a plan, and the bytes taken are what is told of it
-record PrintsOf (held : Held) (name : List ℕ) (told : PlanFields → Told (List ℕ)) (old new : Option (List ℕ)) : Type 0 where
+record PrintsOf (held : Held) (name : List ℕ) (told : PlanFields → FromTexts (List ℕ)) (old new : Option (List ℕ)) : Type 0 where
   pub plan : PlanFields
   pub spelled : plan_told held name ≡ Gives plan
   pub text : List ℕ
   pub given : IsGiven text (told plan)
   pub taken : new ≡ appended old text
 
-plan_done : {X : Type 0} (outcome : Result X Stop) (view : X → List ℕ) (held : Held) (name : List ℕ) (told : PlanFields → Told (List ℕ)) (old new : Option (List ℕ)) (status : Status)
+plan_done : {X : Type 0} (outcome : Result X Stop) (view : X → List ℕ) (held : Held) (name : List ℕ) (told : PlanFields → FromTexts (List ℕ)) (old new : Option (List ℕ)) (status : Status)
     → Makes view outcome (told_then (plan_told held name) told) → PutOutcome view outcome old new status → status ≡ statuses.Done → AreTold held (name ∷ []) → PrintsOf held name told old new
 plan_done {X = X} outcome view held name told old new status made put e all = go (outcome_done outcome view old new status put e) where
-  prints : (text : List ℕ) (t : Told PlanFields) → new ≡ appended old text → plan_told held name ≡ t → IsTold t → IsGiven text (told_then t told) → PrintsOf held name told old new
+  prints : (text : List ℕ) (t : FromTexts PlanFields) → new ≡ appended old text → plan_told held name ≡ t → IsTold t → IsGiven text (told_then t told) → PrintsOf held name told old new
   prints text Untold taken is there h = absurd there
   prints text (Gives plan) taken is there h = record { plan = plan; spelled = is; text = text; given = h; taken = taken }
   prints text (Refuses n fault) taken is there h = absurd h
@@ -151,7 +151,7 @@ judge_done : {X : Type 0} (outcome : Result X Stop) (view : X → List ℕ) (hel
     → Makes view outcome (command_told held (Command.Judge name other)) → OnOk outcome (IsJudged (case_told held name other)) → PutOutcome view outcome old new status → status ≡ statuses.Done
     → AreTold held (name ∷ other ∷ []) → PrintsJudgement held name other old new
 judge_done {X = X} outcome view held name other old new status made judged put e told = go (outcome_done outcome view old new status put e) where
-  prints : (text : List ℕ) (t : Told Case) → new ≡ appended old text → case_told held name other ≡ t → IsTold t → IsGiven text (told_then t (λ case. Gives (judgement_of case))) → IsJudged t → PrintsJudgement held name other old new
+  prints : (text : List ℕ) (t : FromTexts Case) → new ≡ appended old text → case_told held name other ≡ t → IsTold t → IsGiven text (told_then t (λ case. Gives (judgement_of case))) → IsJudged t → PrintsJudgement held name other old new
   prints text Untold taken is told h judged = absurd told
   prints text (Gives case) taken is told h judged = record { case = case; spelled = is; text = text; is = rw (sym h) (judgement_is case judged); taken = taken }
   prints text (Refuses n fault) taken is told h judged = absurd h

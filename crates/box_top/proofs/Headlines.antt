@@ -7,30 +7,30 @@ use Rattle.line_plan.specs.Reading.{plan_of}
 use Rattle.line_plan.proofs.Drafted.{plan_of_is_plan}
 use Rattle.line_law.specs.declared.call.Entry.{Entry}
 use Rattle.line_law.specs.History.{IsLegal}
-use Rattle.line_law.proofs.OneTrain.{held_few_before}
+use Rattle.train_laws.proofs.OneTrain.{held_few_before}
 use Rattle.line_law.proofs.SerialLaws.{journal_legal, journal_parts}
 use Rattle.line_maker.specs.MadeTexts.{made_plan_text}
 use Rattle.script_text.specs.declared.script.Script.{Script}
 use Rattle.box_top.specs.declared.status.Status.{Status}
 use Rattle.box_top.specs.declared.status.Status.TheVariants as statuses
-use Rattle.box_top.specs.declared.stop.Stop.{Stop}
-use Rattle.box_top.specs.Commands.{Command}
+use Rattle.text_fetch.specs.declared.stop.Stop.{Stop}
+use Rattle.command_words.specs.Commands.{Command}
 use Rattle.box_top.specs.Headlines.{HoldsFew, IsJournalOf, PrintsJournal, PrintsSummary}
-use Rattle.box_top.specs.Made.{IsMade, made_run, summary_of}
+use Rattle.line_runs.specs.Made.{IsMade, made_run, summary_of}
 use Rattle.box_top.specs.Outcomes.{command_told}
-use Rattle.box_top.specs.Rosters.{calls_of_scripts}
-use Rattle.box_top.specs.Runs.{AreWorked, Run, count_told, output_of, run_journal, run_told, scripts_told}
-use Rattle.box_top.specs.Serial.{AreScriptsOf}
-use Rattle.box_top.specs.Told.{AreTold, Held, Told, Untold, Gives, Refuses, IsGiven, Makes, read_told, text_told, told_then}
+use Rattle.line_runs.specs.Rosters.{calls_of_scripts}
+use Rattle.text_fetch.specs.Runs.{AreScriptsOf, AreWorked, Run, count_told, run_told, scripts_told}
+use Rattle.line_runs.specs.Outputs.{output_of, run_journal}
+use Rattle.text_fetch.specs.FromTexts.{AreTold, Held, FromTexts, Untold, Gives, Refuses, IsGiven, Makes, read_told, text_told, told_then}
 use Rattle.box_top.specs.Top.{PutOutcome}
 use Rattle.box_top.proofs.AllTold.{IsTold, told_run}
 use Rattle.box_top.proofs.Outcomes.{IsPut, outcome_done}
-use Rattle.box_top.proofs.SerialTurns.{scripts_are}
+use Rattle.line_runs.proofs.SerialTurns.{scripts_are}
 
 -- ---- a run
 
 -- the plan of a run is the one that its first text gives
-plan_given : (plan : PlanFields) (t : Told (Unit {0})) (s : Told (List Script)) (run : Run) → told_then t (λ counted. told_then s (λ scripts. Gives (record { plan = plan; scripts = scripts }))) ≡ Gives run → plan ≡ run.plan
+plan_given : (plan : PlanFields) (t : FromTexts (Unit {0})) (s : FromTexts (List Script)) (run : Run) → told_then t (λ counted. told_then s (λ scripts. Gives (record { plan = plan; scripts = scripts }))) ≡ Gives run → plan ≡ run.plan
 plan_given plan Untold s run e = absurd cc
 plan_given plan (Refuses n fault) s run e = absurd cc
 plan_given plan (Gives counted) Untold run e = absurd cc
@@ -43,7 +43,7 @@ plan_given plan (Gives counted) (Gives scripts) run e =
 -- a run that is told is of a plan
 run_plan : (held : Held) (name : List ℕ) (names : List (List ℕ)) (run : Run) → run_told held name names ≡ Gives run → IsPlan run.plan
 run_plan held name names run e = go (held name) e where
-  rest : PlanFields → Told Run
+  rest : PlanFields → FromTexts Run
   rest plan = told_then (count_told plan (length names)) (λ counted. told_then (scripts_told held plan [] names) (λ scripts. Gives (record { plan = plan; scripts = scripts })))
 
   reads : (bytes : List ℕ) (r : Result PlanFields Fault) → plan_of bytes ≡ r → told_then (read_told 1 r) rest ≡ Gives run → IsPlan run.plan
@@ -74,7 +74,7 @@ pub run_done : {X : Type 0} (outcome : Result X Stop) (view : X → List ℕ) (h
     → Makes view outcome (command_told held (Command.Run name names)) → OnOk outcome (AreWorked (run_told held name names)) → PutOutcome view outcome old new status → status ≡ statuses.Done
     → AreTold held (name ∷ names) → PrintsJournal held name names old new
 run_done {X = X} outcome view held name names old new status made worked put e told = go (outcome_done outcome view old new status put e) where
-  prints : (text : List ℕ) (t : Told Run) → new ≡ appended old text → run_told held name names ≡ t → IsTold t → IsGiven text (told_then t (λ run. Gives (output_of run))) → AreWorked t → PrintsJournal held name names old new
+  prints : (text : List ℕ) (t : FromTexts Run) → new ≡ appended old text → run_told held name names ≡ t → IsTold t → IsGiven text (told_then t (λ run. Gives (output_of run))) → AreWorked t → PrintsJournal held name names old new
   prints text Untold taken is told h worked = absurd told
   prints text (Gives run) taken is told h worked =
       record { run = run; spelled = is; journal = run_journal run; is = journal_is run (run_plan held name names run is) (worked run refl); taken = taken ∙ ap (appended old) (sym h) }

@@ -6,19 +6,19 @@ use Rattle.rail_text.specs.Causes.{Rose}
 use Rattle.rail_text.specs.Gives.{Fault}
 use Rattle.box_top.specs.declared.status.Status.{Status}
 use Rattle.box_top.specs.declared.status.Status.TheVariants as statuses
-use Rattle.box_top.specs.declared.stop.Stop.{Stop}
-use Rattle.box_top.specs.declared.stop.Stop.TheVariants as stops
-use Rattle.box_top.specs.Commands.{Command, texts_of}
+use Rattle.text_fetch.specs.declared.stop.Stop.{Stop}
+use Rattle.text_fetch.specs.declared.stop.Stop.TheVariants as stops
+use Rattle.command_words.specs.Commands.{Command, texts_of}
 use Rattle.box_top.specs.Outcomes.{NoneRose, command_told}
-use Rattle.box_top.specs.Told.{Held, Told, Untold, Gives, Refuses, IsGiven, IsRefused, Makes, StopsAt}
+use Rattle.text_fetch.specs.FromTexts.{Held, FromTexts, Untold, Gives, Refuses, IsGiven, IsRefused, Makes, StopsAt}
 use Rattle.box_top.specs.Top.{Answers, Completes, Printed, PutOutcome, PutStop, PutText, ShelfCause, refused_line, words_line}
 
-answers_done : (told : Told (List ℕ)) (text : List ℕ) → IsGiven text told → Answers told statuses.Done text
+answers_done : (told : FromTexts (List ℕ)) (text : List ℕ) → IsGiven text told → Answers told statuses.Done text
 answers_done Untold text h = inl refl
 answers_done (Gives bytes) text h = (refl, sym h)
 answers_done (Refuses n fault) text h = absurd h
 
-answers_refused : (told : Told (List ℕ)) (n : ℕ) (fault : Fault) → IsRefused n fault told → Answers told statuses.Refused (refused_line n fault)
+answers_refused : (told : FromTexts (List ℕ)) (n : ℕ) (fault : Fault) → IsRefused n fault told → Answers told statuses.Refused (refused_line n fault)
 answers_refused Untold n fault h = inr refl
 answers_refused (Gives bytes) n fault h = absurd h
 answers_refused (Refuses k other) n fault h = (refl, rw (h.0, h.1) refl)
@@ -95,12 +95,12 @@ IsWhole text old new status = ((status ≡ statuses.Done) × (new ≡ appended o
 
 complete_by : (status : Status) (held : Held) (command : Command) (old new : Option (List ℕ)) (text : List ℕ) → Printed held (Some command) old new status → command_told held command ≡ Gives text
     → ¬ (status ≡ statuses.SinkFault) → ¬ (status ≡ statuses.ShelfFault) → IsWhole text old new status
-complete_by statuses.Done held command old new text p told s t = let q = subst (λ (r : Told (List ℕ)). Answers r statuses.Done p.0) told p.1 in inl (refl, p.2 ∙ ap (appended old) q.1)
+complete_by statuses.Done held command old new text p told s t = let q = subst (λ (r : FromTexts (List ℕ)). Answers r statuses.Done p.0) told p.1 in inl (refl, p.2 ∙ ap (appended old) q.1)
 complete_by statuses.NoMemory held command old new text p told s t = inr refl
 complete_by statuses.SinkFault held command old new text p told s t = absurd (s refl)
 complete_by statuses.ShelfFault held command old new text p told s t = absurd (t refl)
-complete_by statuses.Words held command old new text p told s t = let q = subst (λ (r : Told (List ℕ)). Answers r statuses.Words p.0) told p.1 in let bad : statuses.Words ≡ statuses.Done = q.0 in absurd cc
-complete_by statuses.Refused held command old new text p told s t = let q = subst (λ (r : Told (List ℕ)). Answers r statuses.Refused p.0) told p.1 in let bad : statuses.Refused ≡ statuses.Done = q.0 in absurd cc
+complete_by statuses.Words held command old new text p told s t = let q = subst (λ (r : FromTexts (List ℕ)). Answers r statuses.Words p.0) told p.1 in let bad : statuses.Words ≡ statuses.Done = q.0 in absurd cc
+complete_by statuses.Refused held command old new text p told s t = let q = subst (λ (r : FromTexts (List ℕ)). Answers r statuses.Refused p.0) told p.1 in let bad : statuses.Refused ≡ statuses.Done = q.0 in absurd cc
 
 no_shelf_fault : (held : Held) (before now : List ℕ → ℕ) (words : Option Command) → NoneRose before now words → ¬ ShelfCause held before now words
 no_shelf_fault held before now None none fault = fault

@@ -15,44 +15,48 @@ use Rattle.line_law.specs.Sections.{IsClean, held_by}
 use Rattle.line_law.specs.Serial.{calls_left, serial_journal}
 use Rattle.line_maker.specs.MadeCalls.{made_scripts}
 use Rattle.line_maker.specs.MadeTexts.{made_plan_text}
-use Rattle.line_report.specs.Verdicts.{IsWrongAt, box_told, judgement_text, legal_text, wrong_text}
+use Rattle.line_report.specs.Verdicts.{IsWrongAt, box_of_entry, judgement_text, legal_text, wrong_text}
 use Rattle.plan_check.specs.declared.finding.Finding.{Finding}
 use Rattle.plan_check.specs.declared.finding.Finding.TheVariants.{LeverWithoutRow, NoBerth, NoStarter, RowsClash}
 use Rattle.plan_check.specs.Found.{findings_of}
 use Rattle.plan_check.specs.Texts.{findings_text}
-use Rattle.plan_check.specs.Told.{HasNoRow, LacksBerth, LacksStarter, RowsClashAt}
-use Rattle.box_top.specs.Commands.{Command}
-use Rattle.box_top.specs.Frames.{frame_text}
-use Rattle.box_top.specs.Judgements.{Case, case_told}
-use Rattle.box_top.specs.Made.{summary_text}
-use Rattle.box_top.specs.Outputs.{output_text}
-use Rattle.box_top.specs.Rosters.{calls_of_scripts}
-use Rattle.box_top.specs.Runs.{Run, run_told}
-use Rattle.box_top.specs.Told.{AreTold, Held, Gives, plan_told}
+use Rattle.plan_check.specs.FindingFacts.{HasNoRow, LacksBerth, LacksStarter, RowsClashAt}
+use Rattle.command_words.specs.Commands.{Command}
+use Rattle.desk_reports.specs.Frames.{frame_text}
+use Rattle.desk_reports.specs.Judgements.{Case, case_told}
+use Rattle.line_runs.specs.Made.{summary_text}
+use Rattle.line_runs.specs.Outputs.{output_text}
+use Rattle.line_runs.specs.Rosters.{calls_of_scripts}
+use Rattle.text_fetch.specs.Runs.{Run, run_told}
+use Rattle.text_fetch.specs.FromTexts.{AreTold, Held, Gives, plan_told}
 
 -- ---- a line that is worked
 
 -- after each prefix of a journal that is clean for a section, the section holds no more trains than it may
 abbrev pub HoldsFew : PlanFields → List Entry → Type 0
-HoldsFew plan journal = (section : Section) (es more : List Entry) → IsSection plan section → journal ≡ es ++ more → IsClean plan section es → held_by plan (state_of plan es) section ≤ limit_of plan section
+HoldsFew plan journal = (section : Section) (es more : List Entry) → IsSection plan section → journal ≡ es ++ more
+    → IsClean plan section es → held_by plan (state_of plan es) section ≤ limit_of plan section
 
--- The journal is one legal history, which has exactly each script's calls, in order, as they come on one thread; and while it
--- records no overrun, left portion or release in a section, that section holds no more trains than it may.
+-- The journal is one legal history, which has exactly each script's calls, in order, as they come on one thread; and
+-- while it records no overrun, left portion or release in a section, that section holds no more trains than it may.
 pub record IsJournalOf (run : Run) (journal : List Entry) : Type 0 where
   pub serial : journal ≡ serial_journal run.plan (calls_of_scripts run.scripts)
   pub legal : IsLegal run.plan journal
   pub calls : (b : ℕ) → calls_of b journal ≡ calls_left (calls_of_scripts run.scripts) b
   pub trains : HoldsFew run.plan journal
 
--- the texts of these names spell a plan and its scripts, and the bytes taken are the whole output of a journal of their run
-pub record PrintsJournal (held : Held) (plan : List ℕ) (scripts : List (List ℕ)) (old new : Option (List ℕ)) : Type 0 where
+-- the texts of these names spell a plan and its scripts, and the bytes taken are the whole output of a journal of their
+-- run
+pub record PrintsJournal (held : Held) (plan : List ℕ) (scripts : List (List ℕ)) (old new : Option (List ℕ))
+    : Type 0 where
   pub run : Run
   pub spelled : run_told held plan scripts ≡ Gives run
   pub journal : List Entry
   pub is : IsJournalOf run journal
   pub taken : new ≡ appended old (output_text run.plan journal)
 
--- the text of the made line of n trains spells a plan, and the bytes taken are the summary of a journal of that line, worked by its own scripts
+-- the text of the made line of n trains spells a plan, and the bytes taken are the summary of a journal of that line,
+-- worked by its own scripts
 pub record PrintsSummary (n : ℕ) (old new : Option (List ℕ)) : Type 0 where
   pub plan : PlanFields
   pub spelled : plan_of (made_plan_text n) ≡ Ok plan
@@ -60,11 +64,12 @@ pub record PrintsSummary (n : ℕ) (old new : Option (List ℕ)) : Type 0 where
   pub is : IsJournalOf (record { plan = plan; scripts = made_scripts n }) journal
   pub taken : new ≡ appended old (summary_text n plan journal)
 
--- The words are a command; where they are those of `run`, and the shelf tells all their texts, these spell a run, whose output is what was taken; where
--- they are those of `stress`, the summary of the made line is what was taken.
+-- The words are a command; where they are those of `run`, and the shelf tells all their texts, these spell a run, whose
+-- output is what was taken; where they are those of `stress`, the summary of the made line is what was taken.
 abbrev pub Headline : Held → Option Command → Option (List ℕ) → Option (List ℕ) → Type 0
 Headline held None old new = ⊥
-Headline held (Some (Command.Run plan scripts)) old new = AreTold held (plan ∷ scripts) → PrintsJournal held plan scripts old new
+Headline held (Some (Command.Run plan scripts)) old new = AreTold held (plan ∷ scripts)
+    → PrintsJournal held plan scripts old new
 Headline held (Some (Command.Stress n)) old new = PrintsSummary n old new
 Headline held (Some (Command.Check plan)) old new = Unit {0}
 Headline held (Some (Command.Tables plan name)) old new = Unit {0}
@@ -73,11 +78,12 @@ Headline held (Some (Command.Upgrade plan)) old new = Unit {0}
 
 -- ---- a check
 
--- Two rows of a box are found exactly where they clash, a lever exactly where it isn't spare and no row names it, a section exactly where it has a starter
--- and no berth, or a berth and no starter; and they stand in the stated order.
+-- Two rows of a box are found exactly where they clash, a lever exactly where it isn't spare and no row names it, a
+-- section exactly where it has a starter and no berth, or a berth and no starter; and they stand in the stated order.
 pub record AreFindings (plan : PlanFields) (findings : List Finding) : Type 0 where
   pub order : findings ≡ findings_of plan
-  pub clash : (b first second lever : ℕ) → Contains findings (RowsClash b first second lever) ↔ RowsClashAt plan b first second lever
+  pub clash : (b first second lever : ℕ) → Contains findings (RowsClash b first second lever)
+      ↔ RowsClashAt plan b first second lever
   pub lever : (b lever : ℕ) → Contains findings (LeverWithoutRow b lever) ↔ HasNoRow plan b lever
   pub no_berth : (section : Section) → Contains findings (NoBerth section) ↔ LacksBerth plan section
   pub no_starter : (section : Section) → Contains findings (NoStarter section) ↔ LacksStarter plan section
@@ -92,7 +98,8 @@ pub record PrintsFindings (held : Held) (name : List ℕ) (old new : Option (Lis
 
 -- ---- a frame
 
--- the text of the plan's name spells a plan that has a box of the other name, and the bytes taken are the frame of that box
+-- the text of the plan's name spells a plan that has a box of the other name, and the bytes taken are the frame of that
+-- box
 pub record PrintsFrame (held : Held) (plan_name name : List ℕ) (old new : Option (List ℕ)) : Type 0 where
   pub plan : PlanFields
   pub spelled : plan_told held plan_name ≡ Gives plan
@@ -103,16 +110,17 @@ pub record PrintsFrame (held : Held) (plan_name name : List ℕ) (old new : Opti
 
 -- ---- a judgement
 
--- the lines of the first entry whose reply isn't the law's: its number, what the journal says there, and what the law says
+-- the lines of the first entry whose reply isn't the law's: its number, what the journal says there, and what the law
+-- says
 pub record IsWrongText (case : Case) (text : List ℕ) : Type 0 where
   pub line : ℕ
   pub said : Reply
   pub law : Reply
   pub is : IsWrongAt case.plan case.entries line said law
-  pub printed : text ≡ wrong_text case.plan (box_told case.entries line) line said law
+  pub printed : text ≡ wrong_text case.plan (box_of_entry case.entries line) line said law
 
--- The text is what a judge prints of a journal: `legal` and the number of its entries exactly where it is a legal history, else the lines of the
--- first entry whose reply isn't the law's.
+-- The text is what a judge prints of a journal: `legal` and the number of its entries exactly where it is a legal
+-- history, else the lines of the first entry whose reply isn't the law's.
 pub record IsJudgementOf (case : Case) (text : List ℕ) : Type 0 where
   pub printed : text ≡ judgement_text case.plan case.entries
   pub legal : text ≡ legal_text (length case.entries) ↔ IsLegal case.plan case.entries
@@ -128,7 +136,8 @@ pub record PrintsJudgement (held : Held) (plan journal : List ℕ) (old new : Op
 
 -- ---- an upgrade
 
--- the text of this name spells a plan, and the bytes taken are its upgrade as plans are printed; where these keep within the limit of a plan's text, they spell it
+-- the text of this name spells a plan, and the bytes taken are its upgrade as plans are printed; where these keep
+-- within the limit of a plan's text, they spell it
 pub record PrintsUpgrade (held : Held) (name : List ℕ) (old new : Option (List ℕ)) : Type 0 where
   pub plan : PlanFields
   pub spelled : plan_told held name ≡ Gives plan
@@ -137,13 +146,14 @@ pub record PrintsUpgrade (held : Held) (name : List ℕ) (old new : Option (List
 
 -- ---- the desk
 
--- The words are a command; where they are one of the desk's, and the shelf tells its texts, these spell what the command needs, and what it prints of
--- them is what was taken.
+-- The words are a command; where they are one of the desk's, and the shelf tells its texts, these spell what the
+-- command needs, and what it prints of them is what was taken.
 abbrev pub Reported : Held → Option Command → Option (List ℕ) → Option (List ℕ) → Type 0
 Reported held None old new = ⊥
 Reported held (Some (Command.Run plan scripts)) old new = Unit {0}
 Reported held (Some (Command.Stress n)) old new = Unit {0}
 Reported held (Some (Command.Check plan)) old new = AreTold held (plan ∷ []) → PrintsFindings held plan old new
 Reported held (Some (Command.Tables plan name)) old new = AreTold held (plan ∷ []) → PrintsFrame held plan name old new
-Reported held (Some (Command.Judge plan journal)) old new = AreTold held (plan ∷ journal ∷ []) → PrintsJudgement held plan journal old new
+Reported held (Some (Command.Judge plan journal)) old new = AreTold held (plan ∷ journal ∷ [])
+    → PrintsJudgement held plan journal old new
 Reported held (Some (Command.Upgrade plan)) old new = AreTold held (plan ∷ []) → PrintsUpgrade held plan old new

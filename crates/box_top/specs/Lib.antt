@@ -1,17 +1,4 @@
-pub mod Told
-pub mod Fetches
-pub mod Commands
-pub mod ClapTable
-pub mod ClapReads
-pub mod Rosters
-pub mod Looks
-pub mod Serial
 pub mod Statuses
-pub mod Outputs
-pub mod Runs
-pub mod Made
-pub mod Judgements
-pub mod Frames
 pub mod Outcomes
 pub mod Top
 pub mod Headlines

@@ -2,21 +2,19 @@
 
 ghost use Rattle.std.specs.Prelude.{◌≡◌, ℕ, List, Some, None, IsErrOf, OnOk};
 ghost use Rattle.rail_text.specs.Causes.{Rose};
-ghost use Rattle.box_top.specs.Commands.{bytes_of, desk_command_of, desk_shown};
+ghost use Rattle.command_words.specs.Commands.{bytes_of, desk_command_of, desk_shown};
 ghost use Rattle.box_top.specs.Headlines.{Reported};
-ghost use Rattle.box_top.specs.Outcomes.{HasShelfFault, IsSound, NoneRose, command_told};
-ghost use Rattle.box_top.specs.Told.{Makes};
+ghost use Rattle.box_top.specs.Outcomes.{IsSound, NoneRose, command_told};
+ghost use Rattle.text_fetch.specs.FromTexts.{Makes};
 ghost use Rattle.box_top.specs.Top.{Completes, Printed, ShelfCause};
 
-use crate::command::{DeskCommand, desk_command_of};
-use crate::frames::frame_outcome;
-use crate::judging::judge_outcome;
 use crate::put::{WORDS_LINE, put_outcome, put_text};
-use crate::reports::{check_outcome, upgrade_outcome};
 use crate::status::Status;
-use crate::stop::Stop;
+use command_words::{DeskCommand, desk_command_of};
+use desk_reports::{check_outcome, frame_outcome, judge_outcome, upgrade_outcome};
 use rail_text::{NoMemory, Shelf, Sink};
 use std::alloc::Global;
+use text_fetch::Stop;
 
 // What a command of the desk is to print; or why there is nothing.
 fn desk_outcome<S: Shelf>(
@@ -26,7 +24,8 @@ fn desk_outcome<S: Shelf>(
 ) -> Result<Vec<u8>, Stop>
     ensures told { Makes (λ text. text.items) result (command_told (S.held shelf.old) (desk_shown command.entry)) }
     ensures sound { OnOk result (IsSound (S.held shelf.old) (desk_shown command.entry)) }
-    ensures fault { IsErrOf result Stop.ShelfFault → HasShelfFault (S.held shelf.old) (S.faults shelf.old) (S.faults shelf.new) (desk_shown command.entry) }
+    ensures fault { IsErrOf result Stop.ShelfFault
+        → ShelfCause (S.held shelf.old) (S.faults shelf.old) (S.faults shelf.new) (Some (desk_shown command.entry)) }
     ensures same { (n : List ℕ) → S.held shelf.new n ≡ S.held shelf.old n }
 {
     match command {
@@ -44,10 +43,13 @@ pub fn serve_desk<S: Shelf, K: Sink>(
     shelf: &mut S,
     out: &mut K,
 ) -> Status
-    ensures printed { Printed (S.held shelf.old) (Some (desk_shown command.entry)) (K.taken out.old) (K.taken out.new) result }
-    ensures reported { result ≡ Status.Done → Reported (S.held shelf.old) (Some (desk_shown command.entry)) (K.taken out.old) (K.taken out.new) }
+    ensures printed { Printed (S.held shelf.old) (Some (desk_shown command.entry)) (K.taken out.old) (K.taken out.new)
+        result }
+    ensures reported { result ≡ Status.Done
+        → Reported (S.held shelf.old) (Some (desk_shown command.entry)) (K.taken out.old) (K.taken out.new) }
     ensures sink { result ≡ Status.SinkFault → Rose (K.faults out.old) (K.faults out.new) }
-    ensures shelf { result ≡ Status.ShelfFault → HasShelfFault (S.held shelf.old) (S.faults shelf.old) (S.faults shelf.new) (desk_shown command.entry) }
+    ensures shelf { result ≡ Status.ShelfFault
+        → ShelfCause (S.held shelf.old) (S.faults shelf.old) (S.faults shelf.new) (Some (desk_shown command.entry)) }
     ensures not_fetched { result ≡ Status.ShelfFault → out.new ≡ out.old }
     ensures no_memory { result ≡ Status.NoMemory → out.new ≡ out.old }
     ensures same { (n : List ℕ) → S.held shelf.new n ≡ S.held shelf.old n }
@@ -61,8 +63,8 @@ pub fn serve_desk<S: Shelf, K: Sink>(
 ///
 /// - `check PLAN` puts the findings on the plan: how many there are, and a line for each.
 /// - `tables PLAN BOX` puts the frame of the box with that name: its levers with their colours, and its rows.
-/// - `judge PLAN JOURNAL` fetches a journal of the plan's line, and puts `legal` and the number of its entries, or the first
-///   entry whose reply isn't the law's, with both replies.
+/// - `judge PLAN JOURNAL` fetches a journal of the plan's line, and puts `legal` and the number of its entries, or the
+///   first entry whose reply isn't the law's, with both replies.
 /// - `upgrade PLAN` puts the plan in version 2.
 ///
 /// How it ends:
@@ -70,8 +72,8 @@ pub fn serve_desk<S: Shelf, K: Sink>(
 /// - `Done`: what the command prints is put. A finding, or a wrong reply in a journal, is an answer too.
 /// - `Words`: the words are no such command, as those of `run` and `stress` aren't. Nothing is asked of the shelf, and
 ///   `words not understood` is put.
-/// - `Refused`: `refused text T line L: CAUSE` is put, for the text that is refused first, the plan being text 1 and the
-///   journal text 2. A name that no box has is refused as `unknown name` at line 0 of the plan.
+/// - `Refused`: `refused text T line L: CAUSE` is put, for the text that is refused first, the plan being text 1 and
+///   the journal text 2. A name that no box has is refused as `unknown name` at line 0 of the plan.
 /// - `ShelfFault`: the fetch of a text that the words name failed, and nothing before it is refused. Nothing is put.
 /// - `SinkFault`: the sink failed, and took only a front part of what was to be put.
 /// - `NoMemory`: memory ran out. Nothing is put, since what is put is built whole first.
@@ -81,12 +83,18 @@ pub fn desk_top<S: Shelf, K: Sink>(
     shelf: &mut S,
     out: &mut K,
 ) -> Status
-    ensures printed { Printed (S.held shelf.old) (desk_command_of (bytes_of words.now)) (K.taken out.old) (K.taken out.new) result }
-    ensures reported { result ≡ Status.Done → Reported (S.held shelf.old) (desk_command_of (bytes_of words.now)) (K.taken out.old) (K.taken out.new) }
-    ensures complete { NoneRose (S.faults shelf.old) (S.faults shelf.new) (desk_command_of (bytes_of words.now)) → ¬ Rose (K.faults out.old) (K.faults out.new)
-        → Completes (S.held shelf.old) (desk_command_of (bytes_of words.now)) (K.taken out.old) (K.taken out.new) result }
+    ensures printed { Printed (S.held shelf.old) (desk_command_of (bytes_of words.now)) (K.taken out.old)
+        (K.taken out.new) result }
+    ensures reported { result ≡ Status.Done
+        → Reported (S.held shelf.old) (desk_command_of (bytes_of words.now)) (K.taken out.old) (K.taken out.new) }
+    ensures complete { NoneRose (S.faults shelf.old) (S.faults shelf.new) (desk_command_of (bytes_of words.now))
+        → ¬ Rose (K.faults out.old) (K.faults out.new)
+        → Completes (S.held shelf.old) (desk_command_of (bytes_of words.now)) (K.taken out.old) (K.taken out.new)
+        result }
     ensures sink { result ≡ Status.SinkFault → Rose (K.faults out.old) (K.faults out.new) }
-    ensures shelf { result ≡ Status.ShelfFault → ShelfCause (S.held shelf.old) (S.faults shelf.old) (S.faults shelf.new) (desk_command_of (bytes_of words.now)) }
+    ensures shelf { result ≡ Status.ShelfFault
+        → ShelfCause (S.held shelf.old) (S.faults shelf.old) (S.faults shelf.new)
+        (desk_command_of (bytes_of words.now)) }
     ensures not_fetched { result ≡ Status.ShelfFault → out.new ≡ out.old }
     ensures no_memory { result ≡ Status.NoMemory → out.new ≡ out.old }
     ensures not_asked { desk_command_of (bytes_of words.now) ≡ None → shelf.new ≡ shelf.old }

@@ -1,27 +1,15 @@
 //! The commands: what the words of a command line ask for, done over a shelf and a sink.
 #![tactic(auto)]
 
-mod clap_words;
-mod command;
 mod desk;
-mod fetch;
-mod frames;
-mod gate;
-mod gather;
-mod judging;
-mod look;
 mod put;
-mod reports;
-mod roster;
-mod run;
-mod serial;
 mod status;
-mod stop;
-mod stress;
 mod top;
-mod turns;
 
 pub use desk::desk_top;
-pub use gate::{Gate, OpenGate};
+pub use line_runs::{Gate, OpenGate};
 pub use status::Status;
 pub use top::box_top;
+
+// The words of `stress` name as many trains as can be made.
+const _: () = prove!(command_words::MOST_MADE_TRAINS == line_maker::MOST_MADE_TRAINS);

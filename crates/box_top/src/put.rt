@@ -5,9 +5,9 @@ ghost use Rattle.rail_text.specs.Causes.{Rose};
 ghost use Rattle.box_top.specs.Top.{PutOutcome, PutText, refused_line};
 
 use crate::status::Status;
-use crate::stop::Stop;
 use rail_text::{Cause, Sink, SinkFault, cause_text, put_all};
 use std::alloc::{AllocError, Global};
+use text_fetch::Stop;
 
 /// The line that is printed of words that are no command.
 pub const WORDS_LINE: &[u8] = b"words not understood\n";
@@ -35,8 +35,8 @@ pub fn put_text<K: Sink>(out: &mut K, text: &[u8], status: Status) -> Status
     }
 }
 
-/// Puts what a command is to print: its text, or the line of a refusal. Of a fault of the shelf or want of memory nothing
-/// is put.
+/// Puts what a command is to print: its text, or the line of a refusal. Of a fault of the shelf or want of memory
+/// nothing is put.
 pub fn put_outcome<K: Sink>(alloc: Global, out: &mut K, outcome: Result<Vec<u8>, Stop>) -> Status
     ensures took { PutOutcome (λ text. text.items) outcome (K.taken out.old) (K.taken out.new) result }
     ensures sink { result ≡ Status.SinkFault → Rose (K.faults out.old) (K.faults out.new) }

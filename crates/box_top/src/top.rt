@@ -2,19 +2,17 @@
 
 ghost use Rattle.std.specs.Prelude.{◌≡◌, ◌≢◌, ◌≤◌, ℕ, List, Some, None};
 ghost use Rattle.rail_text.specs.Causes.{Rose};
-ghost use Rattle.box_top.specs.Commands.{Command, bytes_of, command_of, named};
+ghost use Rattle.command_words.specs.Commands.{Command, bytes_of, command_of};
 ghost use Rattle.box_top.specs.Headlines.{Headline, PrintsSummary, Reported};
-ghost use Rattle.box_top.specs.Outcomes.{HasShelfFault, NoneRose};
-ghost use Rattle.box_top.specs.Told.{Held};
+ghost use Rattle.box_top.specs.Outcomes.{NoneRose};
+ghost use Rattle.text_fetch.specs.FromTexts.{Held, named};
 ghost use Rattle.box_top.specs.Top.{Completes, Printed, ShelfCause};
 
-use crate::command::{CommandLine, command_of};
 use crate::desk::serve_desk;
-use crate::gate::Gate;
 use crate::put::{WORDS_LINE, put_outcome, put_text};
-use crate::run::run_outcome;
 use crate::status::Status;
-use crate::stress::stress_outcome;
+use command_words::{CommandLine, command_of};
+use line_runs::{Gate, run_outcome, stress_outcome};
 use rail_text::{NoMemory, Shelf, Sink};
 use std::alloc::Global;
 use std::sync::Wait;
@@ -29,10 +27,15 @@ fn serve_run<S: Shelf, K: Sink, G: Gate>(
     out: &mut K,
     gate: &G,
 ) -> Status
-    ensures printed { Printed (S.held shelf.old) (Some (Command.Run plan.now (named scripts.now))) (K.taken out.old) (K.taken out.new) result }
-    ensures headline { result ≡ Status.Done → Headline (S.held shelf.old) (Some (Command.Run plan.now (named scripts.now))) (K.taken out.old) (K.taken out.new) }
+    ensures printed { Printed (S.held shelf.old) (Some (Command.Run plan.now (named scripts.now))) (K.taken out.old)
+        (K.taken out.new) result }
+    ensures headline { result ≡ Status.Done
+        → Headline (S.held shelf.old) (Some (Command.Run plan.now (named scripts.now))) (K.taken out.old)
+        (K.taken out.new) }
     ensures sink { result ≡ Status.SinkFault → Rose (K.faults out.old) (K.faults out.new) }
-    ensures shelf { result ≡ Status.ShelfFault → HasShelfFault (S.held shelf.old) (S.faults shelf.old) (S.faults shelf.new) (Command.Run plan.now (named scripts.now)) }
+    ensures shelf { result ≡ Status.ShelfFault
+        → ShelfCause (S.held shelf.old) (S.faults shelf.old) (S.faults shelf.new)
+        (Some (Command.Run plan.now (named scripts.now))) }
     ensures not_fetched { result ≡ Status.ShelfFault → out.new ≡ out.old }
     ensures no_memory { result ≡ Status.NoMemory → out.new ≡ out.old }
     ensures same { (n : List ℕ) → S.held shelf.new n ≡ S.held shelf.old n }
@@ -45,7 +48,8 @@ fn serve_run<S: Shelf, K: Sink, G: Gate>(
 fn serve_stress<K: Sink, G: Gate>(alloc: Global, trains: u32, out: &mut K, gate: &G) -> Status
     requires low { 1 ≤ trains }
     requires high { trains ≤ 200 }
-    ensures printed { (held : Held) → Printed held (Some (Command.Stress trains)) (K.taken out.old) (K.taken out.new) result }
+    ensures printed { (held : Held)
+        → Printed held (Some (Command.Stress trains)) (K.taken out.old) (K.taken out.new) result }
     ensures headline { result ≡ Status.Done → PrintsSummary trains (K.taken out.old) (K.taken out.new) }
     ensures sink { result ≡ Status.SinkFault → Rose (K.faults out.old) (K.faults out.new) }
     ensures shelf { result ≢ Status.ShelfFault }
@@ -63,11 +67,15 @@ fn serve<S: Shelf, K: Sink, G: Gate>(
     out: &mut K,
     gate: &G,
 ) -> Status
-    ensures printed { Printed (S.held shelf.old) (command_of (bytes_of words.now)) (K.taken out.old) (K.taken out.new) result }
-    ensures headline { result ≡ Status.Done → Headline (S.held shelf.old) (command_of (bytes_of words.now)) (K.taken out.old) (K.taken out.new) }
-    ensures reported { result ≡ Status.Done → Reported (S.held shelf.old) (command_of (bytes_of words.now)) (K.taken out.old) (K.taken out.new) }
+    ensures printed { Printed (S.held shelf.old) (command_of (bytes_of words.now)) (K.taken out.old) (K.taken out.new)
+        result }
+    ensures headline { result ≡ Status.Done
+        → Headline (S.held shelf.old) (command_of (bytes_of words.now)) (K.taken out.old) (K.taken out.new) }
+    ensures reported { result ≡ Status.Done
+        → Reported (S.held shelf.old) (command_of (bytes_of words.now)) (K.taken out.old) (K.taken out.new) }
     ensures sink { result ≡ Status.SinkFault → Rose (K.faults out.old) (K.faults out.new) }
-    ensures shelf { result ≡ Status.ShelfFault → ShelfCause (S.held shelf.old) (S.faults shelf.old) (S.faults shelf.new) (command_of (bytes_of words.now)) }
+    ensures shelf { result ≡ Status.ShelfFault
+        → ShelfCause (S.held shelf.old) (S.faults shelf.old) (S.faults shelf.new) (command_of (bytes_of words.now)) }
     ensures not_fetched { result ≡ Status.ShelfFault → out.new ≡ out.old }
     ensures no_memory { result ≡ Status.NoMemory → out.new ≡ out.old }
     ensures not_asked { command_of (bytes_of words.now) ≡ None → shelf.new ≡ shelf.old }
@@ -85,17 +93,17 @@ fn serve<S: Shelf, K: Sink, G: Gate>(
 }
 
 /// Does what the words of a command line say, those behind the program's name. `run PLAN SCRIPT..` fetches the plan and
-/// one script for each of its boxes, in box order, works the scripts, each call behind the gate, and puts the whole output:
-/// the journal, the register of each box, the refused calls, and the most trains that each section held. `stress N` makes
-/// the line of N trains, works it by its own scripts, each call behind the gate, and puts a summary. Every other command is
-/// done as `desk_top` does it.
+/// one script for each of its boxes, in box order, works the scripts, each call behind the gate, and puts the whole
+/// output: the journal, the register of each box, the refused calls, and the most trains that each section held.
+/// `stress N` makes the line of N trains, works it by its own scripts, each call behind the gate, and puts a summary.
+/// Every other command is done as `desk_top` does it.
 ///
-/// - `Done`: what the command prints is put. The journal of a run, and that of a made line, is one legal history of the line,
-///   and has exactly each script's calls, in order.
+/// - `Done`: what the command prints is put. The journal of a run, and that of a made line, is one legal history of the
+///   line, and has exactly each script's calls, in order.
 /// - `Words`: the words are no command. Nothing is asked of the shelf, and `words not understood` is put.
-/// - `Refused`: `refused text T line L: CAUSE` is put, for what is wrong first in the order of fetching: the plan as text
-///   1, then for a run at its line 0 the number of scripts, then each script or the journal, from text 2 on. A made line is
-///   never refused.
+/// - `Refused`: `refused text T line L: CAUSE` is put, for what is wrong first in the order of fetching: the plan as
+///   text 1, then for a run at its line 0 the number of scripts, then each script or the journal, from text 2 on. A
+///   made line is never refused.
 /// - `ShelfFault`: the fetch of a text that the words name failed, and nothing before it is refused. Nothing is put.
 /// - `SinkFault`: the sink failed, and took only a front part of what was to be put.
 /// - `NoMemory`: memory ran out. Nothing is put, since the whole output is built first.
@@ -107,13 +115,18 @@ pub fn box_top<R: Threads + Wait + Sync, S: Shelf, K: Sink, G: Gate>(
     out: &mut K,
     gate: &G,
 ) -> Status
-    ensures printed { Printed (S.held shelf.old) (command_of (bytes_of words.now)) (K.taken out.old) (K.taken out.new) result }
-    ensures headline { result ≡ Status.Done → Headline (S.held shelf.old) (command_of (bytes_of words.now)) (K.taken out.old) (K.taken out.new) }
-    ensures reported { result ≡ Status.Done → Reported (S.held shelf.old) (command_of (bytes_of words.now)) (K.taken out.old) (K.taken out.new) }
-    ensures complete { NoneRose (S.faults shelf.old) (S.faults shelf.new) (command_of (bytes_of words.now)) → ¬ Rose (K.faults out.old) (K.faults out.new)
+    ensures printed { Printed (S.held shelf.old) (command_of (bytes_of words.now)) (K.taken out.old) (K.taken out.new)
+        result }
+    ensures headline { result ≡ Status.Done
+        → Headline (S.held shelf.old) (command_of (bytes_of words.now)) (K.taken out.old) (K.taken out.new) }
+    ensures reported { result ≡ Status.Done
+        → Reported (S.held shelf.old) (command_of (bytes_of words.now)) (K.taken out.old) (K.taken out.new) }
+    ensures complete { NoneRose (S.faults shelf.old) (S.faults shelf.new) (command_of (bytes_of words.now))
+        → ¬ Rose (K.faults out.old) (K.faults out.new)
         → Completes (S.held shelf.old) (command_of (bytes_of words.now)) (K.taken out.old) (K.taken out.new) result }
     ensures sink { result ≡ Status.SinkFault → Rose (K.faults out.old) (K.faults out.new) }
-    ensures shelf { result ≡ Status.ShelfFault → ShelfCause (S.held shelf.old) (S.faults shelf.old) (S.faults shelf.new) (command_of (bytes_of words.now)) }
+    ensures shelf { result ≡ Status.ShelfFault
+        → ShelfCause (S.held shelf.old) (S.faults shelf.old) (S.faults shelf.new) (command_of (bytes_of words.now)) }
     ensures not_fetched { result ≡ Status.ShelfFault → out.new ≡ out.old }
     ensures no_memory { result ≡ Status.NoMemory → out.new ≡ out.old }
     ensures not_asked { command_of (bytes_of words.now) ≡ None → shelf.new ≡ shelf.old }

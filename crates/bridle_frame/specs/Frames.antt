@@ -1,5 +1,6 @@
 -- What a frame is, and what its type keeps.
-use Rattle.std.specs.Prelude.{ℕ, ◌≡◌, ◌+◌, ◌-◌, ◌<◌, ◌^◌, ◌++◌, List, [], ◌∷◌, Bool, ◌==◌, if◌then◌else◌, All, length, slice_index_or, slice_set}
+use Rattle.std.specs.Prelude.{ℕ, ◌≡◌, ◌+◌, ◌-◌, ◌<◌, ◌^◌, ◌++◌, List, [], ◌∷◌, Bool, ◌==◌, if◌then◌else◌, All, length}
+use Rattle.std.specs.Prelude.{slice_index_or, slice_set}
 use Rattle.std.specs.List.{list_any}
 use Rattle.locking_table.specs.declared.places.End.{End}
 use Rattle.locking_table.specs.Places.{LeverPlace, at_ends}
@@ -21,7 +22,8 @@ names lever bridle = list_any (λ dog. dog.lever == lever) bridle.dogs
 -- the numbers, counted on from a number, of the bridles that name a lever
 abbrev pub naming : ℕ → ℕ → List Bridle → List ℕ
 naming from lever [] = []
-naming from lever (bridle ∷ bridles) = if names lever bridle then from ∷ naming (from + 1) lever bridles else naming (from + 1) lever bridles
+naming from lever (bridle ∷ bridles) =
+    if names lever bridle then from ∷ naming (from + 1) lever bridles else naming (from + 1) lever bridles
 
 -- for each lever the numbers, from 0, of the bridles that name it
 pub record IsIndex (levers : ℕ) (bridles : List Bridle) (uses : List (List ℕ)) : Type 0 where
@@ -39,7 +41,8 @@ pub record IsFrame (ends : List End) (bridles : List Bridle) (uses : List (List 
 
 abbrev pub used_by : List (List ℕ) → ℕ → List Dog → List (List ℕ)
 used_by uses number [] = uses
-used_by uses number (dog ∷ dogs) = used_by (slice_set uses (dog.lever - 1) (slice_index_or uses (dog.lever - 1) [] ++ number ∷ [])) number dogs
+used_by uses number (dog ∷ dogs) =
+    used_by (slice_set uses (dog.lever - 1) (slice_index_or uses (dog.lever - 1) [] ++ number ∷ [])) number dogs
 
 abbrev pub used_by_all : List (List ℕ) → ℕ → List Bridle → List (List ℕ)
 used_by_all uses from [] = uses
@@ -51,4 +54,5 @@ no_bridle = record { dogs = []; row = 0 }
 -- of the bridles with these numbers, from 0, the first that isn't seated
 abbrev pub first_of : LeverPlace → List Bridle → List ℕ → Shift
 first_of places bridles [] = Shifted
-first_of places bridles (n ∷ ns) = if seated places (slice_index_or bridles n no_bridle) then first_of places bridles ns else HeldBy (n + 1)
+first_of places bridles (n ∷ ns) =
+    if seated places (slice_index_or bridles n no_bridle) then first_of places bridles ns else HeldBy (n + 1)

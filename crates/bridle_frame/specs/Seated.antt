@@ -1,5 +1,6 @@
 -- Where a bridle is seated.
-use Rattle.std.specs.Prelude.{ℕ, ◌≤◌, length, List, [], ◌∷◌, Bool, true, not, ◌&&◌, ◌||◌, ◌==◌, if◌then◌else◌, IsTrue, All, map, slice_index_or}
+use Rattle.std.specs.Prelude.{ℕ, ◌≤◌, length, List, [], ◌∷◌, Bool, true, not, ◌&&◌, ◌||◌, ◌==◌, if◌then◌else◌, IsTrue}
+use Rattle.std.specs.Prelude.{All, map, slice_index_or}
 use Rattle.std.specs.List.{list_any}
 use Rattle.locking_table.specs.declared.places.Stand.{Stand}
 use Rattle.locking_table.specs.declared.places.Stand.TheVariants.{AtNormal}
@@ -49,6 +50,9 @@ pub record BridleFits (levers : ℕ) (bridle : Bridle) : Type 0 where
 abbrev pub no_dog : Dog
 no_dog = record { lever = 0; notches = Normal }
 
--- the lever that holds another by a bridle with these dogs: the second dog's where the first is of the other, else the first dog's
+-- the lever that holds another by a bridle with these dogs: the second dog's where the first is of the other, else the
+-- first dog's
 abbrev pub holding_lever_in : List Dog → ℕ → ℕ
-holding_lever_in dogs moved = if (slice_index_or dogs 0 no_dog).lever == moved then (slice_index_or dogs 1 no_dog).lever else (slice_index_or dogs 0 no_dog).lever
+holding_lever_in dogs moved =
+    if (slice_index_or dogs 0 no_dog).lever == moved then (slice_index_or dogs 1 no_dog).lever
+    else (slice_index_or dogs 0 no_dog).lever

@@ -12,7 +12,8 @@ use Rattle.bridle_frame.specs.Seated.{holding_lever_in, seated}
 -- the first bridle that isn't seated, its number counted on from a number
 abbrev pub first_unseated : LeverPlace → ℕ → List Bridle → Option ℕ
 first_unseated places from [] = None
-first_unseated places from (bridle ∷ bridles) = if seated places bridle then first_unseated places (from + 1) bridles else Some from
+first_unseated places from (bridle ∷ bridles) =
+    if seated places bridle then first_unseated places (from + 1) bridles else Some from
 
 abbrev pub reply_of : Option ℕ → Shift
 reply_of None = Shifted
@@ -31,4 +32,5 @@ ends_after ends lever (HeldBy bridle) = ends
 abbrev pub first_holder : LeverPlace → ℕ → List Bridle → Option Holder
 first_holder places lever [] = None
 first_holder places lever (bridle ∷ bridles) =
-    if seated places bridle then first_holder places lever bridles else Some (record { lever = holding_lever_in bridle.dogs lever; row = bridle.row })
+    if seated places bridle then first_holder places lever bridles
+    else Some (record { lever = holding_lever_in bridle.dogs lever; row = bridle.row })

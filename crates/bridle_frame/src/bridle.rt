@@ -4,7 +4,8 @@ ghost use Rattle.std.specs.Prelude.{◌≡◌, ◌≤◌, ◌==◌, ◌↔◌, A
 ghost use Rattle.std.specs.List.{list_any};
 ghost use Rattle.locking_table.specs.declared.places.End.TheVariants.{Normal as NormalEnd};
 ghost use Rattle.locking_table.specs.Places.{IsLever, at_ends, stand_of};
-ghost use Rattle.bridle_frame.specs.Seated.{BridleFits, DogFits, IsSeated, all_normal, dogs_differ, has_notch, holding_lever_in, lies_in, seated};
+ghost use Rattle.bridle_frame.specs.Seated.{BridleFits, DogFits, IsSeated, all_normal, dogs_differ, has_notch};
+ghost use Rattle.bridle_frame.specs.Seated.{holding_lever_in, lies_in, seated};
 
 use crate::dogs::Dogs;
 use locking_table::{End, Stand, stand_of};

@@ -76,7 +76,8 @@ impl Frame {
     /// Whether a frame of levers 1 to `levers` can have these bridles: each has two to four dogs on different levers
     /// of the frame, and is seated where all levers are normal.
     pub fn accepts(levers: u32, bridles: &[Bridle]) -> bool
-        ensures { IsTrue result ↔ (All (BridleFits levers) bridles.now × All (IsSeated (at_ends (replicate levers NormalEnd))) bridles.now) }
+        ensures { IsTrue result ↔ (All (BridleFits levers) bridles.now
+            × All (IsSeated (at_ends (replicate levers NormalEnd))) bridles.now) }
     {
         all_fit(bridles, levers) && all_open_seated(bridles, levers)
     }

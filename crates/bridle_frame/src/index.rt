@@ -71,7 +71,6 @@ fn add_uses(uses: &mut Vec<Uses>, dogs: &[Dog], number: u32) -> Result<(), NoMem
 }
 
 /// For each lever the bridles that name it.
-
 pub fn index_of(alloc: Global, levers: u32, bridles: &[Bridle]) -> Result<Vec<Uses>, NoMemory>
     requires few { length bridles.now < 2 ^ 32 }
     requires fits { All (BridleFits levers) bridles.now }

@@ -11,5 +11,7 @@ ghost use Rattle.bridle_frame.specs.Seated.{IsSeated};
 /// lever at mid stands at no notch.
 #[tactic(auto, using(crate::proofs::Seats::seat_rules))]
 pub fn mid_is_enough()
-    ensures { (ends : List End) (lever : ℕ) (e : End) (bridles : List Bridle) → All (IsSeated (stand_of ends lever AtMid)) bridles → All (IsSeated (stand_of ends lever (stand_at e))) bridles }
+    ensures { (ends : List End) (lever : ℕ) (e : End) (bridles : List Bridle)
+        → All (IsSeated (stand_of ends lever AtMid)) bridles
+        → All (IsSeated (stand_of ends lever (stand_at e))) bridles }
 {}

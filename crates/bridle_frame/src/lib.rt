@@ -13,6 +13,3 @@ pub use bridle::{Bridle, Dog, Notches};
 pub use dogs::Dogs;
 pub use frame::{Frame, Shift};
 pub use laws::mid_is_enough;
-
-#[cfg(test)]
-mod tests;

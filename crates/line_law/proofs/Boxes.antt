@@ -38,7 +38,8 @@ use Rattle.line_law.specs.Lines.{FitsLine, HasCounts, IsBoxAfter, IsBoxOf, IsCon
 use Rattle.line_law.specs.Outcomes.{Outcome, Refused, Rings, Hears, AwaitsBell, Turns, AwaitsBlock, Pulls, PullsStarter, Puts, Brings, GoesTo, GoesAway, Enters, AwaitsTrain, Berths, Parts, Clears, Winds, Releases}
 use Rattle.line_law.specs.Ready.{FitsHere}
 use Rattle.line_law.specs.Sound.{IsSound}
-use Rattle.line_law.specs.Tracks.{is_pulled, is_reversed_end, train_on}
+use Rattle.line_law.specs.LeverEnds.{is_pulled, is_reversed_end}
+use Rattle.line_law.specs.Tracks.{train_on}
 use Rattle.line_law.specs.Trains.{brought_here, enter, holds, left_by, line_left, put_at}
 use Rattle.line_law.specs.Ways.{of_way, with_way}
 use Rattle.line_law.proofs.Rows.{follow_danger, follow_off, follow_pulled, follow_put, rows_moved}

@@ -16,7 +16,7 @@ use Rattle.line_law.specs.declared.link.Link.TheVariants.{Out}
 use Rattle.line_law.specs.declared.state.BoxState.{BoxState}
 use Rattle.line_law.specs.declared.state.PairState.{PairState}
 use Rattle.line_law.specs.Known.{KnowsCall, knows_act, moments_of}
-use Rattle.line_law.specs.Law.{Done, at_moment, link_of, pair_of, plan_of, step, step_at}
+use Rattle.line_law.specs.Law.{Done, at_moment, link_of, pair_of, box_plan_of, step, step_at}
 use Rattle.line_law.specs.Lines.{HasRoom, IsBoxAfter, IsLineOf, IsPairAfter, IsSectionBetween, PlainState}
 use Rattle.line_law.specs.Links.{pair_no, way_of}
 use Rattle.line_law.specs.Ready.{FitsHere, IsReady}
@@ -34,20 +34,20 @@ use Rattle.line_law.proofs.Sides.{call_within, known_parts, out_leaves}
 
 -- ---- what a call needs
 
-train_place : (plan : PlanFields) (b train : ℕ) → IsPlan plan → IsTrue (is_train plan.trains train) → (train_at plan.trains train).box_no ≡ b → (train_at plan.trains train).place < length (plan_of plan b).places
+train_place : (plan : PlanFields) (b train : ℕ) → IsPlan plan → IsTrue (is_train plan.trains train) → (train_at plan.trains train).box_no ≡ b → (train_at plan.trains train).place < length (box_plan_of plan b).places
 train_place plan b train is one e =
     let within : train - 1 < length plan.trains = (let p = both (nat_lt 0 train) (nat_lt (train - 1) (length plan.trains)) one in grind (arith, nat_tests)) in
     let says : IsTrain plan.classes plan.boxes (train_at plan.trains train) = All-get_or (IsTrain plan.classes plan.boxes) plan.trains (train - 1) no_train within is.trains in
-    subst (λ (k : ℕ). (train_at plan.trains train).place < length (plan_of plan k).places) e says.place
+    subst (λ (k : ℕ). (train_at plan.trains train).place < length (box_plan_of plan k).places) e says.place
 
-act_fits : (plan : PlanFields) (b : ℕ) (act : Act) → IsPlan plan → b < length plan.boxes → IsTrue (knows_act plan b act) → FitsHere plan (plan_of plan b) act
+act_fits : (plan : PlanFields) (b : ℕ) (act : Act) → IsPlan plan → b < length plan.boxes → IsTrue (knows_act plan b act) → FitsHere plan (box_plan_of plan b) act
 act_fits plan b (acts.Ring side code) is within known = tt
 act_fits plan b (acts.Hear side) is within known = tt
 act_fits plan b (acts.AwaitBell side code) is within known = tt
 act_fits plan b (acts.Turn way position) is within known = tt
 act_fits plan b (acts.AwaitBlock way position) is within known = tt
-act_fits plan b (acts.Pull lever) is within known = known_lever (length plan.boxes) b (plan_of plan b) lever (is.each b within) known
-act_fits plan b (acts.Put lever) is within known = known_lever (length plan.boxes) b (plan_of plan b) lever (is.each b within) known
+act_fits plan b (acts.Pull lever) is within known = known_lever (length plan.boxes) b (box_plan_of plan b) lever (is.each b within) known
+act_fits plan b (acts.Put lever) is within known = known_lever (length plan.boxes) b (box_plan_of plan b) lever (is.each b within) known
 act_fits plan b (acts.Bring train) is within known =
     let parts = both (is_train plan.trains train) ((train_at plan.trains train).box_no == b) known in
     (parts.0, train_place plan b train is parts.0 (eqb-true _ _ parts.1))
@@ -60,7 +60,7 @@ act_fits plan b (acts.ClearPortion way) is within known = tt
 act_fits plan b (acts.Wind way) is within known = tt
 act_fits plan b (acts.Release way) is within known = tt
 
-pub known_fits : (plan : PlanFields) (b : ℕ) (call : Call) → IsPlan plan → KnowsCall plan b call → FitsHere plan (plan_of plan b) call.act
+pub known_fits : (plan : PlanFields) (b : ℕ) (call : Call) → IsPlan plan → KnowsCall plan b call → FitsHere plan (box_plan_of plan b) call.act
 known_fits plan b call is known = let parts = known_parts plan b call known in act_fits plan b call.act is parts.box parts.act
 
 one_limit : (t : Bool) (m n k : ℕ) → m ≤ k → n ≤ k → cond t m n ≤ k
@@ -74,7 +74,7 @@ few_delay : (version : ℕ) → most_delay version ≤ 3600
 few_delay version = one_limit (version == 1) 60 3600 3600 (omega arith) (omega arith)
 
 -- the section that a train may enter
-room_at : (plan : PlanFields) (plain : PlainState) (b : ℕ) (call : Call) (way : Way) → IsPlan plan → IsLineOf plan plain → KnowsCall plan b call → link_of (plan_of plan b) call.act ≡ Out way
+room_at : (plan : PlanFields) (plain : PlainState) (b : ℕ) (call : Call) (way : Way) → IsPlan plan → IsLineOf plan plain → KnowsCall plan b call → link_of (box_plan_of plan b) call.act ≡ Out way
     → HasRoom (of_way (box_at plain.line b).sent way) (of_way (pair_at plain.line (pair_of plan b call)).lines way)
 room_at plan plain b call way is line known link =
     let parts = known_parts plan b call known in
@@ -86,7 +86,7 @@ room_at plan plain b call way is line known link =
 
 -- a call that may be made on a line of the plan has what it needs
 pub is_ready : (plan : PlanFields) (plain : PlainState) (b : ℕ) (call : Call) → IsPlan plan → IsLineOf plan plain → KnowsCall plan b call → plain.calls < 2 ^ 32
-    → IsReady plan (plan_of plan b) call (box_at plain.line b) (pair_at plain.line (pair_of plan b call))
+    → IsReady plan (box_plan_of plan b) call (box_at plain.line b) (pair_at plain.line (pair_of plan b call))
 is_ready plan plain b call is line known few =
     let parts = known_parts plan b call known in
     let box_is = line.boxes b parts.box in
@@ -106,7 +106,7 @@ is_ready plan plain b call is line known few =
 -- ---- a call
 
 -- a box at the moment of a call keeps what it kept
-pub box_at_moment : (plan : PlanFields) (b n : ℕ) (here : BoxState) (moment : ℕ) → IsBoxAfter plan.trains (plan_of plan b) n here → IsBoxAfter plan.trains (plan_of plan b) n (at_moment here moment)
+pub box_at_moment : (plan : PlanFields) (b n : ℕ) (here : BoxState) (moment : ℕ) → IsBoxAfter plan.trains (box_plan_of plan b) n here → IsBoxAfter plan.trains (box_plan_of plan b) n (at_moment here moment)
 box_at_moment plan b n here moment is =
     record {
       shape = record { frame = record { ends = is.shape.frame.ends; off = is.shape.frame.off; places = is.shape.frame.places }; brought = is.shape.brought; occupants = is.shape.occupants; controls = is.shape.controls };
@@ -136,21 +136,21 @@ pair_set P pairs p new other within here there = elim (eqb_tells other p) [
 pub shape_stays : (plan : PlanFields) (state : LineState) (b : ℕ) (call : Call) → IsStateOf plan state → IsStateOf plan (step plan state b call).after
 unfolding step
 shape_stays plan state b call h =
-    let told = step_at plan (plan_of plan b) call (box_at state b) (pair_at state (pair_of plan b call)) in
+    let told = step_at plan (box_plan_of plan b) call (box_at state b) (pair_at state (pair_of plan b call)) in
     record { boxes = length-set state.boxes b told.here ∙ h.boxes; pairs = length-set state.pairs (pair_of plan b call) told.word ∙ h.pairs }
 
 boxes_stay : (plan : PlanFields) (plain : PlainState) (b : ℕ) (call : Call) → IsPlan plan → IsLineOf plan plain → KnowsCall plan b call → (other : ℕ) → other < length plan.boxes
-    → IsBoxAfter plan.trains (plan_of plan other) (plain.calls + 1) (box_at (step plan plain.line b call).after other)
+    → IsBoxAfter plan.trains (box_plan_of plan other) (plain.calls + 1) (box_at (step plan plain.line b call).after other)
 unfolding step
 boxes_stay plan plain b call is line known other within =
     let parts = known_parts plan b call known in
     let here = at_moment (box_at plain.line b) call.moment in
     let pair = pair_at plain.line (pair_of plan b call) in
-    let bp = plan_of plan b in
+    let bp = box_plan_of plan b in
     let kept = box_keeps plan bp plain.calls here pair (way_of (link_of bp call.act)) call.act _ (plan_sound plan b is parts.box) (known_fits plan b call is known) (outcome_of plan bp call.act here)
     (line.pairs (pair_of plan b call)) (box_at_moment plan b plain.calls (box_at plain.line b) call.moment (line.boxes b parts.box)) in
-    box_set (λ k x. IsBoxAfter plan.trains (plan_of plan k) (plain.calls + 1) x) plain.line.boxes b _ other (omega (arith, line.shape.boxes, parts.box)) kept
-    (later plan.trains (plan_of plan other) plain.calls (box_at plain.line other) (line.boxes other within))
+    box_set (λ k x. IsBoxAfter plan.trains (box_plan_of plan k) (plain.calls + 1) x) plain.line.boxes b _ other (omega (arith, line.shape.boxes, parts.box)) kept
+    (later plan.trains (box_plan_of plan other) plain.calls (box_at plain.line other) (line.boxes other within))
 
 pairs_stay : (plan : PlanFields) (plain : PlainState) (b : ℕ) (call : Call) → IsPlan plan → IsLineOf plan plain → KnowsCall plan b call → (other : ℕ)
     → IsPairAfter plan.trains (plain.calls + 1) (pair_at (step plan plain.line b call).after other)
@@ -159,7 +159,7 @@ pairs_stay plan plain b call is line known other =
     let within = call_within plan b call is known in
     let here = at_moment (box_at plain.line b) call.moment in
     let pair = pair_at plain.line (pair_of plan b call) in
-    let bp = plan_of plan b in
+    let bp = box_plan_of plan b in
     let box_is = box_at_moment plan b plain.calls (box_at plain.line b) call.moment (line.boxes b within.box) in
     let kept = pair_keeps plan bp plain.calls here pair (way_of (link_of bp call.act)) call.act _ (plan_sound plan b is within.box) box_is.shape (outcome_of plan bp call.act here) (line.pairs (pair_of plan b call)) in
     pair_set (IsPairAfter plan.trains (plain.calls + 1)) plain.line.pairs (pair_of plan b call) _ other (omega (arith, line.shape.pairs, within.pair)) kept

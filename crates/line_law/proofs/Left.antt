@@ -17,7 +17,7 @@ use Rattle.line_law.specs.Arrivals.{next_number, next_train, train_awaited, trai
 use Rattle.line_law.specs.Bells.{rung, heard, awaited}
 use Rattle.line_law.specs.Decisions.{Decision, Told, on_pair}
 use Rattle.line_law.specs.Instruments.{same_position}
-use Rattle.line_law.specs.Law.{MayCall, at_moment, link_of, pair_of, plan_of, step}
+use Rattle.line_law.specs.Law.{MayCall, at_moment, link_of, pair_of, box_plan_of, step}
 use Rattle.line_law.specs.Levers.{is_unspent_clear, pulled}
 use Rattle.line_law.specs.Links.{way_of}
 use Rattle.line_law.specs.Outcomes.{Outcome, Refused, Rings, Hears, AwaitsBell, Turns, AwaitsBlock, Pulls, PullsStarter, Puts, Brings, GoesTo, GoesAway, Enters, AwaitsTrain, Berths, Parts, Clears, Winds, Releases}
@@ -105,7 +105,7 @@ out_moment plan bp here pair v act d (Releases way free) = refl
 pub moment_here : (plan : PlanFields) (state : LineState) (b : ℕ) (call : Call) → b < length state.boxes → (box_at (step plan state b call).after b).moment ≡ call.moment
 unfolding step
 moment_here plan state b call lt =
-    ap (λ (x : BoxState). x.moment) (get_or-set_same state.boxes b _ _ lt) ∙ out_moment plan (plan_of plan b) (at_moment (box_at state b) call.moment) (pair_at state (pair_of plan b call)) (way_of (link_of (plan_of plan b) call.act)) call.act _ (outcome_of plan (plan_of plan b) call.act (at_moment (box_at state b) call.moment))
+    ap (λ (x : BoxState). x.moment) (get_or-set_same state.boxes b _ _ lt) ∙ out_moment plan (box_plan_of plan b) (at_moment (box_at state b) call.moment) (pair_at state (pair_of plan b call)) (way_of (link_of (box_plan_of plan b) call.act)) call.act _ (outcome_of plan (box_plan_of plan b) call.act (at_moment (box_at state b) call.moment))
 
 pub other_box : (plan : PlanFields) (state : LineState) (b c : ℕ) (call : Call) → c ≢ b → box_at (step plan state b call).after c ≡ box_at state c
 unfolding step

@@ -11,10 +11,21 @@ use Rattle.line_law.specs.declared.call.Call.{Call}
 use Rattle.line_law.specs.Known.{KnowsCall}
 use Rattle.line_law.specs.Law.{MayCall, pair_of}
 use Rattle.line_law.specs.Lines.{IsLineOf, PlainState}
-use Rattle.line_law.specs.States.{LineState, box_at}
+use Rattle.line_law.specs.States.{IsStateOf, LineState, box_at}
 use Rattle.line_law.proofs.PlanFacts.{plan_sound}
 use Rattle.line_law.proofs.SectionSteps.{has_boxes}
 use Rattle.line_law.proofs.Sides.{call_within, known_box}
+
+-- a state has the box and the pair of a call
+pub record HasPlaces (plan : PlanFields) (b : ℕ) (call : Call) (state : LineState) : Type 0 where
+  pub box : b < length state.boxes
+  pub pair : pair_of plan b call < length state.pairs
+
+pub has_places : (plan : PlanFields) (state : LineState) (b : ℕ) (call : Call) → IsPlan plan → IsStateOf plan state
+    → KnowsCall plan b call → HasPlaces plan b call state
+has_places plan state b call is h known =
+    let within = call_within plan b call is known in
+    record { box = omega (arith, h.boxes, within.box); pair = omega (arith, h.pairs, within.pair) }
 
 pub box_fits : (plan : PlanFields) (plain : PlainState) (b : ℕ) (call : Call) → IsLineOf plan plain → KnowsCall plan b call → b < length plain.line.boxes
 box_fits plan plain b call line known = omega (arith, line.shape.boxes, known_box plan b call known)

@@ -21,7 +21,7 @@ use Rattle.line_plan.specs.declared.section.Section.{Section}
 use Rattle.line_law.specs.declared.state.BoxState.{BoxState}
 use Rattle.line_law.specs.declared.state.PairState.{PairState}
 use Rattle.line_law.specs.declared.state.Passage.{Passage}
-use Rattle.line_law.specs.Law.{plan_of}
+use Rattle.line_law.specs.Law.{box_plan_of}
 use Rattle.line_law.specs.Lines.{FitsLine, IsBoxAfter, IsControlOf, IsLineOf, IsPairAfter, IsSectionBetween, IsSectionIn}
 use Rattle.line_law.specs.States.{IsStateOf, box_at, control_of, no_state, opening_box, opening_control, opening_pair, opening_state, pair_at}
 use Rattle.line_law.specs.Ways.{of_way}
@@ -98,7 +98,7 @@ between n bp other Up = record { rung = refl; turns = refl; position = refl; num
 between n bp other Down = record { rung = refl; turns = refl; position = refl; numbered = refl; four = omega arith; portion = tt }
 
 -- the boxes and pairs of the opening state
-pub opening_at : (plan : PlanFields) (b : ℕ) → b < length plan.boxes → box_at (opening_state plan) b ≡ opening_box (length plan.trains) (plan_of plan b)
+pub opening_at : (plan : PlanFields) (b : ℕ) → b < length plan.boxes → box_at (opening_state plan) b ≡ opening_box (length plan.trains) (box_plan_of plan b)
 unfolding opening_state
 opening_at plan b within = get_or-map (λ bp. opening_box (length plan.trains) bp) plan.boxes b no_box no_state within
 
@@ -117,14 +117,14 @@ section_opens : (plan : PlanFields) (x : Section) → IsSection plan x → IsSec
 section_opens plan x is =
     let has = has_boxes (length plan.boxes) x.rear x.way is in
     along x.way _ _ _ _ _ _ (opening_at plan x.rear has.rear) (opening_at plan (advance_of x) has.advance) (opening_pair_at plan _)
-    (between (length plan.trains) (plan_of plan x.rear) (plan_of plan (advance_of x)) x.way)
+    (between (length plan.trains) (box_plan_of plan x.rear) (box_plan_of plan (advance_of x)) x.way)
 
 -- a line of a plan opens as one
 pub opens : (plan : PlanFields) → IsLineOf plan (record { line = opening_state plan; calls = 0 })
 opens plan =
     record {
       shape = opening_shape plan;
-      boxes = λ b within. subst (λ (here : BoxState). IsBoxAfter plan.trains (plan_of plan b) 0 here) (sym (opening_at plan b within)) (box_opens plan.trains (plan_of plan b));
+      boxes = λ b within. subst (λ (here : BoxState). IsBoxAfter plan.trains (box_plan_of plan b) 0 here) (sym (opening_at plan b within)) (box_opens plan.trains (box_plan_of plan b));
       pairs = λ p. subst (λ (pair : PairState). IsPairAfter plan.trains 0 pair) (sym (opening_pair_at plan p)) (pair_opens plan.trains);
       sections = λ x is. section_opens plan x is;
     }

@@ -13,7 +13,7 @@ use Rattle.locking_table.specs.declared.places.End.TheVariants as ends
 use Rattle.locking_table.specs.declared.places.Stand.{Stand}
 use Rattle.locking_table.specs.declared.row.Cond.{Cond}
 use Rattle.locking_table.specs.declared.row.Row.{Row}
-use Rattle.line_law.specs.Tracks.{is_off, is_pulled, is_reversed_end}
+use Rattle.line_law.specs.LeverEnds.{is_off, is_pulled, is_reversed_end}
 
 -- the places with a lever moved are those of the ends that are written
 moved_alike : (xs : List End) (lever : ℕ) (e : End) (n : ℕ) → length xs ≡ n → IsLever n lever → (l : ℕ) → IsLever n l → stand_of xs lever (stand_at e) l ≡ at_ends (slice_set xs (lever - 1) e) l

@@ -29,7 +29,7 @@ use Rattle.line_law.specs.Bells.{awaited, heard, rung}
 use Rattle.line_law.specs.Controls.{left_control}
 use Rattle.line_law.specs.Decisions.{Decision, Told}
 use Rattle.line_law.specs.Instruments.{line_turned, same_position}
-use Rattle.line_law.specs.Law.{at_moment, link_of, plan_of}
+use Rattle.line_law.specs.Law.{at_moment, link_of, box_plan_of}
 use Rattle.line_law.specs.Levers.{is_unspent_clear, pulled, starter_link, starter_way}
 use Rattle.line_law.specs.Lines.{AreNumbered, IsFirst, IsSectionBetween}
 use Rattle.line_law.specs.Outcomes.{Moves, Passes, Overruns, Outcome, Refused, Rings, Hears, AwaitsBell, Turns, AwaitsBlock, Pulls, PullsStarter, Puts, Brings, GoesTo, GoesAway, Enters, AwaitsTrain, Berths, Parts, Clears, Winds, Releases}
@@ -440,14 +440,14 @@ section_keeps plan x call =
     record {
       rear_own = λ link r a b k t h.
           let here = at_moment r call.moment in
-          rear_own x.way plan (plan_of plan x.rear) here a b k t call.act _ (outcome_of plan (plan_of plan x.rear) call.act here) link (rear_at x.way r a b k t call.moment h);
+          rear_own x.way plan (box_plan_of plan x.rear) here a b k t call.act _ (outcome_of plan (box_plan_of plan x.rear) call.act here) link (rear_at x.way r a b k t call.moment h);
       rear_off = λ link r a b k t h.
           let here = at_moment r call.moment in
-          rear_off x.way plan (plan_of plan x.rear) here a b k t call.act _ (outcome_of plan (plan_of plan x.rear) call.act here) link (rear_at x.way r a b k t call.moment h);
+          rear_off x.way plan (box_plan_of plan x.rear) here a b k t call.act _ (outcome_of plan (box_plan_of plan x.rear) call.act here) link (rear_at x.way r a b k t call.moment h);
       advance_own = λ link r a b k t h.
           let here = at_moment a call.moment in
-          advance_own x.way plan (plan_of plan (advance_of x)) r here b k t call.act _ (outcome_of plan (plan_of plan (advance_of x)) call.act here) link (advance_at x.way r a b k t call.moment h);
+          advance_own x.way plan (box_plan_of plan (advance_of x)) r here b k t call.act _ (outcome_of plan (box_plan_of plan (advance_of x)) call.act here) link (advance_at x.way r a b k t call.moment h);
       advance_off = λ link r a b k t h.
           let here = at_moment a call.moment in
-          advance_off x.way plan (plan_of plan (advance_of x)) r here b k t call.act _ (outcome_of plan (plan_of plan (advance_of x)) call.act here) link (advance_at x.way r a b k t call.moment h);
+          advance_off x.way plan (box_plan_of plan (advance_of x)) r here b k t call.act _ (outcome_of plan (box_plan_of plan (advance_of x)) call.act here) link (advance_at x.way r a b k t call.moment h);
     }

@@ -12,7 +12,7 @@ use Rattle.line_law.specs.declared.state.Block.{Block}
 use Rattle.line_law.specs.declared.state.BoxState.{BoxState}
 use Rattle.line_law.specs.declared.state.PairState.{PairState}
 use Rattle.line_law.specs.declared.state.Passage.{Passage}
-use Rattle.line_law.specs.Decisions.{Told, Decision, Here, OnBell, OnBlock, OnLine, on_pair}
+use Rattle.line_law.specs.Decisions.{Told, Decision, Here, OnBell, OnBlock, OnPlainLine, on_pair}
 use Rattle.line_law.specs.Law.{done_at}
 use Rattle.line_law.specs.Lines.{pair_in}
 use Rattle.line_law.specs.Links.{pair_no}
@@ -44,7 +44,7 @@ own (OnBlock act) w pair P p =
     let told : Told Block = act (of_way pair.blocks w) in
     let F : Block → Type 0 = λ x. P told.here (of_way pair.bells w) x (of_way pair.lines w) in
     subst F (sym (of_way-with pair.blocks w told.word)) p
-own (OnLine act) w pair P p =
+own (OnPlainLine act) w pair P p =
     let told : Told (List Passage) = act (of_way pair.lines w) in
     let F : List Passage → Type 0 = λ x. P told.here (of_way pair.bells w) (of_way pair.blocks w) x in
     subst F (sym (of_way-with pair.lines w told.word)) p
@@ -54,7 +54,7 @@ pub elsewhere_told : (d : Decision) (v : Way) (pair : PairState) (P : BoxState �
 elsewhere_told (Here r h) v pair P p = p
 elsewhere_told (OnBell act) v pair P p = p (of_way pair.bells v)
 elsewhere_told (OnBlock act) v pair P p = p (of_way pair.blocks v)
-elsewhere_told (OnLine act) v pair P p = p (of_way pair.lines v)
+elsewhere_told (OnPlainLine act) v pair P p = p (of_way pair.lines v)
 
 record SameWords (w : Way) (x y : PairState) : Type 0 where
   bell : of_way x.bells w ≡ of_way y.bells w
@@ -73,8 +73,8 @@ in_pair (OnBell act) v w pair (inl e) = rw e (record { bell = of_way-with_opposi
 in_pair (OnBell act) v w pair (inr h) = absurd h
 in_pair (OnBlock act) v w pair (inl e) = rw e (record { bell = refl; block = of_way-with_opposite pair.blocks w _; line = refl })
 in_pair (OnBlock act) v w pair (inr h) = absurd h
-in_pair (OnLine act) v w pair (inl e) = rw e (record { bell = refl; block = refl; line = of_way-with_opposite pair.lines w _ })
-in_pair (OnLine act) v w pair (inr h) = absurd h
+in_pair (OnPlainLine act) v w pair (inl e) = rw e (record { bell = refl; block = refl; line = of_way-with_opposite pair.lines w _ })
+in_pair (OnPlainLine act) v w pair (inr h) = absurd h
 
 words_at : (s : LineState) (b p q : ℕ) (v w : Way) (d : Decision) → p < length s.pairs → ((eqb q p ≡ true) × (q ≡ p)) ⊎ ((eqb q p ≡ false) × (q ≢ p)) → IsElsewhere d q v p w
     → SameWords w (pair_at (line_after s b q v d) p) (pair_at s p)

@@ -14,7 +14,7 @@ use Rattle.line_law.specs.declared.link.Link.{Link}
 use Rattle.line_law.specs.declared.link.Link.TheVariants.{Out, In}
 use Rattle.line_law.specs.Decisions.{Decision}
 use Rattle.line_law.specs.Known.{KnowsCall}
-use Rattle.line_law.specs.Law.{link_of, plan_of, step}
+use Rattle.line_law.specs.Law.{link_of, box_plan_of, step}
 use Rattle.line_law.specs.Links.{pair_no, way_of}
 use Rattle.line_law.specs.SectionFacts.{Fact, HasLink, Holds, IsLocal, Keeps, decided}
 use Rattle.line_law.specs.States.{IsStateOf, LineState, box_at}
@@ -94,7 +94,7 @@ in_elsewhere n b x d v (inl same) (inl comes) is ne =
 -- ---- the rear box
 
 rear_out : (Q : Fact) (plan : PlanFields) (s : LineState) (x : Section) (v : Way) (call : Call) → (v ≡ x.way) ⊎ (v ≡ opposite x.way) → HasBoxes (length plan.boxes) x → x.rear < length s.boxes → pair_of_section x < length s.pairs
-    → link_of (plan_of plan x.rear) call.act ≡ Out v
+    → link_of (box_plan_of plan x.rear) call.act ≡ Out v
     → Keeps Q plan x call → Holds Q s x
     → Holds Q (line_after s x.rear (pair_no x.rear (Out v)) v (decided plan x.rear call (box_at s x.rear))) x
 rear_out Q plan s x v call (inl same) has b_in p_in e keeps h =
@@ -107,7 +107,7 @@ rear_out Q plan s x v call (inr other) has b_in p_in e keeps h =
     (keeps.rear_off (λ f. not_both v x.way (out_way v x.way (sym e ∙ f)) other) _ _ _ _ _ h)
 
 rear_link : (Q : Fact) (plan : PlanFields) (s : LineState) (x : Section) (call : Call) (l : Link) → IsSection plan x → HasBoxes (length plan.boxes) x → x.rear < length s.boxes → pair_of_section x < length s.pairs
-    → link_of (plan_of plan x.rear) call.act ≡ l
+    → link_of (box_plan_of plan x.rear) call.act ≡ l
     → (HasLink (length plan.boxes) x.rear l) ⊎ IsLocal (decided plan x.rear call (box_at s x.rear))
     → Keeps Q plan x call → Holds Q s x
     → Holds Q (line_after s x.rear (pair_no x.rear l) (way_of l) (decided plan x.rear call (box_at s x.rear))) x
@@ -120,7 +120,7 @@ rear_link Q plan s x call (In v) is has b_in p_in e ok keeps h =
 -- ---- the box in advance
 
 advance_in : (Q : Fact) (plan : PlanFields) (s : LineState) (x : Section) (v : Way) (call : Call) → (v ≡ x.way) ⊎ (v ≡ opposite x.way) → HasBoxes (length plan.boxes) x → advance_of x < length s.boxes → pair_of_section x < length s.pairs
-    → link_of (plan_of plan (advance_of x)) call.act ≡ In v
+    → link_of (box_plan_of plan (advance_of x)) call.act ≡ In v
     → Keeps Q plan x call → Holds Q s x
     → Holds Q (line_after s (advance_of x) (pair_no (advance_of x) (In v)) v (decided plan (advance_of x) call (box_at s (advance_of x)))) x
 advance_in Q plan s x v call (inl same) has b_in p_in e keeps h =
@@ -137,7 +137,7 @@ advance_in Q plan s x v call (inr other) has b_in p_in e keeps h =
     (keeps.advance_off (λ f. not_both v x.way (in_way v x.way (sym e ∙ f)) other) _ _ _ _ _ h)
 
 advance_link : (Q : Fact) (plan : PlanFields) (s : LineState) (x : Section) (call : Call) (l : Link) → IsSection plan x → HasBoxes (length plan.boxes) x → advance_of x < length s.boxes → pair_of_section x < length s.pairs
-    → link_of (plan_of plan (advance_of x)) call.act ≡ l
+    → link_of (box_plan_of plan (advance_of x)) call.act ≡ l
     → (HasLink (length plan.boxes) (advance_of x) l) ⊎ IsLocal (decided plan (advance_of x) call (box_at s (advance_of x)))
     → Keeps Q plan x call → Holds Q s x
     → Holds Q (line_after s (advance_of x) (pair_no (advance_of x) l) (way_of l) (decided plan (advance_of x) call (box_at s (advance_of x)))) x
@@ -158,7 +158,7 @@ third_link Q plan s x b d (In v) is nr na p_in ok h = lift_third Q s x b (pair_n
 -- ---- any box
 
 abbrev LinkIsFine : PlanFields → LineState → ℕ → Call → Type 0
-LinkIsFine plan s b call = (HasLink (length plan.boxes) b (link_of (plan_of plan b) call.act)) ⊎ IsLocal (decided plan b call (box_at s b))
+LinkIsFine plan s b call = (HasLink (length plan.boxes) b (link_of (box_plan_of plan b) call.act)) ⊎ IsLocal (decided plan b call (box_at s b))
 
 by_box : (Q : Fact) (plan : PlanFields) (s : LineState) (b : ℕ) (x : Section) (call : Call)
     → ((eqb b x.rear ≡ true) × (b ≡ x.rear)) ⊎ ((eqb b x.rear ≡ false) × (b ≢ x.rear))
@@ -168,12 +168,12 @@ by_box : (Q : Fact) (plan : PlanFields) (s : LineState) (b : ℕ) (x : Section) 
 unfolding step
 by_box Q plan s b x call (inl rear) other is has b_in p_in ok keeps h =
     let F : ℕ → Type 0 = λ k. k < length s.boxes → LinkIsFine plan s k call → Holds Q (step plan s k call).after x in
-    subst F (sym rear.1) (λ k_in k_ok. rear_link Q plan s x call (link_of (plan_of plan x.rear) call.act) is has k_in p_in refl k_ok keeps h) b_in ok
+    subst F (sym rear.1) (λ k_in k_ok. rear_link Q plan s x call (link_of (box_plan_of plan x.rear) call.act) is has k_in p_in refl k_ok keeps h) b_in ok
 by_box Q plan s b x call (inr nr) (inl advance) is has b_in p_in ok keeps h =
     let F : ℕ → Type 0 = λ k. k < length s.boxes → LinkIsFine plan s k call → Holds Q (step plan s k call).after x in
-    subst F (sym advance.1) (λ k_in k_ok. advance_link Q plan s x call (link_of (plan_of plan (advance_of x)) call.act) is has k_in p_in refl k_ok keeps h) b_in ok
+    subst F (sym advance.1) (λ k_in k_ok. advance_link Q plan s x call (link_of (box_plan_of plan (advance_of x)) call.act) is has k_in p_in refl k_ok keeps h) b_in ok
 by_box Q plan s b x call (inr nr) (inr na) is has b_in p_in ok keeps h =
-    third_link Q plan s x b (decided plan b call (box_at s b)) (link_of (plan_of plan b) call.act) is nr.1 na.1 p_in ok h
+    third_link Q plan s x b (decided plan b call (box_at s b)) (link_of (box_plan_of plan b) call.act) is nr.1 na.1 p_in ok h
 
 -- one call keeps the fact
 pub step_keeps : (Q : Fact) (plan : PlanFields) (s : LineState) (b : ℕ) (x : Section) (call : Call) → IsPlan plan → IsStateOf plan s → IsSection plan x → KnowsCall plan b call → Keeps Q plan x call → Holds Q s x → Holds Q (step plan s b call).after x

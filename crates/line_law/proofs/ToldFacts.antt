@@ -32,12 +32,13 @@ use Rattle.line_law.specs.Controls.{normal_refusal, release_refusal, soon_refusa
 use Rattle.line_law.specs.Decisions.{or_later}
 use Rattle.line_law.specs.Instruments.{clear_refusal, clearing_refusal, control_refusal, from_refusal, home_refusal, position_refusal, same_position, turn_refusal, welwyn_refusal}
 use Rattle.line_law.specs.Known.{moments_of}
-use Rattle.line_law.specs.Law.{plan_of}
+use Rattle.line_law.specs.Law.{box_plan_of}
 use Rattle.line_law.specs.Levers.{lock_refusal, pull_refusal, put_refusal, row_refusal, spare_refusal, track_refusal}
 use Rattle.line_law.specs.Lines.{FitsLine, IsBoxAfter, IsControlOf, IsPairAfter}
 use Rattle.line_law.specs.Sound.{IsSound}
 use Rattle.line_law.specs.Tellings.{HasLever, IsCode, IsOne, IsReadyMoment, IsStand, IsTold}
-use Rattle.line_law.specs.Tracks.{first_reversed, first_standing, is_pulled, standing_at, train_on}
+use Rattle.line_law.specs.LeverEnds.{first_reversed, is_pulled}
+use Rattle.line_law.specs.Tracks.{first_standing, standing_at, train_on}
 use Rattle.line_law.specs.Trains.{bring_refusal, danger_refusal, end_of, off_refusal, overrun_refusal, pass_refusal, place_refusal, standing_refusal, was_brought, way_refusal}
 use Rattle.line_law.specs.Ways.{of_way}
 use Rattle.line_law.proofs.Boxes.{stands_is}
@@ -61,8 +62,8 @@ PairTells plan pair = (way : Way) → IfSome (of_way pair.bells way).unheard (Is
 -- box b and a pair after n calls, of which box b makes the next at a moment of the day; m calls are no fewer than those with it
 pub record CanTell (plan : PlanFields) (b n m : ℕ) (here : BoxState) (pair : PairState) : Type 0 where
   pub calls : n + 1 ≤ m
-  pub of_plan : IsBox (length plan.boxes) b (plan_of plan b)
-  pub box : IsBoxAfter plan.trains (plan_of plan b) n here
+  pub of_plan : IsBox (length plan.boxes) b (box_plan_of plan b)
+  pub box : IsBoxAfter plan.trains (box_plan_of plan b) n here
   pub words : IsPairAfter plan.trains n pair
   pub tells : BoxTells plan here
   pub shown : PairTells plan pair
@@ -72,8 +73,8 @@ pub record CanTell (plan : PlanFields) (b n m : ℕ) (here : BoxState) (pair : P
 abbrev pub MayTell : PlanFields → ℕ → ℕ → Option Reply → Type 0
 MayTell plan b m refusal = IfSome refusal (IsTold plan b m)
 
-pub is_sound : (plan : PlanFields) (b n m : ℕ) (here : BoxState) (pair : PairState) → CanTell plan b n m here pair → IsSound (plan_of plan b)
-is_sound plan b n m here pair is = sound (length plan.boxes) b (plan_of plan b) is.of_plan
+pub is_sound : (plan : PlanFields) (b n m : ℕ) (here : BoxState) (pair : PairState) → CanTell plan b n m here pair → IsSound (box_plan_of plan b)
+is_sound plan b n m here pair is = sound (length plan.boxes) b (box_plan_of plan b) is.of_plan
 
 -- ---- two refusals
 
@@ -90,19 +91,19 @@ one_tells P false r s h g = g
 abbrev StandsIn : PlanFields → ℕ → Standing → Type 0
 StandsIn plan b there = IsStand plan b there.place there.train
 
-pub first_stands : (plan : PlanFields) (b n m : ℕ) (here : BoxState) (pair : PairState) (places : List ℕ) → CanTell plan b n m here pair → All (λ place. place < length (plan_of plan b).places) places
+pub first_stands : (plan : PlanFields) (b n m : ℕ) (here : BoxState) (pair : PairState) (places : List ℕ) → CanTell plan b n m here pair → All (λ place. place < length (box_plan_of plan b).places) places
     → IfSome (first_standing here.places places) (StandsIn plan b)
 first_stands plan b n m here pair [] is all = tt
-first_stands plan b n m here pair (p ∷ ps) is all = go (train_on here.places p) refl (first_stands plan b n m here pair ps is (All-tail (λ place. place < length (plan_of plan b).places) p ps all)) where
-  within : p < length (plan_of plan b).places
-  within = All-head (λ place. place < length (plan_of plan b).places) p ps all
+first_stands plan b n m here pair (p ∷ ps) is all = go (train_on here.places p) refl (first_stands plan b n m here pair ps is (All-tail (λ place. place < length (box_plan_of plan b).places) p ps all)) where
+  within : p < length (box_plan_of plan b).places
+  within = All-head (λ place. place < length (box_plan_of plan b).places) p ps all
 
   go : (t : Option ℕ) → train_on here.places p ≡ t → IfSome (first_standing here.places ps) (StandsIn plan b) → IfSome (standing_at t p (first_standing here.places ps)) (StandsIn plan b)
   go None e later = later
   go (Some train) e later = (within, stands_is plan.trains here.places p train (omega (arith, within, is.box.shape.frame.places)) is.box.shape.occupants e)
 
 -- the train at a place of the box is one of the plan
-pub stands_one : (plan : PlanFields) (b n m : ℕ) (here : BoxState) (pair : PairState) (place : ℕ) → CanTell plan b n m here pair → place < length (plan_of plan b).places → IfSome (train_on here.places place) (IsOne plan)
+pub stands_one : (plan : PlanFields) (b n m : ℕ) (here : BoxState) (pair : PairState) (place : ℕ) → CanTell plan b n m here pair → place < length (box_plan_of plan b).places → IfSome (train_on here.places place) (IsOne plan)
 stands_one plan b n m here pair place is within = go (train_on here.places place) refl where
   go : (t : Option ℕ) → train_on here.places place ≡ t → IfSome t (IsOne plan)
   go None e = tt
@@ -204,14 +205,14 @@ row_both bp row h =
       object = working_in bp row.object (All-head (IsWorking bp) row.object later rest);
     }
 
-row_tells : (plan : PlanFields) (b m : ℕ) (o : Option Holder) → IfSome o (HoldsIn (HasLever plan b) 1 (length (plan_of plan b).rows)) → MayTell plan b m (row_refusal o)
+row_tells : (plan : PlanFields) (b m : ℕ) (o : Option Holder) → IfSome o (HoldsIn (HasLever plan b) 1 (length (box_plan_of plan b).rows)) → MayTell plan b m (row_refusal o)
 unfolding IsTold
 row_tells plan b m None h = tt
 row_tells plan b m (Some holder) h = (h.lever, (h.low, omega (arith, h.high)))
 
-lock_tells : (plan : PlanFields) (b n m : ℕ) (here : BoxState) (pair : PairState) (lever : ℕ) → CanTell plan b n m here pair → MayTell plan b m (lock_refusal (plan_of plan b) here lever)
+lock_tells : (plan : PlanFields) (b n m : ℕ) (here : BoxState) (pair : PairState) (lever : ℕ) → CanTell plan b n m here pair → MayTell plan b m (lock_refusal (box_plan_of plan b) here lever)
 lock_tells plan b n m here pair lever is =
-    let bp = plan_of plan b in
+    let bp = box_plan_of plan b in
     or_tells (IsTold plan b m) _ _
     (row_tells plan b m _ (holder_is (HasLever plan b) here.ends lever 1 bp.rows (All-weaker (IsBoxRow bp) (Both (HasLever plan b)) (row_both bp) bp.rows is.of_plan.rows)))
     (track_tells plan b m _ (first_stands plan b n m here pair (track_of bp lever) is ((is_sound plan b n m here pair is).track lever)))
@@ -225,12 +226,12 @@ spare_tells plan b m (Some kinds.Lock) = tt
 spare_tells plan b m (Some kinds.Distant) = tt
 spare_tells plan b m (Some kinds.Spare) = tt
 
-pub pull_tells : (plan : PlanFields) (b n m : ℕ) (here : BoxState) (pair : PairState) (lever : ℕ) → CanTell plan b n m here pair → MayTell plan b m (pull_refusal (plan_of plan b) here lever)
+pub pull_tells : (plan : PlanFields) (b n m : ℕ) (here : BoxState) (pair : PairState) (lever : ℕ) → CanTell plan b n m here pair → MayTell plan b m (pull_refusal (box_plan_of plan b) here lever)
 unfolding IsTold
 pull_tells plan b n m here pair lever is =
-    one_tells (IsTold plan b m) (is_pulled here.ends lever) _ _ tt (or_tells (IsTold plan b m) _ _ (spare_tells plan b m (kind_of (plan_of plan b) lever)) (lock_tells plan b n m here pair lever is))
+    one_tells (IsTold plan b m) (is_pulled here.ends lever) _ _ tt (or_tells (IsTold plan b m) _ _ (spare_tells plan b m (kind_of (box_plan_of plan b) lever)) (lock_tells plan b n m here pair lever is))
 
-pub put_tells : (plan : PlanFields) (b n m : ℕ) (here : BoxState) (pair : PairState) (lever : ℕ) → CanTell plan b n m here pair → MayTell plan b m (put_refusal (plan_of plan b) here lever)
+pub put_tells : (plan : PlanFields) (b n m : ℕ) (here : BoxState) (pair : PairState) (lever : ℕ) → CanTell plan b n m here pair → MayTell plan b m (put_refusal (box_plan_of plan b) here lever)
 unfolding IsTold
 put_tells plan b n m here pair lever is = one_tells (IsTold plan b m) (is_pulled here.ends lever) _ _ (lock_tells plan b n m here pair lever is) tt
 
@@ -252,42 +253,42 @@ from_tells plan b m shows.Normal = tt
 from_tells plan b m shows.LineClear = tt
 from_tells plan b m shows.TrainOnLine = tt
 
-control_tells : (plan : PlanFields) (b n m : ℕ) (here : BoxState) (pair : PairState) (way : Way) (berth : Berth) (c : Control) → CanTell plan b n m here pair → berth_of (plan_of plan b) way ≡ Some berth → FitsLine berth.permissive c
+control_tells : (plan : PlanFields) (b n m : ℕ) (here : BoxState) (pair : PairState) (way : Way) (berth : Berth) (c : Control) → CanTell plan b n m here pair → berth_of (box_plan_of plan b) way ≡ Some berth → FitsLine berth.permissive c
     → MayTell plan b m (control_refusal c here berth)
 unfolding IsTold
 control_tells plan b n m here pair way berth (Absolute state) is e fits =
     let says = (is_sound plan b n m here pair is).berth way berth e in
     or_tells (IsTold plan b m) _ _
-    (clearing_tells plan b m _ (first_stands plan b n m here pair (berth.place ∷ berth.clearing) is (All-cons (λ place. place < length (plan_of plan b).places) berth.place berth.clearing says.place says.clearing)))
+    (clearing_tells plan b m _ (first_stands plan b n m here pair (berth.place ∷ berth.clearing) is (All-cons (λ place. place < length (box_plan_of plan b).places) berth.place berth.clearing says.place says.clearing)))
     (welwyn_tells plan b m state)
 control_tells plan b n m here pair way berth (Permissive out) is e fits =
     let says = (is_sound plan b n m here pair is).berth way berth e in
     one_tells (IsTold plan b m) (out == most_of berth.permissive) _ _ (few_out berth.permissive out fits says.few) tt
 
-clear_tells : (plan : PlanFields) (b n m : ℕ) (here : BoxState) (pair : PairState) (way : Way) (berth : Berth) → CanTell plan b n m here pair → berth_of (plan_of plan b) way ≡ Some berth
+clear_tells : (plan : PlanFields) (b n m : ℕ) (here : BoxState) (pair : PairState) (way : Way) (berth : Berth) → CanTell plan b n m here pair → berth_of (box_plan_of plan b) way ≡ Some berth
     → MayTell plan b m (clear_refusal here berth (of_way here.incoming way))
 clear_tells plan b n m here pair way berth is e =
-    let bp = plan_of plan b in
+    let bp = box_plan_of plan b in
     let fits : IsControlOf (Some berth) (of_way here.incoming way).control = subst (λ (o : Option Berth). IsControlOf o (of_way here.incoming way).control) e (is.box.shape.controls way) in
     let homes : All (HasLever plan b) berth.homes = rw (berth_is (length plan.boxes) b bp way berth is.of_plan e).homes (homes_in bp berth.place) in
     or_tells (IsTold plan b m) _ _ (from_tells plan b m (of_way here.incoming way).position)
     (or_tells (IsTold plan b m) _ _ (home_tells plan b m _ (reversed_is (HasLever plan b) here.ends berth.homes homes))
     (control_tells plan b n m here pair way berth (of_way here.incoming way).control is e fits))
 
-position_tells : (position : Position) (plan : PlanFields) (b n m : ℕ) (here : BoxState) (pair : PairState) (way : Way) (berth : Berth) → CanTell plan b n m here pair → berth_of (plan_of plan b) way ≡ Some berth
+position_tells : (position : Position) (plan : PlanFields) (b n m : ℕ) (here : BoxState) (pair : PairState) (way : Way) (berth : Berth) → CanTell plan b n m here pair → berth_of (box_plan_of plan b) way ≡ Some berth
     → MayTell plan b m (position_refusal position here berth (of_way here.incoming way))
 position_tells shows.Normal plan b n m here pair way berth is e = tt
 position_tells shows.LineClear plan b n m here pair way berth is e = clear_tells plan b n m here pair way berth is e
 position_tells shows.TrainOnLine plan b n m here pair way berth is e = tt
 
-pub turn_tells : (plan : PlanFields) (b n m : ℕ) (here : BoxState) (pair : PairState) (way : Way) (berth : Berth) (position : Position) → CanTell plan b n m here pair → berth_of (plan_of plan b) way ≡ Some berth
+pub turn_tells : (plan : PlanFields) (b n m : ℕ) (here : BoxState) (pair : PairState) (way : Way) (berth : Berth) (position : Position) → CanTell plan b n m here pair → berth_of (box_plan_of plan b) way ≡ Some berth
     → MayTell plan b m (turn_refusal here berth (of_way here.incoming way) position)
 unfolding IsTold
 turn_tells plan b n m here pair way berth position is e = one_tells (IsTold plan b m) (same_position (of_way here.incoming way).position position) _ _ tt (position_tells position plan b n m here pair way berth is e)
 
 -- ---- trains
 
-pub bring_tells : (plan : PlanFields) (b n m : ℕ) (here : BoxState) (pair : PairState) (train place : ℕ) → CanTell plan b n m here pair → place < length (plan_of plan b).places → MayTell plan b m (bring_refusal here train place)
+pub bring_tells : (plan : PlanFields) (b n m : ℕ) (here : BoxState) (pair : PairState) (train place : ℕ) → CanTell plan b n m here pair → place < length (box_plan_of plan b).places → MayTell plan b m (bring_refusal here train place)
 unfolding IsTold
 bring_tells plan b n m here pair train place is within =
     one_tells (IsTold plan b m) (was_brought here.brought train) _ _ tt (go (train_on here.places place) (stands_one plan b n m here pair place is within)) where
@@ -295,7 +296,7 @@ bring_tells plan b n m here pair train place is within =
       go None one = tt
       go (Some there) one = (within, one)
 
-way_tells : (plan : PlanFields) (b n m : ℕ) (here : BoxState) (pair : PairState) (lever : ℕ) (signal : Signal) → CanTell plan b n m here pair → signal_of (plan_of plan b) lever ≡ Some signal → MayTell plan b m (way_refusal here signal)
+way_tells : (plan : PlanFields) (b n m : ℕ) (here : BoxState) (pair : PairState) (lever : ℕ) (signal : Signal) → CanTell plan b n m here pair → signal_of (box_plan_of plan b) lever ≡ Some signal → MayTell plan b m (way_refusal here signal)
 way_tells plan b n m here pair lever signal is e =
     let says = (is_sound plan b n m here pair is).signal lever signal e in
     or_tells (IsTold plan b m) _ _ (standing_tells plan b m _ (first_stands plan b n m here pair signal.over is says.over)) (standing_tells plan b m _ (first_stands plan b n m here pair (end_of signal.to) is says.to))
@@ -310,10 +311,10 @@ unfolding IsTold
 off_tells plan b m true = tt
 off_tells plan b m false = tt
 
-pub pass_tells : (plan : PlanFields) (b n m : ℕ) (here : BoxState) (pair : PairState) (lever : ℕ) (signal : Signal) → CanTell plan b n m here pair → signal_of (plan_of plan b) lever ≡ Some signal → MayTell plan b m (pass_refusal here signal)
+pub pass_tells : (plan : PlanFields) (b n m : ℕ) (here : BoxState) (pair : PairState) (lever : ℕ) (signal : Signal) → CanTell plan b n m here pair → signal_of (box_plan_of plan b) lever ≡ Some signal → MayTell plan b m (pass_refusal here signal)
 pass_tells plan b n m here pair lever signal is e = or_tells (IsTold plan b m) _ _ (danger_tells plan b m _) (way_tells plan b n m here pair lever signal is e)
 
-pub overrun_tells : (plan : PlanFields) (b n m : ℕ) (here : BoxState) (pair : PairState) (lever : ℕ) (signal : Signal) → CanTell plan b n m here pair → signal_of (plan_of plan b) lever ≡ Some signal → MayTell plan b m (overrun_refusal here signal)
+pub overrun_tells : (plan : PlanFields) (b n m : ℕ) (here : BoxState) (pair : PairState) (lever : ℕ) (signal : Signal) → CanTell plan b n m here pair → signal_of (box_plan_of plan b) lever ≡ Some signal → MayTell plan b m (overrun_refusal here signal)
 overrun_tells plan b n m here pair lever signal is e = or_tells (IsTold plan b m) _ _ (off_tells plan b m _) (way_tells plan b n m here pair lever signal is e)
 
 -- ---- arrivals
@@ -328,7 +329,7 @@ unfolding IsTold
 occupied_tells plan b m None h = tt
 occupied_tells plan b m (Some train) h = h
 
-pub berth_tells : (plan : PlanFields) (b n m : ℕ) (here : BoxState) (pair : PairState) (way : Way) (berth : Berth) → CanTell plan b n m here pair → berth_of (plan_of plan b) way ≡ Some berth → MayTell plan b m (berth_refusal here way berth)
+pub berth_tells : (plan : PlanFields) (b n m : ℕ) (here : BoxState) (pair : PairState) (way : Way) (berth : Berth) → CanTell plan b n m here pair → berth_of (box_plan_of plan b) way ≡ Some berth → MayTell plan b m (berth_refusal here way berth)
 berth_tells plan b n m here pair way berth is e =
     or_tells (IsTold plan b m) _ _ (portion_tells plan b m _ (is.tells way).portion) (occupied_tells plan b m _ (stands_one plan b n m here pair berth.place is ((is_sound plan b n m here pair is).berth way berth e).place))
 

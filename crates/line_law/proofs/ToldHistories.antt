@@ -15,7 +15,7 @@ use Rattle.line_law.specs.declared.state.BoxState.{BoxState}
 use Rattle.line_law.specs.declared.state.PairState.{PairState}
 use Rattle.line_law.specs.History.{IsLegal, IsLegalFrom, after_entry}
 use Rattle.line_law.specs.Known.{KnowsCall}
-use Rattle.line_law.specs.Law.{at_moment, pair_of, plan_of, step}
+use Rattle.line_law.specs.Law.{at_moment, pair_of, box_plan_of, step}
 use Rattle.line_law.specs.Law.{link_of}
 use Rattle.line_law.specs.Lines.{IsLineOf, PlainState}
 use Rattle.line_law.specs.Links.{way_of}
@@ -25,7 +25,7 @@ use Rattle.line_law.proofs.Keeping.{box_at_moment, known_fits, stays}
 use Rattle.line_law.proofs.Opens.{opening_pair_at, opens}
 use Rattle.line_law.proofs.Outcomes.{outcome_of}
 use Rattle.line_law.proofs.Sides.{call_within, known_parts}
-use Rattle.line_law.proofs.Told.{told}
+use Rattle.line_law.proofs.ToldReplies.{told}
 use Rattle.line_law.proofs.ToldFacts.{BoxTells, CanTell, LineTells, PairTells}
 use Rattle.line_law.proofs.ToldKeeps.{box_tells, pair_tells}
 
@@ -50,7 +50,7 @@ none_opens plan Down = line_opens plan None
 boxes_open : (plan : PlanFields) (b : ℕ) → BoxTells plan (box_at (opening_state plan) b)
 unfolding opening_state
 boxes_open plan b = elim (cases_lt b (length plan.boxes)) [
-  | inl lt ↦ subst (λ (here : BoxState). BoxTells plan here) (sym (get_or-map (λ bp. opening_box (length plan.trains) bp) plan.boxes b no_box no_state lt)) (box_opens plan (plan_of plan b))
+  | inl lt ↦ subst (λ (here : BoxState). BoxTells plan here) (sym (get_or-map (λ bp. opening_box (length plan.trains) bp) plan.boxes b no_box no_state lt)) (box_opens plan (box_plan_of plan b))
   | inr le ↦
       let same = length-map plan.boxes (λ bp. opening_box (length plan.trains) bp) in
       subst (λ (here : BoxState). BoxTells plan here) (sym (get_or_past _ b no_state (omega (arith, le, same)))) (none_opens plan)
@@ -93,7 +93,7 @@ step_told : (plan : PlanFields) (plain : PlainState) (b : ℕ) (call : Call) (m 
     → IsTold plan b m (step plan plain.line b call).reply
 unfolding step
 step_told plan plain b call m is line tells known few =
-    told call.act plan b plain.calls m (at_moment (box_at plain.line b) call.moment) (pair_at plain.line (pair_of plan b call)) (way_of (link_of (plan_of plan b) call.act))
+    told call.act plan b plain.calls m (at_moment (box_at plain.line b) call.moment) (pair_at plain.line (pair_of plan b call)) (way_of (link_of (box_plan_of plan b) call.act))
     (can_tell plan plain b call m is line tells known few) (known_parts plan b call known).act (known_fits plan b call is known)
 
 step_tells : (plan : PlanFields) (plain : PlainState) (b : ℕ) (call : Call) → IsPlan plan → IsLineOf plan plain → StateTells plan plain.line → KnowsCall plan b call → StateTells plan (step plan plain.line b call).after
@@ -101,7 +101,7 @@ unfolding step
 step_tells plan plain b call is line tells known =
     let parts = known_parts plan b call known in
     let within = call_within plan b call is known in
-    let bp = plan_of plan b in
+    let bp = box_plan_of plan b in
     let p : ℕ = pair_of plan b call in
     let here = at_moment (box_at plain.line b) call.moment in
     let pair = pair_at plain.line p in

@@ -28,7 +28,7 @@ use Rattle.line_law.specs.Trains.{holds, left_by, line_left}
 use Rattle.line_law.specs.Ways.{of_way, with_way}
 use Rattle.line_law.proofs.Boxes.{ways_with}
 use Rattle.line_law.proofs.Found.{both}
-use Rattle.line_law.proofs.Told.{first_one}
+use Rattle.line_law.proofs.ToldReplies.{first_one}
 use Rattle.line_law.proofs.ToldFacts.{BoxTells, LineTells, PairTells}
 
 -- ---- a box

@@ -9,7 +9,7 @@ use Rattle.line_law.specs.History.{IsLegal, IsLegalFrom, after_entry, calls_of, 
 use Rattle.line_law.specs.Known.{KnowsCall}
 use Rattle.line_law.specs.Serial.{AreCalls}
 use Rattle.line_law.specs.States.{IsStateOf, LineState, box_at, no_state, opening_box, opening_state}
-use Rattle.line_law.proofs.Footprints.{has_places}
+use Rattle.line_law.proofs.Lines.{has_places}
 use Rattle.line_law.proofs.Keeping.{shape_stays}
 use Rattle.line_law.proofs.Left.{moment_here, other_box}
 use Rattle.line_law.proofs.Opens.{opening_shape}

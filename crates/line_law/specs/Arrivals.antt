@@ -3,12 +3,13 @@ use Rattle.std.specs.Prelude.{ℕ, ◌+◌, List, [], ◌∷◌, Option, Some, N
 use Rattle.block_words.specs.declared.Way.{Way}
 use Rattle.line_plan.specs.declared.berth.Berth.{Berth}
 use Rattle.line_law.specs.declared.call.Reply.{Reply}
-use Rattle.line_law.specs.declared.call.Reply.TheVariants.{Approaching, TrainNotYet, Berthed, PartBerthed, NoTrainAt, BerthOccupied, PortionAhead, Cleared, NoPortion}
+use Rattle.line_law.specs.declared.call.Reply.TheVariants.{Approaching, TrainNotYet, Berthed, PartBerthed, NoTrainAt}
+use Rattle.line_law.specs.declared.call.Reply.TheVariants.{BerthOccupied, PortionAhead, Cleared, NoPortion}
 use Rattle.line_law.specs.declared.state.BoxState.{BoxState}
 use Rattle.line_law.specs.declared.state.Incoming.{Incoming}
 use Rattle.line_law.specs.declared.state.Passage.{Passage}
 use Rattle.line_law.specs.Controls.{berthed_control}
-use Rattle.line_law.specs.Decisions.{Told, Decision, Here, OnLine, or_later, unless}
+use Rattle.line_law.specs.Decisions.{Told, Decision, Here, OnPlainLine, or_later, unless}
 use Rattle.line_law.specs.Tracks.{train_on}
 use Rattle.line_law.specs.Ways.{of_way, with_way}
 
@@ -50,7 +51,8 @@ berth_occupied (Some train) = Some (BerthOccupied train)
 
 -- what coming into the berth is refused for in the box
 abbrev pub berth_refusal : BoxState → Way → Berth → Option Reply
-berth_refusal here way berth = or_later (portion_refusal (of_way here.incoming way).portion) (berth_occupied (train_on here.places berth.place))
+berth_refusal here way berth =
+    or_later (portion_refusal (of_way here.incoming way).portion) (berth_occupied (train_on here.places berth.place))
 
 -- ---- berth
 
@@ -60,13 +62,18 @@ line_berthed line j = record line { taken = j; control = berthed_control line.co
 
 -- the box with the train in the berth
 abbrev pub in_berth : BoxState → Way → ℕ → ℕ → Incoming → BoxState
-in_berth here way place train line = record here { places = slice_set here.places place (Some train); incoming = with_way here.incoming way line }
+in_berth here way place train line =
+    record here { places = slice_set here.places place (Some train); incoming = with_way here.incoming way line }
 
 -- berth, by train j on the plain line: it leaves that for the berth; refused where it isn't there
 abbrev pub train_berthed : Option ℕ → BoxState → Way → ℕ → ℕ → List Passage → Told (List Passage)
 train_berthed None here way place j line = record { reply = NoTrainAt j; here = here; word = line }
 train_berthed (Some train) here way place j line =
-    record { reply = Berthed j train; here = in_berth here way place train (line_berthed (of_way here.incoming way) j); word = drop 1 line }
+    record {
+      reply = Berthed j train;
+      here = in_berth here way place train (line_berthed (of_way here.incoming way) j);
+      word = drop 1 line;
+    }
 
 -- the next train comes into the berth, past what the box refuses
 abbrev pub berthed : BoxState → Way → ℕ → List Passage → Told (List Passage)
@@ -75,7 +82,8 @@ berthed here way place line = train_berthed (next_train here way line) here way 
 -- the next train of an incoming line comes whole into the berth; a line without a berth is known to no plan
 abbrev pub berth : Option Berth → BoxState → Way → Decision
 berth None here way = Here (BerthOccupied 0) here
-berth (Some berth_plan) here way = unless (berth_refusal here way berth_plan) here (OnLine (berthed here way berth_plan.place))
+berth (Some berth_plan) here way =
+    unless (berth_refusal here way berth_plan) here (OnPlainLine (berthed here way berth_plan.place))
 
 -- ---- berth_part
 
@@ -87,16 +95,22 @@ line_parted line train = record line { portion = Some train; control = berthed_c
 abbrev pub train_parted : Option ℕ → BoxState → Way → ℕ → ℕ → List Passage → Told (List Passage)
 train_parted None here way place j line = record { reply = NoTrainAt j; here = here; word = line }
 train_parted (Some train) here way place j line =
-    record { reply = PartBerthed j train; here = in_berth here way place train (line_parted (of_way here.incoming way) train); word = line }
+    record {
+      reply = PartBerthed j train;
+      here = in_berth here way place train (line_parted (of_way here.incoming way) train);
+      word = line;
+    }
 
 -- the next train comes into the berth in part, past what the box refuses
 abbrev pub parted : BoxState → Way → ℕ → List Passage → Told (List Passage)
 parted here way place line = train_parted (next_train here way line) here way place (next_number here way) line
 
--- the next train of an incoming line comes into the berth and leaves a portion; a line without a berth is known to no plan
+-- the next train of an incoming line comes into the berth and leaves a portion; a line without a berth is known to no
+-- plan
 abbrev pub berth_part : Option Berth → BoxState → Way → Decision
 berth_part None here way = Here (BerthOccupied 0) here
-berth_part (Some berth_plan) here way = unless (berth_refusal here way berth_plan) here (OnLine (parted here way berth_plan.place))
+berth_part (Some berth_plan) here way =
+    unless (berth_refusal here way berth_plan) here (OnPlainLine (parted here way berth_plan.place))
 
 -- ---- clear_portion
 
@@ -106,12 +120,14 @@ line_cleared line j = record line { taken = j; portion = None }
 
 -- the box with the portion of train j cleared away
 abbrev pub cleared_here : BoxState → Way → ℕ → BoxState
-cleared_here here way j = record here { incoming = with_way here.incoming way (line_cleared (of_way here.incoming way) j) }
+cleared_here here way j =
+    record here { incoming = with_way here.incoming way (line_cleared (of_way here.incoming way) j) }
 
 -- clear_portion, by train j on the plain line: it leaves that
 abbrev pub train_cleared : Option ℕ → BoxState → Way → ℕ → List Passage → Told (List Passage)
 train_cleared None here way j line = record { reply = NoTrainAt j; here = here; word = line }
-train_cleared (Some train) here way j line = record { reply = Cleared j train; here = cleared_here here way j; word = drop 1 line }
+train_cleared (Some train) here way j line =
+    record { reply = Cleared j train; here = cleared_here here way j; word = drop 1 line }
 
 -- the portion is cleared away, which is of the next train
 abbrev pub cleared : BoxState → Way → List Passage → Told (List Passage)
@@ -124,4 +140,5 @@ clear_portion_refusal (Some train) = None
 
 -- a box has the left portion of an incoming line cleared away
 abbrev pub clear_portion : BoxState → Way → Decision
-clear_portion here way = unless (clear_portion_refusal (of_way here.incoming way).portion) here (OnLine (cleared here way))
+clear_portion here way =
+    unless (clear_portion_refusal (of_way here.incoming way).portion) here (OnPlainLine (cleared here way))

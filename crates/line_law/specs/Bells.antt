@@ -11,9 +11,11 @@ use Rattle.line_law.specs.Decisions.{Told}
 abbrev pub silent : ℕ → Bell
 silent count = record { count = count; unheard = None }
 
--- ring, by what the bell holds: refused where a code stands unheard; else the count rises, in the box too, and the code stands unheard
+-- ring, by what the bell holds: refused where a code stands unheard; else the count rises, in the box too, and the code
+-- stands unheard
 abbrev pub rung : BoxState → Way → ℕ → ℕ → Option ℕ → Told Bell
-rung here side code count (Some unheard) = record { reply = BellBusy count unheard; here = here; word = record { count = count; unheard = Some unheard } }
+rung here side code count (Some unheard) =
+    record { reply = BellBusy count unheard; here = here; word = record { count = count; unheard = Some unheard } }
 rung here side code count None =
     record {
       reply = Rung (count + 1);
@@ -39,7 +41,11 @@ abbrev pub awaited : BoxState → ℕ → ℕ → Option ℕ → Told Bell
 awaited here code count (Some unheard) =
     if unheard == code
     then record { reply = Heard count unheard; here = here; word = silent count }
-    else record { reply = BellNotYet count (Some unheard); here = here; word = record { count = count; unheard = Some unheard } }
+    else record {
+      reply = BellNotYet count (Some unheard);
+      here = here;
+      word = record { count = count; unheard = Some unheard };
+    }
 awaited here code count None = record { reply = BellNotYet count None; here = here; word = silent count }
 
 -- a box looks whether a bell has rung a code, and hears it

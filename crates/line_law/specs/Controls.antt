@@ -6,7 +6,8 @@ use Rattle.block_words.specs.declared.Way.{Way}
 use Rattle.block_words.specs.declared.WelwynState.{WelwynState}
 use Rattle.block_words.specs.declared.WelwynState.TheVariants as welwyn
 use Rattle.line_law.specs.declared.call.Reply.{Reply}
-use Rattle.line_law.specs.declared.call.Reply.TheVariants.{Winding, AlreadyWinding, NotAtNormal, Released, NotWinding, TooSoon}
+use Rattle.line_law.specs.declared.call.Reply.TheVariants.{Winding, AlreadyWinding, NotAtNormal, Released, NotWinding}
+use Rattle.line_law.specs.declared.call.Reply.TheVariants.{TooSoon}
 use Rattle.line_law.specs.declared.state.BoxState.{BoxState}
 use Rattle.line_law.specs.declared.state.Control.{Control}
 use Rattle.line_law.specs.declared.state.Control.TheVariants.{Absolute, Permissive}
@@ -32,7 +33,8 @@ cleared_state welwyn.Ready = welwyn.Ready
 cleared_state welwyn.Given = welwyn.Given
 cleared_state welwyn.Berthed = welwyn.Ready
 
--- a train leaves the berth: an absolute line goes from Berthed to Ready, on a permissive one a train less is out, where one was
+-- a train leaves the berth: an absolute line goes from Berthed to Ready, on a permissive one a train less is out, where
+-- one was
 abbrev pub left_control : Control → Control
 left_control (Absolute state) = Absolute (cleared_state state)
 left_control (Permissive out) = Permissive (out - 1)
@@ -65,11 +67,13 @@ wind_refusal line = or_later (winding_refusal line.ready_at) (normal_refusal lin
 
 -- the box with a release begun on that line
 abbrev pub wound_here : BoxState → Way → ℕ → BoxState
-wound_here here way ready_at = record here { incoming = with_way here.incoming way (wound (of_way here.incoming way) ready_at) }
+wound_here here way ready_at =
+    record here { incoming = with_way here.incoming way (wound (of_way here.incoming way) ready_at) }
 
 -- a box begins to wind, at the moment of this call; the release may come after the plan's delay
 abbrev pub wind : ℕ → BoxState → Way → Decision
-wind delay here way = unless (wind_refusal (of_way here.incoming way)) here (Here (Winding (here.moment + delay)) (wound_here here way (here.moment + delay)))
+wind delay here way = unless (wind_refusal (of_way here.incoming way)) here
+    (Here (Winding (here.moment + delay)) (wound_here here way (here.moment + delay)))
 
 -- the line after its release
 abbrev pub released_line : Incoming → Incoming
@@ -80,15 +84,18 @@ abbrev pub soon_refusal : Bool → ℕ → Option Reply
 soon_refusal true ready_at = Some (TooSoon ready_at)
 soon_refusal false ready_at = None
 
--- what a release is refused for, by the winding that was begun: refused where none was, and where the moment is below its ready moment
+-- what a release is refused for, by the winding that was begun: refused where none was, and where the moment is below
+-- its ready moment
 abbrev pub release_refusal : ℕ → Option ℕ → Option Reply
 release_refusal moment None = Some NotWinding
 release_refusal moment (Some ready_at) = soon_refusal (nat_lt moment ready_at) ready_at
 
 -- the box with that line released
 abbrev pub released_here : BoxState → Way → BoxState
-released_here here way = record here { incoming = with_way here.incoming way (released_line (of_way here.incoming way)) }
+released_here here way =
+    record here { incoming = with_way here.incoming way (released_line (of_way here.incoming way)) }
 
 -- a box releases the control of an incoming line
 abbrev pub release : BoxState → Way → Decision
-release here way = unless (release_refusal here.moment (of_way here.incoming way).ready_at) here (Here Released (released_here here way))
+release here way = unless (release_refusal here.moment (of_way here.incoming way).ready_at) here
+    (Here Released (released_here here way))

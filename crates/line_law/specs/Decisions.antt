@@ -15,32 +15,35 @@ pub record Told (Word : Type 0) : Type 0 where
   pub here : BoxState
   pub word : Word
 
--- A call is decided in its box alone, with this reply and this box after it; or on one bell, on one instrument or on one plain line: then reply, box and
--- word after it are a function of that word.
+-- A call is decided in its box alone, with this reply and this box after it; or on one bell, on one instrument or on
+-- one plain line: then reply, box and word after it are a function of that word.
 pub data Decision : Type 0 where
   Here : Reply → BoxState → Decision
   OnBell : (Bell → Told Bell) → Decision
   OnBlock : (Block → Told Block) → Decision
-  OnLine : (List Passage → Told (List Passage)) → Decision
+  OnPlainLine : (List Passage → Told (List Passage)) → Decision
 
 -- what a call on the bell of that way leaves in the pair
 abbrev pub bell_told : PairState → Way → Told Bell → Told PairState
-bell_told pair way told = record { reply = told.reply; here = told.here; word = record pair { bells = with_way pair.bells way told.word } }
+bell_told pair way told =
+    record { reply = told.reply; here = told.here; word = record pair { bells = with_way pair.bells way told.word } }
 
 -- what a call on the instrument of that way leaves in the pair
 abbrev pub block_told : PairState → Way → Told Block → Told PairState
-block_told pair way told = record { reply = told.reply; here = told.here; word = record pair { blocks = with_way pair.blocks way told.word } }
+block_told pair way told =
+    record { reply = told.reply; here = told.here; word = record pair { blocks = with_way pair.blocks way told.word } }
 
 -- what a call on the plain line of that way leaves in the pair
-abbrev pub line_told : PairState → Way → Told (List Passage) → Told PairState
-line_told pair way told = record { reply = told.reply; here = told.here; word = record pair { lines = with_way pair.lines way told.word } }
+abbrev pub plain_line_told : PairState → Way → Told (List Passage) → Told PairState
+plain_line_told pair way told =
+    record { reply = told.reply; here = told.here; word = record pair { lines = with_way pair.lines way told.word } }
 
 -- a decision about the word of that way, in the pair that has the word; all else in the pair stays
 abbrev pub on_pair : Way → Decision → PairState → Told PairState
 on_pair way (Here reply here) pair = record { reply = reply; here = here; word = pair }
 on_pair way (OnBell act) pair = bell_told pair way (act (of_way pair.bells way))
 on_pair way (OnBlock act) pair = block_told pair way (act (of_way pair.blocks way))
-on_pair way (OnLine act) pair = line_told pair way (act (of_way pair.lines way))
+on_pair way (OnPlainLine act) pair = plain_line_told pair way (act (of_way pair.lines way))
 
 -- refused in the box where there is a reason, with that reply; else as the rest says
 abbrev pub unless : Option Reply → BoxState → Decision → Decision

@@ -54,7 +54,8 @@ asked e = (e.box_no, e.call)
 abbrev pub opened : PlanFields → PlainState
 opened plan = record { line = opening_state plan; calls = 0 }
 
--- an entry's call was performed: it might be made, its reply and the line after it are the law's, and one call more is counted
+-- an entry's call was performed: it might be made, its reply and the line after it are the law's, and one call more is
+-- counted
 pub record Performs (plan : PlanFields) (old : PlainState) (e : Entry) (new : PlainState) : Type 0 where
   pub call : MayCall plan old.line e.box_no e.call
   pub told : step plan old.line e.box_no e.call ≡ record { reply = e.reply; after = new.line }

@@ -5,7 +5,9 @@ use Rattle.line_plan.specs.Frames.{berth_of, lever_of, signal_of}
 use Rattle.line_plan.specs.Plans.{PlanFields, box_at, is_train, train_at}
 use Rattle.line_plan.specs.Ways.{comes_in, has_neighbour, leaves}
 use Rattle.line_law.specs.declared.call.Act.{Act}
-use Rattle.line_law.specs.declared.call.Act.TheVariants.{Ring, Hear, AwaitBell, Turn, AwaitBlock, Pull, Put, Bring, Pass, Overrun, AwaitTrain, Berth, BerthPart, ClearPortion, Wind, Release}
+use Rattle.line_law.specs.declared.call.Act.TheVariants.{Ring, Hear, AwaitBell, Turn, AwaitBlock, Pull, Put, Bring}
+use Rattle.line_law.specs.declared.call.Act.TheVariants.{Pass, Overrun, AwaitTrain, Berth, BerthPart, ClearPortion}
+use Rattle.line_law.specs.declared.call.Act.TheVariants.{Wind, Release}
 use Rattle.line_law.specs.declared.call.Call.{Call}
 
 -- how many moments a day has: minutes in version 1, seconds in version 2
@@ -61,7 +63,8 @@ knows_act plan b (Release way) = knows_berth plan b way
 
 -- the plan knows a call of a box of the line where its conditions hold and its moment is one of a day
 unfoldable pub knows_call : PlanFields → ℕ → Call → Bool
-knows_call plan b call = nat_lt b (length plan.boxes) && nat_lt call.moment (moments_of plan.version) && knows_act plan b call.act
+knows_call plan b call =
+    nat_lt b (length plan.boxes) && nat_lt call.moment (moments_of plan.version) && knows_act plan b call.act
 
 -- the plan knows the call
 abbrev pub KnowsCall : PlanFields → ℕ → Call → Type 0

@@ -11,7 +11,8 @@ use Rattle.line_plan.specs.declared.frame.Kind.{Kind}
 use Rattle.line_plan.specs.declared.frame.Kind.TheVariants as kinds
 use Rattle.line_plan.specs.declared.signal.Signal.{Signal}
 use Rattle.line_law.specs.declared.call.Reply.{Reply}
-use Rattle.line_law.specs.declared.call.Reply.TheVariants.{Pulled, PulledUnder, AlreadyReversed, Spare, HeldByLever, HeldByTrack, HeldByInstrument, Put, AlreadyNormal}
+use Rattle.line_law.specs.declared.call.Reply.TheVariants.{Pulled, PulledUnder, AlreadyReversed, Spare, HeldByLever}
+use Rattle.line_law.specs.declared.call.Reply.TheVariants.{HeldByTrack, HeldByInstrument, Put, AlreadyNormal}
 use Rattle.line_law.specs.declared.link.Link.{Link}
 use Rattle.line_law.specs.declared.link.Link.TheVariants.{Out, In}
 use Rattle.line_law.specs.declared.state.Block.{Block}
@@ -19,7 +20,8 @@ use Rattle.line_law.specs.declared.state.BoxState.{BoxState}
 use Rattle.line_law.specs.declared.tracks.Standing.{Standing}
 use Rattle.line_law.specs.Decisions.{Told, Decision, Here, OnBlock, or_later, unless}
 use Rattle.line_law.specs.Instruments.{same_position}
-use Rattle.line_law.specs.Tracks.{first_standing, is_pulled}
+use Rattle.line_law.specs.LeverEnds.{is_pulled}
+use Rattle.line_law.specs.Tracks.{first_standing}
 
 -- ---- what keeps a lever where it stands
 
@@ -36,7 +38,8 @@ track_refusal (Some there) = Some (HeldByTrack there.place there.train)
 -- the first row that holds the lever, then the first occupied place that locks it
 abbrev pub lock_refusal : BoxFields → BoxState → ℕ → Option Reply
 lock_refusal box_plan here lever =
-    or_later (row_refusal (holder_of here.ends lever box_plan.rows)) (track_refusal (first_standing here.places (track_of box_plan lever)))
+    or_later (row_refusal (holder_of here.ends lever box_plan.rows))
+    (track_refusal (first_standing here.places (track_of box_plan lever)))
 
 -- ---- pull
 
@@ -52,12 +55,14 @@ spare_refusal (Some kinds.Spare) = Some Spare
 -- what a pull is refused for in the box
 abbrev pub pull_refusal : BoxFields → BoxState → ℕ → Option Reply
 pull_refusal box_plan here lever =
-    if is_pulled here.ends lever then Some AlreadyReversed else or_later (spare_refusal (kind_of box_plan lever)) (lock_refusal box_plan here lever)
+    if is_pulled here.ends lever then Some AlreadyReversed
+    else or_later (spare_refusal (kind_of box_plan lever)) (lock_refusal box_plan here lever)
 
 -- the box with the lever reversed, and its arm off if it has one
 abbrev pub pulled : BoxState → ℕ → Option Signal → BoxState
 pulled here lever None = record here { ends = slice_set here.ends (lever - 1) ends.Reversed }
-pulled here lever (Some signal) = record here { ends = slice_set here.ends (lever - 1) ends.Reversed; off = slice_set here.off (lever - 1) true }
+pulled here lever (Some signal) =
+    record here { ends = slice_set here.ends (lever - 1) ends.Reversed; off = slice_set here.off (lever - 1) true }
 
 -- the outgoing line into whose section a signal leads, if there is a signal and it is a starter
 abbrev pub starter_way : Option Signal → Option Way
@@ -73,7 +78,11 @@ abbrev pub pulled_under : BoxState → BoxState → Way → Block → Told Block
 pulled_under here after way block =
     if is_unspent_clear block
     then record { reply = PulledUnder block.turns; here = after; word = record block { spent = true } }
-    else record { reply = HeldByInstrument way block.turns block.position block.spent; here = here; word = record block { spent = true } }
+    else record {
+      reply = HeldByInstrument way block.turns block.position block.spent;
+      here = here;
+      word = record block { spent = true };
+    }
 
 -- a lever that nothing in the box holds is pulled: at once, or where it is a starter's under its instrument
 abbrev pub pull_at : BoxState → BoxState → Option Way → Decision
@@ -83,9 +92,11 @@ pull_at here after (Some way) = OnBlock (pulled_under here after way)
 -- a box pulls a lever
 abbrev pub pull : BoxFields → BoxState → ℕ → Decision
 pull box_plan here lever =
-    unless (pull_refusal box_plan here lever) here (pull_at here (pulled here lever (signal_of box_plan lever)) (starter_way (signal_of box_plan lever)))
+    unless (pull_refusal box_plan here lever) here
+    (pull_at here (pulled here lever (signal_of box_plan lever)) (starter_way (signal_of box_plan lever)))
 
--- the line of the word of a lever: a starter's outgoing line; a lever that is no starter's reaches no word, and stands at the incoming down line
+-- the line of the word of a lever: a starter's outgoing line; a lever that is no starter's reaches no word, and stands
+-- at the incoming down line
 abbrev pub starter_link : Option Way → Link
 starter_link None = In Down
 starter_link (Some way) = Out way
@@ -98,11 +109,15 @@ lever_link box_plan lever = starter_link (starter_way (signal_of box_plan lever)
 
 -- what putting a lever back is refused for
 abbrev pub put_refusal : BoxFields → BoxState → ℕ → Option Reply
-put_refusal box_plan here lever = if is_pulled here.ends lever then lock_refusal box_plan here lever else Some AlreadyNormal
+put_refusal box_plan here lever =
+    if is_pulled here.ends lever then lock_refusal box_plan here lever else Some AlreadyNormal
 
 -- the box with the lever normal and its arm at danger
 abbrev pub put_back : BoxState → ℕ → BoxState
-put_back here lever = record here { ends = slice_set here.ends (lever - 1) ends.Normal; off = slice_set here.off (lever - 1) false }
+put_back here lever = record here {
+  ends = slice_set here.ends (lever - 1) ends.Normal;
+  off = slice_set here.off (lever - 1) false;
+}
 
 -- a box puts a lever back
 abbrev pub put : BoxFields → BoxState → ℕ → Decision

@@ -1,5 +1,6 @@
 -- What every line of a plan keeps.
-use Rattle.std.specs.Prelude.{◌≡◌, ℕ, ◌+◌, ◌≤◌, ◌<◌, ◌⊎◌, List, [], ◌∷◌, true, Option, Some, None, All, IfSome, IsTrue, length}
+use Rattle.std.specs.Prelude.{◌≡◌, ℕ, ◌+◌, ◌≤◌, ◌<◌, ◌⊎◌, List, [], ◌∷◌, true, Option, Some, None, All, IfSome, IsTrue}
+use Rattle.std.specs.Prelude.{length}
 use Rattle.block_words.specs.declared.Way.{Way}
 use Rattle.locking_table.specs.Meaning.{RowHolds}
 use Rattle.locking_table.specs.Places.{at_ends}
@@ -17,21 +18,22 @@ use Rattle.line_law.specs.declared.state.Control.{Control}
 use Rattle.line_law.specs.declared.state.Control.TheVariants.{Absolute, Permissive}
 use Rattle.line_law.specs.declared.state.PairState.{PairState}
 use Rattle.line_law.specs.declared.state.Passage.{Passage}
-use Rattle.line_law.specs.Law.{plan_of}
+use Rattle.line_law.specs.Law.{box_plan_of}
 use Rattle.line_law.specs.Links.{pair_no}
 use Rattle.line_law.specs.States.{LineState, IsStateOf, box_at, pair_at}
-use Rattle.line_law.specs.Tracks.{is_off, is_pulled}
+use Rattle.line_law.specs.LeverEnds.{is_off, is_pulled}
 use Rattle.line_law.specs.Trains.{holds}
 use Rattle.line_law.specs.Ways.{of_way}
 
--- what a plain line in one hand is to its callers: its state, and how many calls were made
+-- what a line in one hand is to its callers: its state, and how many calls were made
 pub record PlainState : Type 0 where
   pub line : LineState
   pub calls : ℕ
 
 -- ---- a box
 
--- the control of a line is Welwyn control where the line is absolute, else a count of at most as many trains as the line may hold
+-- the control of a line is Welwyn control where the line is absolute, else a count of at most as many trains as the
+-- line may hold
 abbrev pub FitsLine : Option ℕ → Control → Type 0
 FitsLine None (Absolute state) = Unit {0}
 FitsLine None (Permissive out) = ⊥
@@ -54,8 +56,8 @@ pub record HasFrame (box_plan : BoxFields) (here : BoxState) : Type 0 where
   pub off : length here.off ≡ frame_size box_plan.levers
   pub places : length here.places ≡ length box_plan.places
 
--- a state of a box with this plan, of a line with these trains: it has the frame and the places; each train of the plan was brought or not; a train that stands at a
--- place is one of the plan; and each incoming line has its kind of control
+-- a state of a box with this plan, of a line with these trains: it has the frame and the places; each train of the plan
+-- was brought or not; a train that stands at a place is one of the plan; and each incoming line has its kind of control
 pub record IsBoxOf (trains : List TrainPlan) (box_plan : BoxFields) (here : BoxState) : Type 0 where
   pub frame : HasFrame box_plan here
   pub brought : length here.brought ≡ length trains
@@ -84,7 +86,8 @@ pub record IsBoxAfter (trains : List TrainPlan) (box_plan : BoxFields) (calls : 
 
 -- ---- a pair
 
--- what a pair keeps after so many calls on the line: no bell was rung and no instrument turned more often, and the trains on its plain lines are the plan's
+-- what a pair keeps after so many calls on the line: no bell was rung and no instrument turned more often, and the
+-- trains on its plain lines are the plan's
 pub record IsPairAfter (trains : List TrainPlan) (calls : ℕ) (pair : PairState) : Type 0 where
   pub bells : (way : Way) → (of_way pair.bells way).count ≤ calls
   pub blocks : (way : Way) → (of_way pair.blocks way).turns ≤ calls
@@ -92,7 +95,8 @@ pub record IsPairAfter (trains : List TrainPlan) (calls : ℕ) (pair : PairState
 
 -- ---- a section
 
--- the trains of a plain line have numbers that follow one another: the first is one more than the trains taken, the last the trains sent
+-- the trains of a plain line have numbers that follow one another: the first is one more than the trains taken, the
+-- last the trains sent
 abbrev pub AreNumbered : ℕ → ℕ → List Passage → Type 0
 AreNumbered taken sent [] = taken ≡ sent
 AreNumbered taken sent (passage ∷ line) = (passage.number ≡ taken + 1) × AreNumbered (taken + 1) sent line
@@ -107,10 +111,12 @@ IsFirst None line = Unit {0}
 IsFirst (Some train) [] = ⊥
 IsFirst (Some train) (passage ∷ line) = passage.train ≡ train
 
--- What a section keeps, by its rear box, its box in advance, and its bell, instrument and plain line. The rear box has counted the codes rung on the bell. The box in
--- advance has counted the turns of the instrument, and its commutator shows what that shows. The trains on the plain line have numbers that follow one another, and
--- are at most four; a left portion is that of the first of them.
-pub record IsSectionBetween (way : Way) (rear advance : BoxState) (bell : Bell) (block : Block) (line : List Passage) : Type 0 where
+-- What a section keeps, by its rear box, its box in advance, and its bell, instrument and plain line. The rear box has
+-- counted the codes rung on the bell. The box in advance has counted the turns of the instrument, and its commutator
+-- shows what that shows. The trains on the plain line have numbers that follow one another, and are at most four; a
+-- left portion is that of the first of them.
+pub record IsSectionBetween (way : Way) (rear advance : BoxState) (bell : Bell) (block : Block) (line : List Passage)
+    : Type 0 where
   pub rung : of_way rear.rung way ≡ bell.count
   pub turns : (of_way advance.incoming way).turns ≡ block.turns
   pub position : (of_way advance.incoming way).position ≡ block.position
@@ -123,19 +129,23 @@ abbrev pub pair_in : LineState → Section → PairState
 pair_in state section = pair_at state (pair_no section.rear (Out section.way))
 
 -- the plain line of a section
-abbrev pub line_of : LineState → Section → List Passage
-line_of state section = of_way (pair_in state section).lines section.way
+abbrev pub plain_line_of : LineState → Section → List Passage
+plain_line_of state section = of_way (pair_in state section).lines section.way
 
 -- the section keeps this in a state
 abbrev pub IsSectionIn : LineState → Section → Type 0
 IsSectionIn state section =
-    IsSectionBetween section.way (box_at state section.rear) (box_at state (advance_of section)) (of_way (pair_in state section).bells section.way) (of_way (pair_in state section).blocks section.way) (line_of state section)
+    IsSectionBetween section.way (box_at state section.rear) (box_at state (advance_of section))
+    (of_way (pair_in state section).bells section.way) (of_way (pair_in state section).blocks section.way)
+    (plain_line_of state section)
 
 -- ---- a line
 
--- a line of that plan: a state for each box and for each two neighbours; and what each box, each pair and each section keeps
+-- a line of that plan: a state for each box and for each two neighbours; and what each box, each pair and each section
+-- keeps
 pub record IsLineOf (plan : PlanFields) (plain : PlainState) : Type 0 where
   pub shape : IsStateOf plan plain.line
-  pub boxes : (b : ℕ) → b < length plan.boxes → IsBoxAfter plan.trains (plan_of plan b) plain.calls (box_at plain.line b)
+  pub boxes : (b : ℕ) → b < length plan.boxes
+      → IsBoxAfter plan.trains (box_plan_of plan b) plain.calls (box_at plain.line b)
   pub pairs : (p : ℕ) → IsPairAfter plan.trains plain.calls (pair_at plain.line p)
   pub sections : (section : Section) → IsSection plan section → IsSectionIn plain.line section

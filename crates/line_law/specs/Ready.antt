@@ -19,11 +19,14 @@ use Rattle.line_law.specs.Ways.{of_way}
 abbrev pub FitsHere : PlanFields → BoxFields → Act → Type 0
 FitsHere plan box_plan (Pull lever) = IsLever (frame_size box_plan.levers) lever
 FitsHere plan box_plan (Put lever) = IsLever (frame_size box_plan.levers) lever
-FitsHere plan box_plan (Bring train) = IsTrue (is_train plan.trains train) × ((train_at plan.trains train).place < length box_plan.places)
+FitsHere plan box_plan (Bring train) =
+    IsTrue (is_train plan.trains train) × ((train_at plan.trains train).place < length box_plan.places)
 FitsHere plan box_plan act = Unit {0}
 
--- the box and the pair are of the plan, no count is as great as 2^32, and the section that a train may enter has room or holds the train four before
-pub record IsReady (plan : PlanFields) (box_plan : BoxFields) (call : Call) (here : BoxState) (pair : PairState) : Type 0 where
+-- the box and the pair are of the plan, no count is as great as 2^32, and the section that a train may enter has room
+-- or holds the train four before
+pub record IsReady (plan : PlanFields) (box_plan : BoxFields) (call : Call) (here : BoxState) (pair : PairState)
+    : Type 0 where
   pub sound : IsSound box_plan
   pub shape : IsBoxOf plan.trains box_plan here
   pub act : FitsHere plan box_plan call.act

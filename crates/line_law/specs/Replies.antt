@@ -7,7 +7,16 @@ use Rattle.block_words.specs.declared.Way.TheVariants.{Up, Down}
 use Rattle.block_words.specs.declared.WelwynState.{WelwynState}
 use Rattle.block_words.specs.declared.WelwynState.TheVariants as welwyn
 use Rattle.line_law.specs.declared.call.Reply.{Reply}
-use Rattle.line_law.specs.declared.call.Reply.TheVariants.{Rung, BellBusy, Heard, Silent, BellNotYet, Turned, AlreadyThere, NotFromNormal, HomeReversed, TrackOccupied, WelwynHolds, CountFull, Seen, BlockNotYet, Pulled, PulledUnder, AlreadyReversed, Spare, HeldByLever, HeldByTrack, HeldByInstrument, Put, AlreadyNormal, Brought, AlreadyBrought, Occupied, Passed, Entered, NoTrain, AtDanger, ArmOff, SectionFull, Approaching, TrainNotYet, Berthed, PartBerthed, NoTrainAt, BerthOccupied, PortionAhead, Cleared, NoPortion, Winding, AlreadyWinding, NotAtNormal, Released, NotWinding, TooSoon}
+use Rattle.line_law.specs.declared.call.Reply.TheVariants.{Rung, BellBusy, Heard, Silent, BellNotYet, Turned}
+use Rattle.line_law.specs.declared.call.Reply.TheVariants.{AlreadyThere, NotFromNormal, HomeReversed, TrackOccupied}
+use Rattle.line_law.specs.declared.call.Reply.TheVariants.{WelwynHolds, CountFull, Seen, BlockNotYet, Pulled}
+use Rattle.line_law.specs.declared.call.Reply.TheVariants.{PulledUnder, AlreadyReversed, Spare, HeldByLever}
+use Rattle.line_law.specs.declared.call.Reply.TheVariants.{HeldByTrack, HeldByInstrument, Put, AlreadyNormal, Brought}
+use Rattle.line_law.specs.declared.call.Reply.TheVariants.{AlreadyBrought, Occupied, Passed, Entered, NoTrain, AtDanger}
+use Rattle.line_law.specs.declared.call.Reply.TheVariants.{ArmOff, SectionFull, Approaching, TrainNotYet, Berthed}
+use Rattle.line_law.specs.declared.call.Reply.TheVariants.{PartBerthed, NoTrainAt, BerthOccupied, PortionAhead, Cleared}
+use Rattle.line_law.specs.declared.call.Reply.TheVariants.{NoPortion, Winding, AlreadyWinding, NotAtNormal, Released}
+use Rattle.line_law.specs.declared.call.Reply.TheVariants.{NotWinding, TooSoon}
 
 -- the number of a Welwyn state
 abbrev pub welwyn_number : WelwynState → ℕ
@@ -132,4 +141,5 @@ numbers_told (TooSoon ready_at) = ready_at ∷ 0 ∷ 0 ∷ 0 ∷ []
 
 -- two replies are the same
 abbrev pub same_reply : Reply → Reply → Bool
-same_reply reply other = (reply_no reply == reply_no other) && pointwise nat_eq (numbers_told reply) (numbers_told other)
+same_reply reply other =
+    (reply_no reply == reply_no other) && pointwise nat_eq (numbers_told reply) (numbers_told other)

@@ -12,9 +12,9 @@ use Rattle.line_law.specs.declared.call.Entry.{Entry}
 use Rattle.line_law.specs.declared.call.Reply.{Reply}
 use Rattle.line_law.specs.declared.call.Reply.TheVariants as replies
 use Rattle.line_law.specs.declared.state.BoxState.{BoxState}
-use Rattle.line_law.specs.Law.{plan_of}
+use Rattle.line_law.specs.Law.{box_plan_of}
 use Rattle.line_law.specs.Levers.{starter_way}
-use Rattle.line_law.specs.Lines.{line_of}
+use Rattle.line_law.specs.Lines.{plain_line_of}
 use Rattle.line_law.specs.States.{LineState, box_at}
 use Rattle.line_law.specs.Tracks.{train_on}
 
@@ -30,15 +30,18 @@ abbrev pub berth_count : Option Berth → BoxState → ℕ
 berth_count None advance = 0
 berth_count (Some berth) advance = count_of (train_on advance.places berth.place)
 
--- how many trains a section holds: those on its plain line, and the one in its berth; a left portion stands on the plain line and so counts beside its berth
+-- how many trains a section holds: those on its plain line, and the one in its berth; a left portion stands on the
+-- plain line and so counts beside its berth
 abbrev pub held_by : PlanFields → LineState → Section → ℕ
-held_by plan state section = length (line_of state section) + berth_count (section_berth plan section) (box_at state (advance_of section))
+held_by plan state section =
+    length (plain_line_of state section) + berth_count (section_berth plan section) (box_at state (advance_of section))
 
 -- ---- clean histories
 
 -- an overrun of the starter of the section
 abbrev pub is_overrun : PlanFields → Section → Act → Bool
-is_overrun plan section (acts.Overrun lever) = is_way section.way (starter_way (signal_of (plan_of plan section.rear) lever))
+is_overrun plan section (acts.Overrun lever) =
+    is_way section.way (starter_way (signal_of (box_plan_of plan section.rear) lever))
 is_overrun plan section act = false
 
 -- a train comes into the section's berth in part
@@ -63,11 +66,14 @@ abbrev pub is_released : Reply → Bool
 is_released replies.Released = true
 is_released reply = false
 
--- an entry that makes a history unclean for a section: a train overran its starter into it, came into its berth in part, or its line was released
+-- an entry that makes a history unclean for a section: a train overran its starter into it, came into its berth in
+-- part, or its line was released
 abbrev pub spoils : PlanFields → Section → Entry → Bool
 spoils plan section e =
     ((e.box_no == section.rear) && (is_overrun plan section e.call.act && is_entered e.reply))
-    || ((e.box_no == advance_of section) && ((is_parting section e.call.act && is_part_berthed e.reply) || (is_releasing section e.call.act && is_released e.reply)))
+    || ((e.box_no == advance_of section)
+    && ((is_parting section e.call.act && is_part_berthed e.reply)
+    || (is_releasing section e.call.act && is_released e.reply)))
 
 -- a history that is clean for a section
 abbrev pub IsClean : PlanFields → Section → List Entry → Type 0

@@ -1,5 +1,6 @@
 -- The order on one thread.
-use Rattle.std.specs.Prelude.{◌≡◌, ◌≤◌, ℕ, ◌+◌, zero, suc, Bool, true, false, List, [], ◌∷◌, Option, Some, None, length, sum_by, slice_index_or, slice_set, if◌then◌else◌}
+use Rattle.std.specs.Prelude.{◌≡◌, ◌≤◌, ℕ, ◌+◌, zero, suc, Bool, true, false, List, [], ◌∷◌, Option, Some, None, length}
+use Rattle.std.specs.Prelude.{sum_by, slice_index_or, slice_set, if◌then◌else◌}
 use Rattle.line_plan.specs.Plans.{PlanFields}
 use Rattle.line_law.specs.declared.call.Call.{Call}
 use Rattle.line_law.specs.declared.call.Entry.{Entry}
@@ -28,7 +29,8 @@ may_go plan state b (call ∷ calls) = if is_not_yet (step plan state b call).re
 -- the lowest box, of those from b on with these calls left, that has a call left and isn't stopped
 abbrev pub first_free : PlanFields → LineState → ℕ → List (List Call) → Option ℕ
 first_free plan state b [] = None
-first_free plan state b (calls ∷ left) = if may_go plan state b calls then Some b else first_free plan state (b + 1) left
+first_free plan state b (calls ∷ left) =
+    if may_go plan state b calls then Some b else first_free plan state (b + 1) left
 
 -- the lowest box, of those from b on, that has a call left
 abbrev pub first_waiting : ℕ → List (List Call) → Option ℕ
@@ -46,20 +48,24 @@ abbrev pub next_box : PlanFields → LineState → List (List Call) → Option �
 next_box plan state left = or_else (first_free plan state 0 left) (first_waiting 0 left)
 
 -- the next call of box b, if it has one, and then the rest
-abbrev pub call_next : PlanFields → (LineState → List (List Call) → List Entry) → LineState → List (List Call) → ℕ → List Call → List Entry
+abbrev pub call_next : PlanFields → (LineState → List (List Call) → List Entry) → LineState → List (List Call) → ℕ
+    → List Call → List Entry
 call_next plan rest state left b [] = []
 call_next plan rest state left b (call ∷ calls) =
-    record { box_no = b; call = call; reply = (step plan state b call).reply } ∷ rest (step plan state b call).after (slice_set left b calls)
+    record { box_no = b; call = call; reply = (step plan state b call).reply }
+    ∷ rest (step plan state b call).after (slice_set left b calls)
 
 -- the next call of the box that is chosen, and then the rest
-abbrev pub go_on : PlanFields → (LineState → List (List Call) → List Entry) → LineState → List (List Call) → Option ℕ → List Entry
+abbrev pub go_on : PlanFields → (LineState → List (List Call) → List Entry) → LineState → List (List Call) → Option ℕ
+    → List Entry
 go_on plan rest state left None = []
 go_on plan rest state left (Some b) = call_next plan rest state left b (calls_left left b)
 
 -- the first n calls from a state on, with these calls left
 unfoldable pub serial_from : PlanFields → ℕ → LineState → List (List Call) → List Entry
 serial_from plan zero state left = []
-serial_from plan (suc n) state left = go_on plan (λ after rest. serial_from plan n after rest) state left (next_box plan state left)
+serial_from plan (suc n) state left =
+    go_on plan (λ after rest. serial_from plan n after rest) state left (next_box plan state left)
 
 -- how many calls are left
 abbrev pub count_left : List (List Call) → ℕ
@@ -74,7 +80,8 @@ serial_journal plan scripts = serial_from plan (count_left scripts) (opening_sta
 -- calls that box b may make in turn from a moment on: the plan knows each, and the moments don't fall
 abbrev pub AreCalls : PlanFields → ℕ → ℕ → List Call → Type 0
 AreCalls plan b moment [] = Unit {0}
-AreCalls plan b moment (call ∷ calls) = KnowsCall plan b call × (moment ≤ call.moment) × AreCalls plan b call.moment calls
+AreCalls plan b moment (call ∷ calls) =
+    KnowsCall plan b call × (moment ≤ call.moment) × AreCalls plan b call.moment calls
 
 -- the calls that each box of a line has left are calls that it may make in turn
 pub record AreLeft (plan : PlanFields) (state : LineState) (left : List (List Call)) : Type 0 where

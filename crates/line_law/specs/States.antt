@@ -38,9 +38,17 @@ opening_control (Some berth) = control_of berth.permissive
 
 -- an incoming line begins with its commutator at Normal and not turned, no winding, no train taken and no portion
 abbrev pub opening_line : Option Berth → Incoming
-opening_line berth = record { position = shows.Normal; turns = 0; control = opening_control berth; ready_at = None; taken = 0; portion = None }
+opening_line berth = record {
+  position = shows.Normal;
+  turns = 0;
+  control = opening_control berth;
+  ready_at = None;
+  taken = 0;
+  portion = None;
+}
 
--- a box begins with all levers normal, all arms at danger, all places empty, no train brought, all counts 0 and the last moment 0
+-- a box begins with all levers normal, all arms at danger, all places empty, no train brought, all counts 0 and the
+-- last moment 0
 abbrev pub opening_box : ℕ → BoxFields → BoxState
 opening_box trains box_plan =
     record {

@@ -1,4 +1,5 @@
--- What a reply tells is there: its codes, places, trains, levers and rows are the plan's, and its counts and moments in range.
+-- What a reply tells is there: its codes, places, trains, levers and rows are the plan's, and its counts and moments in
+-- range.
 use Rattle.std.specs.Prelude.{ℕ, ◌+◌, ◌<◌, ◌≤◌, IfSome, IsTrue, length}
 use Rattle.block_words.specs.declared.WelwynState.{WelwynState}
 use Rattle.block_words.specs.declared.WelwynState.TheVariants as welwyn
@@ -6,7 +7,7 @@ use Rattle.line_plan.specs.Plans.{PlanFields, is_train}
 use Rattle.line_law.specs.declared.call.Reply.{Reply}
 use Rattle.line_law.specs.declared.call.Reply.TheVariants as replies
 use Rattle.line_law.specs.Known.{is_code_no, knows_lever, moments_of}
-use Rattle.line_law.specs.Law.{plan_of}
+use Rattle.line_law.specs.Law.{box_plan_of}
 
 -- a code of the plan's code table
 abbrev pub IsCode : PlanFields → ℕ → Type 0
@@ -18,7 +19,7 @@ IsOne plan train = IsTrue (is_train plan.trains train)
 
 -- a place of box b, with a train of the plan
 abbrev pub IsStand : PlanFields → ℕ → ℕ → ℕ → Type 0
-IsStand plan b place train = (place < length (plan_of plan b).places) × IsOne plan train
+IsStand plan b place train = (place < length (box_plan_of plan b).places) × IsOne plan train
 
 -- a lever of the frame of box b
 abbrev pub HasLever : PlanFields → ℕ → ℕ → Type 0
@@ -26,7 +27,7 @@ HasLever plan b lever = IsTrue (knows_lever plan b lever)
 
 -- a row of the locking table of box b; rows are numbered from 1
 abbrev pub HasRow : PlanFields → ℕ → ℕ → Type 0
-HasRow plan b row = (1 ≤ row) × (row ≤ length (plan_of plan b).rows)
+HasRow plan b row = (1 ≤ row) × (row ≤ length (box_plan_of plan b).rows)
 
 -- a Welwyn state other than Ready holds the commutator
 abbrev pub HoldsBack : WelwynState → Type 0

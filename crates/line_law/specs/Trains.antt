@@ -1,5 +1,6 @@
 -- The moves of trains in a box, and into a section.
-use Rattle.std.specs.Prelude.{ℕ, ◌+◌, ◌-◌, List, [], ◌∷◌, ◌++◌, Option, Some, None, Bool, true, false, ◌==◌, if◌then◌else◌, slice_set, slice_index_or}
+use Rattle.std.specs.Prelude.{ℕ, ◌+◌, ◌-◌, List, [], ◌∷◌, ◌++◌, Option, Some, None, Bool, true, false, ◌==◌}
+use Rattle.std.specs.Prelude.{if◌then◌else◌, slice_set, slice_index_or}
 use Rattle.std.specs.List.{list_any}
 use Rattle.block_words.specs.declared.Way.{Way}
 use Rattle.line_plan.specs.Frames.{BoxFields, signal_of}
@@ -8,14 +9,16 @@ use Rattle.line_plan.specs.declared.signal.Signal.{Signal}
 use Rattle.line_plan.specs.declared.signal.To.{To}
 use Rattle.line_plan.specs.declared.signal.To.TheVariants as leads
 use Rattle.line_law.specs.declared.call.Reply.{Reply}
-use Rattle.line_law.specs.declared.call.Reply.TheVariants.{Brought, AlreadyBrought, Occupied, Passed, Entered, NoTrain, AtDanger, ArmOff, SectionFull}
+use Rattle.line_law.specs.declared.call.Reply.TheVariants.{Brought, AlreadyBrought, Occupied, Passed, Entered, NoTrain}
+use Rattle.line_law.specs.declared.call.Reply.TheVariants.{AtDanger, ArmOff, SectionFull}
 use Rattle.line_law.specs.declared.state.BoxState.{BoxState}
 use Rattle.line_law.specs.declared.state.Incoming.{Incoming}
 use Rattle.line_law.specs.declared.state.Passage.{Passage}
 use Rattle.line_law.specs.declared.tracks.Standing.{Standing}
 use Rattle.line_law.specs.Controls.{left_control}
-use Rattle.line_law.specs.Decisions.{Told, Decision, Here, OnLine, or_later, unless}
-use Rattle.line_law.specs.Tracks.{first_standing, is_off, train_on}
+use Rattle.line_law.specs.Decisions.{Told, Decision, Here, OnPlainLine, or_later, unless}
+use Rattle.line_law.specs.LeverEnds.{is_off}
+use Rattle.line_law.specs.Tracks.{first_standing, train_on}
 use Rattle.line_law.specs.Ways.{of_way, with_way}
 
 -- ---- bring
@@ -26,7 +29,8 @@ was_brought brought train = slice_index_or brought (train - 1) false
 
 -- the box with the train at its place
 abbrev pub brought_here : BoxState → ℕ → ℕ → BoxState
-brought_here here train place = record here { places = slice_set here.places place (Some train); brought = slice_set here.brought (train - 1) true }
+brought_here here train place =
+    record here { places = slice_set here.places place (Some train); brought = slice_set here.brought (train - 1) true }
 
 -- refused where a train stands at the place
 abbrev pub place_refusal : ℕ → Option ℕ → Option Reply
@@ -35,7 +39,8 @@ place_refusal place (Some there) = Some (Occupied place there)
 
 -- what bringing a train is refused for: it was brought before, or a train stands at its place
 abbrev pub bring_refusal : BoxState → ℕ → ℕ → Option Reply
-bring_refusal here train place = if was_brought here.brought train then Some AlreadyBrought else place_refusal place (train_on here.places place)
+bring_refusal here train place =
+    if was_brought here.brought train then Some AlreadyBrought else place_refusal place (train_on here.places place)
 
 -- a train is brought to its own place
 abbrev pub bring : BoxState → ℕ → ℕ → Decision
@@ -66,7 +71,9 @@ standing_refusal (Some there) = Some (Occupied there.place there.train)
 
 -- the first occupied of the places run over, and then the place to which the signal leads
 abbrev pub way_refusal : BoxState → Signal → Option Reply
-way_refusal here signal = or_later (standing_refusal (first_standing here.places signal.over)) (standing_refusal (first_standing here.places (end_of signal.to)))
+way_refusal here signal =
+    or_later (standing_refusal (first_standing here.places signal.over))
+    (standing_refusal (first_standing here.places (end_of signal.to)))
 
 -- what passing the signal is refused for in the box
 abbrev pub pass_refusal : BoxState → Signal → Option Reply
@@ -85,7 +92,8 @@ is_berth_at (Some berth) place = berth.place == place
 
 -- an incoming line after a train has left a place: where that is its berth, its control is told
 abbrev pub line_left : Option Berth → ℕ → Incoming → Incoming
-line_left berth place line = if is_berth_at berth place then record line { control = left_control line.control } else line
+line_left berth place line =
+    if is_berth_at berth place then record line { control = left_control line.control } else line
 
 -- the box after the train has left the signal's place, with the signal's arm at danger
 abbrev pub left_by : BoxFields → BoxState → Signal → BoxState
@@ -125,7 +133,7 @@ put_at left place train = record left { places = slice_set left.places place (So
 -- a train that has left goes where the signal leads
 abbrev pub go : BoxState → BoxState → ℕ → To → Decision
 go here left train (leads.Place place) = Here (Passed train) (put_at left place train)
-go here left train (leads.Section way) = OnLine (enter here left way train)
+go here left train (leads.Section way) = OnPlainLine (enter here left way train)
 go here left train leads.Away = Here (Passed train) left
 
 -- a train goes, by the train at the signal's place and by what it is refused for
@@ -139,7 +147,8 @@ move (Some train) None box_plan here signal = go here (left_by box_plan here sig
 -- a train passes a signal; a lever without one is known to no plan
 abbrev pub pass_signal : Option Signal → BoxFields → BoxState → Decision
 pass_signal None box_plan here = Here NoTrain here
-pass_signal (Some signal) box_plan here = move (train_on here.places signal.from) (pass_refusal here signal) box_plan here signal
+pass_signal (Some signal) box_plan here =
+    move (train_on here.places signal.from) (pass_refusal here signal) box_plan here signal
 
 -- a train passes the signal of a lever
 abbrev pub pass : BoxFields → BoxState → ℕ → Decision
@@ -148,7 +157,8 @@ pass box_plan here lever = pass_signal (signal_of box_plan lever) box_plan here
 -- a train overruns a signal; a lever without one is known to no plan
 abbrev pub overrun_signal : Option Signal → BoxFields → BoxState → Decision
 overrun_signal None box_plan here = Here NoTrain here
-overrun_signal (Some signal) box_plan here = move (train_on here.places signal.from) (overrun_refusal here signal) box_plan here signal
+overrun_signal (Some signal) box_plan here =
+    move (train_on here.places signal.from) (overrun_refusal here signal) box_plan here signal
 
 -- a train overruns the signal of a lever
 abbrev pub overrun : BoxFields → BoxState → ℕ → Decision

@@ -5,9 +5,9 @@ ghost use Rattle.block_words.specs.declared.Way.{Way};
 ghost use Rattle.locking_table.specs.Places.{IsLever};
 ghost use Rattle.line_plan.specs.Frames.{frame_size};
 ghost use Rattle.line_law.specs.Arrivals.{await_train, berth as berth_whole, berth_part, clear_portion};
-ghost use Rattle.line_law.specs.Decisions.{OnLine, on_pair};
+ghost use Rattle.line_law.specs.Decisions.{OnPlainLine, on_pair};
 ghost use Rattle.line_law.specs.Instruments.{turn};
-ghost use Rattle.line_law.specs.Law.{at_moment, pair_of, plan_of, step, step_at};
+ghost use Rattle.line_law.specs.Law.{at_moment, pair_of, box_plan_of, step, step_at};
 ghost use Rattle.line_law.specs.Levers.{lever_link, pull, put, starter_link, starter_way};
 ghost use Rattle.line_law.specs.Lines.{HasFrame};
 ghost use Rattle.line_law.specs.Links.{way_of};
@@ -29,7 +29,7 @@ use line_plan::{Berth, BoxPlan, Plan, Signal, To};
 
 impl PairState {
     /// The plain line of a way.
-    pub fn line(&self, way: Way) -> &PlainLine
+    pub fn plain_line(&self, way: Way) -> &PlainLine
         ensures { result.now ≡ of_way self.now.lines way }
     {
         match way {
@@ -44,7 +44,8 @@ impl BoxState {
     fn turn_reply(&self, pair: &PairState, berth: &Berth, way: Way, position: Position) -> Reply
         requires berth { BerthFits (length self.now.ends) (length self.now.places) berth.now }
         requires few { (way : Way) → (of_way pair.now.blocks way).turns < 2 ^ 32 }
-        ensures { (moment : ℕ) → (on_pair way (turn (Some berth.now) (at_moment self.now moment) way position) pair.now).reply ≡ result }
+        ensures { (moment : ℕ) → (on_pair way (turn (Some berth.now) (at_moment self.now moment) way position)
+            pair.now).reply ≡ result }
     {
         if let Some(reply) = self.turn_refusal(berth, way, position) {
             return reply;
@@ -59,7 +60,8 @@ impl BoxState {
         requires sound { IsSound plan.now }
         requires frame { HasFrame plan.now self.now }
         requires lever { IsLever (frame_size plan.now.levers) lever }
-        ensures { (moment : ℕ) → (on_pair (way_of (lever_link plan.now lever)) (pull plan.now (at_moment self.now moment) lever) pair.now).reply ≡ result }
+        ensures { (moment : ℕ) → (on_pair (way_of (lever_link plan.now lever))
+            (pull plan.now (at_moment self.now moment) lever) pair.now).reply ≡ result }
     {
         if let Some(reply) = self.pull_refusal(plan, lever) {
             return reply;
@@ -75,7 +77,8 @@ impl BoxState {
         requires sound { IsSound plan.now }
         requires frame { HasFrame plan.now self.now }
         requires lever { IsLever (frame_size plan.now.levers) lever }
-        ensures { (moment : ℕ) (way : Way) (pair : PairState) → (on_pair way (put plan.now (at_moment self.now moment) lever) pair).reply ≡ result }
+        ensures { (moment : ℕ) (way : Way) (pair : PairState)
+            → (on_pair way (put plan.now (at_moment self.now moment) lever) pair).reply ≡ result }
     {
         if let Some(reply) = self.put_refusal(plan, lever) {
             return reply;
@@ -93,7 +96,8 @@ impl BoxState {
         train: u32,
     ) -> Reply
         requires { of_way self.now.sent way < 2 ^ 32 }
-        ensures { (moment : ℕ) → (enter (at_moment self.now moment) (left_by plan.now (at_moment self.now moment) signal.now) way train line.now).reply ≡ result }
+        ensures { (moment : ℕ) → (enter (at_moment self.now moment)
+            (left_by plan.now (at_moment self.now moment) signal.now) way train line.now).reply ≡ result }
     {
         let k = self.sent.get(way) + 1;
         if line.holds(k) {
@@ -105,11 +109,13 @@ impl BoxState {
     // What a train is answered that goes where a signal leads.
     fn go_reply(&self, pair: &PairState, plan: &BoxPlan, signal: &Signal, train: u32) -> Reply
         requires { (way : Way) → of_way self.now.sent way < 2 ^ 32 }
-        ensures { (moment : ℕ) → (on_pair (way_of (starter_link (starter_way (Some signal.now)))) (go (at_moment self.now moment) (left_by plan.now (at_moment self.now moment) signal.now) train signal.now.to) pair.now).reply ≡ result }
+        ensures { (moment : ℕ) → (on_pair (way_of (starter_link (starter_way (Some signal.now))))
+            (go (at_moment self.now moment) (left_by plan.now (at_moment self.now moment) signal.now) train
+            signal.now.to) pair.now).reply ≡ result }
     {
         match signal.to {
             To::Place(_) | To::Away => Reply::Passed { train },
-            To::Section(way) => self.enter_reply(pair.line(way), plan, signal, way, train),
+            To::Section(way) => self.enter_reply(pair.plain_line(way), plan, signal, way, train),
         }
     }
 
@@ -118,7 +124,8 @@ impl BoxState {
         requires signal { SignalFits (length self.now.ends) (length self.now.places) signal.now }
         requires arms { length self.now.off ≡ length self.now.ends }
         requires few { (way : Way) → of_way self.now.sent way < 2 ^ 32 }
-        ensures { (moment : ℕ) → (on_pair (way_of (starter_link (starter_way (Some signal.now)))) (pass_signal (Some signal.now) plan.now (at_moment self.now moment)) pair.now).reply ≡ result }
+        ensures { (moment : ℕ) → (on_pair (way_of (starter_link (starter_way (Some signal.now))))
+            (pass_signal (Some signal.now) plan.now (at_moment self.now moment)) pair.now).reply ≡ result }
     {
         let Some(train) = train_on(self.places.as_slice(), signal.from) else {
             return Reply::NoTrain;
@@ -134,7 +141,8 @@ impl BoxState {
         requires signal { SignalFits (length self.now.ends) (length self.now.places) signal.now }
         requires arms { length self.now.off ≡ length self.now.ends }
         requires few { (way : Way) → of_way self.now.sent way < 2 ^ 32 }
-        ensures { (moment : ℕ) → (on_pair (way_of (starter_link (starter_way (Some signal.now)))) (overrun_signal (Some signal.now) plan.now (at_moment self.now moment)) pair.now).reply ≡ result }
+        ensures { (moment : ℕ) → (on_pair (way_of (starter_link (starter_way (Some signal.now))))
+            (overrun_signal (Some signal.now) plan.now (at_moment self.now moment)) pair.now).reply ≡ result }
     {
         let Some(train) = train_on(self.places.as_slice(), signal.from) else {
             return Reply::NoTrain;
@@ -150,7 +158,8 @@ impl BoxState {
         requires sound { IsSound plan.now }
         requires frame { HasFrame plan.now self.now }
         requires few { (way : Way) → of_way self.now.sent way < 2 ^ 32 }
-        ensures { (moment : ℕ) → (on_pair (way_of (lever_link plan.now lever)) (pass plan.now (at_moment self.now moment) lever) pair.now).reply ≡ result }
+        ensures { (moment : ℕ) → (on_pair (way_of (lever_link plan.now lever))
+            (pass plan.now (at_moment self.now moment) lever) pair.now).reply ≡ result }
     {
         match plan.signal(lever) {
             Some(signal) => self.pass_reply(pair, plan, signal),
@@ -163,7 +172,8 @@ impl BoxState {
         requires sound { IsSound plan.now }
         requires frame { HasFrame plan.now self.now }
         requires few { (way : Way) → of_way self.now.sent way < 2 ^ 32 }
-        ensures { (moment : ℕ) → (on_pair (way_of (lever_link plan.now lever)) (overrun plan.now (at_moment self.now moment) lever) pair.now).reply ≡ result }
+        ensures { (moment : ℕ) → (on_pair (way_of (lever_link plan.now lever))
+            (overrun plan.now (at_moment self.now moment) lever) pair.now).reply ≡ result }
     {
         match plan.signal(lever) {
             Some(signal) => self.overrun_reply(pair, plan, signal),
@@ -174,10 +184,11 @@ impl BoxState {
     // What a look for the next train is answered.
     fn train_reply(&self, pair: &PairState, way: Way) -> Reply
         requires few { (way : Way) → (of_way self.now.incoming way).taken < 2 ^ 32 }
-        ensures { (moment : ℕ) → (on_pair way (OnLine (await_train (at_moment self.now moment) way)) pair.now).reply ≡ result }
+        ensures { (moment : ℕ)
+            → (on_pair way (OnPlainLine (await_train (at_moment self.now moment) way)) pair.now).reply ≡ result }
     {
         let j = self.next_number(way);
-        match pair.line(way).first_train(j) {
+        match pair.plain_line(way).first_train(j) {
             Some(train) => Reply::Approaching { j, train },
             None => Reply::TrainNotYet { j },
         }
@@ -187,13 +198,14 @@ impl BoxState {
     fn berth_reply(&self, pair: &PairState, berth: &Berth, way: Way) -> Reply
         requires place { berth.now.place < length self.now.places }
         requires few { (way : Way) → (of_way self.now.incoming way).taken < 2 ^ 32 }
-        ensures { (moment : ℕ) → (on_pair way (berth_whole (Some berth.now) (at_moment self.now moment) way) pair.now).reply ≡ result }
+        ensures { (moment : ℕ) → (on_pair way (berth_whole (Some berth.now) (at_moment self.now moment) way)
+            pair.now).reply ≡ result }
     {
         if let Some(reply) = self.berth_refusal(way, berth) {
             return reply;
         }
         let j = self.next_number(way);
-        match pair.line(way).first_train(j) {
+        match pair.plain_line(way).first_train(j) {
             Some(train) => Reply::Berthed { j, train },
             None => Reply::NoTrainAt { j },
         }
@@ -203,13 +215,14 @@ impl BoxState {
     fn part_reply(&self, pair: &PairState, berth: &Berth, way: Way) -> Reply
         requires place { berth.now.place < length self.now.places }
         requires few { (way : Way) → (of_way self.now.incoming way).taken < 2 ^ 32 }
-        ensures { (moment : ℕ) → (on_pair way (berth_part (Some berth.now) (at_moment self.now moment) way) pair.now).reply ≡ result }
+        ensures { (moment : ℕ) → (on_pair way (berth_part (Some berth.now) (at_moment self.now moment) way)
+            pair.now).reply ≡ result }
     {
         if let Some(reply) = self.berth_refusal(way, berth) {
             return reply;
         }
         let j = self.next_number(way);
-        match pair.line(way).first_train(j) {
+        match pair.plain_line(way).first_train(j) {
             Some(train) => Reply::PartBerthed { j, train },
             None => Reply::NoTrainAt { j },
         }
@@ -224,7 +237,7 @@ impl BoxState {
             return Reply::NoPortion;
         }
         let j = self.next_number(way);
-        match pair.line(way).first_train(j) {
+        match pair.plain_line(way).first_train(j) {
             Some(train) => Reply::Cleared { j, train },
             None => Reply::NoTrainAt { j },
         }
@@ -296,7 +309,9 @@ pub fn answer_on(
     requires plan_box { box_no < length plan.now.boxes }
     requires here { box_no < length boxes.now }
     requires pair { pair_of plan.now box_no call.now < length pairs.now }
-    requires ready { IsReady plan.now (plan_of plan.now box_no) call.now (box_at (record { boxes = boxes.now; pairs = pairs.now }) box_no) (pair_at (record { boxes = boxes.now; pairs = pairs.now }) (pair_of plan.now box_no call.now)) }
+    requires ready { IsReady plan.now (box_plan_of plan.now box_no) call.now
+        (box_at (record { boxes = boxes.now; pairs = pairs.now }) box_no)
+        (pair_at (record { boxes = boxes.now; pairs = pairs.now }) (pair_of plan.now box_no call.now)) }
     ensures { result ≡ (step plan.now (record { boxes = boxes.now; pairs = pairs.now }) box_no call.now).reply }
 {
     let at = box_no as usize;

@@ -2,8 +2,10 @@
 
 ghost use Rattle.std.specs.Prelude.{◌≡◌, ◌<◌, ◌^◌, ◌+◌, ◌∷◌, Some, IsSome, length, drop};
 ghost use Rattle.block_words.specs.declared.Way.{Way};
-ghost use Rattle.line_law.specs.Arrivals.{await_train, berth as berth_whole, berth_part, berth_refusal, berthed, clear_portion, clear_portion_refusal, cleared, first_train, next_number, next_train, parted};
-ghost use Rattle.line_law.specs.Decisions.{OnLine, on_pair};
+ghost use Rattle.line_law.specs.Arrivals.{await_train, berth as berth_whole, berth_part, berth_refusal, berthed};
+ghost use Rattle.line_law.specs.Arrivals.{clear_portion, clear_portion_refusal, cleared, first_train, next_number};
+ghost use Rattle.line_law.specs.Arrivals.{next_train, parted};
+ghost use Rattle.line_law.specs.Decisions.{OnPlainLine, on_pair};
 ghost use Rattle.line_law.specs.Ways.{of_way};
 
 use crate::call::Reply;
@@ -49,9 +51,10 @@ impl BoxState {
     }
 
     /// What a look for the next train on the plain line of a way is answered; nothing changes.
-    pub fn look_line(&self, pair: &PairState, way: Way) -> Reply
+    pub fn look_plain_line(&self, pair: &PairState, way: Way) -> Reply
         requires { (way : Way) → (of_way self.now.incoming way).taken < 2 ^ 32 }
-        ensures { on_pair way (OnLine (await_train self.now way)) pair.now ≡ record { reply = result; here = self.now; word = pair.now } }
+        ensures { on_pair way (OnPlainLine (await_train self.now way)) pair.now
+            ≡ record { reply = result; here = self.now; word = pair.now } }
     {
         match way {
             Way::Up => self.await_train(&pair.lines.up, Way::Up),
@@ -146,7 +149,8 @@ impl BoxState {
     pub fn berth(&mut self, pair: &mut PairState, berth: &Berth, way: Way) -> Reply
         requires place { berth.now.place < length self.old.places }
         requires few { (way : Way) → (of_way self.old.incoming way).taken < 2 ^ 32 }
-        ensures { on_pair way (berth_whole (Some berth.now) self.old way) pair.old ≡ record { reply = result; here = self.new; word = pair.new } }
+        ensures { on_pair way (berth_whole (Some berth.now) self.old way) pair.old
+            ≡ record { reply = result; here = self.new; word = pair.new } }
     {
         if let Some(reply) = self.berth_refusal(way, berth) {
             return reply;
@@ -161,7 +165,8 @@ impl BoxState {
     pub fn berth_part(&mut self, pair: &PairState, berth: &Berth, way: Way) -> Reply
         requires place { berth.now.place < length self.old.places }
         requires few { (way : Way) → (of_way self.old.incoming way).taken < 2 ^ 32 }
-        ensures { on_pair way (berth_part (Some berth.now) self.old way) pair.now ≡ record { reply = result; here = self.new; word = pair.now } }
+        ensures { on_pair way (berth_part (Some berth.now) self.old way) pair.now
+            ≡ record { reply = result; here = self.new; word = pair.now } }
     {
         if let Some(reply) = self.berth_refusal(way, berth) {
             return reply;
@@ -175,7 +180,8 @@ impl BoxState {
     /// The left portion of an incoming line is cleared away.
     pub fn clear_portion(&mut self, pair: &mut PairState, way: Way) -> Reply
         requires few { (way : Way) → (of_way self.old.incoming way).taken < 2 ^ 32 }
-        ensures { on_pair way (clear_portion self.old way) pair.old ≡ record { reply = result; here = self.new; word = pair.new } }
+        ensures { on_pair way (clear_portion self.old way) pair.old
+            ≡ record { reply = result; here = self.new; word = pair.new } }
     {
         if self.incoming.get(way).portion.is_none() {
             return Reply::NoPortion;

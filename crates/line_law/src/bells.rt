@@ -42,7 +42,8 @@ impl Bell {
 
     /// Takes off the code that stands unheard, where it is this one.
     pub fn await_code(&mut self, code: CodeNo) -> Reply
-        ensures { (here : BoxState) → await_bell here code self.old ≡ record { reply = result; here = here; word = self.new } }
+        ensures { (here : BoxState)
+            → await_bell here code self.old ≡ record { reply = result; here = here; word = self.new } }
     {
         if self.unheard == Some(code) {
             self.unheard = None;
@@ -80,7 +81,8 @@ impl BoxState {
     /// Rings a code towards a side.
     pub fn ring(&mut self, pair: &mut PairState, side: Way, code: CodeNo) -> Reply
         requires { (way : Way) → (of_way pair.old.bells way).count < 2 ^ 32 }
-        ensures { on_pair side (OnBell (ring self.old side code)) pair.old ≡ record { reply = result; here = self.new; word = pair.new } }
+        ensures { on_pair side (OnBell (ring self.old side code)) pair.old
+            ≡ record { reply = result; here = self.new; word = pair.new } }
     {
         let mut bell = pair.bells.get(side);
         let reply = self.ring_bell(&mut bell, side, code);
@@ -92,7 +94,8 @@ impl BoxState {
 impl PairState {
     /// Takes off the code that stands unheard on the bell that is rung that way.
     pub fn hear(&mut self, way: Way) -> Reply
-        ensures { (here : BoxState) → on_pair way (OnBell (hear here)) self.old ≡ record { reply = result; here = here; word = self.new } }
+        ensures { (here : BoxState)
+            → on_pair way (OnBell (hear here)) self.old ≡ record { reply = result; here = here; word = self.new } }
     {
         let mut bell = self.bells.get(way);
         let reply = bell.hear();
@@ -102,7 +105,9 @@ impl PairState {
 
     /// Takes off the code that stands unheard on the bell that is rung that way, where it is this one.
     pub fn await_bell(&mut self, way: Way, code: CodeNo) -> Reply
-        ensures { (here : BoxState) → on_pair way (OnBell (await_bell here code)) self.old ≡ record { reply = result; here = here; word = self.new } }
+        ensures { (here : BoxState)
+            → on_pair way (OnBell (await_bell here code)) self.old
+            ≡ record { reply = result; here = here; word = self.new } }
     {
         let mut bell = self.bells.get(way);
         let reply = bell.await_code(code);

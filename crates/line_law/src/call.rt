@@ -41,7 +41,8 @@ pub enum Act {
     Release { way: Way },
 }
 
-/// One call of a signalman: what he does, and when. A moment is in minutes where the plan has version 1, else in seconds.
+/// One call of a signalman: what he does, and when. A moment is in minutes where the plan has version 1, else in
+/// seconds.
 #[derive(Clone, Copy, Debug, PartialEq, Eq)]
 pub struct Call {
     pub moment: u32,

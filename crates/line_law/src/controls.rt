@@ -1,7 +1,8 @@
 //! The control of an incoming line, and its release.
 
 ghost use Rattle.std.specs.Prelude.{◌≡◌, ◌<◌, ◌^◌, ◌+◌, Some};
-ghost use Rattle.line_law.specs.Controls.{berthed_control, given, left_control, release, release_refusal, released_control, wind, wind_refusal};
+ghost use Rattle.line_law.specs.Controls.{berthed_control, given, left_control, release, release_refusal};
+ghost use Rattle.line_law.specs.Controls.{released_control, wind, wind_refusal};
 ghost use Rattle.line_law.specs.Decisions.{Here};
 ghost use Rattle.line_law.specs.Lines.{HasRoomOut};
 ghost use Rattle.line_law.specs.Ways.{of_way};

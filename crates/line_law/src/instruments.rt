@@ -4,21 +4,24 @@ ghost use Rattle.std.specs.Prelude.{◌≡◌, ◌<◌, ◌^◌, Some, length};
 ghost use Rattle.block_words.specs.declared.Way.{Way};
 ghost use Rattle.line_law.specs.declared.state.BoxState.{BoxState};
 ghost use Rattle.line_law.specs.Decisions.{OnBlock, on_pair};
-ghost use Rattle.line_law.specs.Instruments.{await_block, clear_refusal, control_refusal, line_turned, turn, turn_refusal, turned};
+ghost use Rattle.line_law.specs.Instruments.{await_block, clear_refusal, control_refusal, line_turned, turn};
+ghost use Rattle.line_law.specs.Instruments.{turn_refusal, turned};
 ghost use Rattle.line_law.specs.Lines.{HasRoomOut, IsControlOf};
 ghost use Rattle.line_law.specs.Sound.{BerthFits};
 ghost use Rattle.line_law.specs.Ways.{of_way};
 
 use crate::call::Reply;
+use crate::levers::first_reversed;
 use crate::state::{Block, BoxState, Control, Incoming, PairState};
-use crate::tracks::{first_reversed, first_standing, train_on};
+use crate::tracks::{first_standing, train_on};
 use block_words::{Position, Way, WelwynState};
 use line_plan::Berth;
 
 impl Block {
     /// What a look for a position is answered; nothing changes.
     pub fn look(self, position: Position) -> Reply
-        ensures { (here : BoxState) → await_block here position self ≡ record { reply = result; here = here; word = self } }
+        ensures { (here : BoxState)
+            → await_block here position self ≡ record { reply = result; here = here; word = self } }
     {
         if self.position == position {
             Reply::Seen { v: self.turns }
@@ -126,7 +129,8 @@ impl BoxState {
     fn turn_block(&mut self, block: &mut Block, way: Way, position: Position) -> Reply
         requires few { block.old.turns < 2 ^ 32 }
         requires room { HasRoomOut (of_way self.old.incoming way).control }
-        ensures { turned self.old way position block.old ≡ record { reply = result; here = self.new; word = block.new } }
+        ensures { turned self.old way position block.old
+            ≡ record { reply = result; here = self.new; word = block.new } }
     {
         let v = block.turns + 1;
         *block = Block {
@@ -150,7 +154,8 @@ impl BoxState {
         requires berth { BerthFits (length self.old.ends) (length self.old.places) berth.now }
         requires control { IsControlOf (Some berth.now) (of_way self.old.incoming way).control }
         requires few { (way : Way) → (of_way pair.old.blocks way).turns < 2 ^ 32 }
-        ensures { on_pair way (turn (Some berth.now) self.old way position) pair.old ≡ record { reply = result; here = self.new; word = pair.new } }
+        ensures { on_pair way (turn (Some berth.now) self.old way position) pair.old
+            ≡ record { reply = result; here = self.new; word = pair.new } }
     {
         if let Some(reply) = self.turn_refusal(berth, way, position) {
             return reply;
@@ -165,7 +170,9 @@ impl BoxState {
 impl PairState {
     /// What a look for a position on the instrument of a way is answered; nothing changes.
     pub fn look_block(&self, way: Way, position: Position) -> Reply
-        ensures { (here : BoxState) → on_pair way (OnBlock (await_block here position)) self.now ≡ record { reply = result; here = here; word = self.now } }
+        ensures { (here : BoxState)
+            → on_pair way (OnBlock (await_block here position)) self.now
+            ≡ record { reply = result; here = here; word = self.now } }
     {
         self.blocks.get(way).look(position)
     }

@@ -1,7 +1,8 @@
 //! Which calls a plan knows.
 
 ghost use Rattle.std.specs.Prelude.{◌≡◌, ◌<◌, length};
-ghost use Rattle.line_law.specs.Known.{is_code_no, knows_act, knows_arm, knows_berth, knows_call, knows_lever, knows_outgoing, knows_side, knows_train, moments_of};
+ghost use Rattle.line_law.specs.Known.{is_code_no, knows_act, knows_arm, knows_berth, knows_call, knows_lever};
+ghost use Rattle.line_law.specs.Known.{knows_outgoing, knows_side, knows_train, moments_of};
 
 use crate::call::{Act, Call};
 use bell_codes::CodeNo;
@@ -104,9 +105,9 @@ fn knows_act(plan: &Plan, box_no: u32, act: Act) -> bool
     }
 }
 
-/// Whether the plan knows a call of a box: the box is one of the line, the line, lever, signal or train that the call names
-/// is there, its code is in the code table, and its moment is one of a day. Of a call or a box that isn't of the plan the
-/// answer is no.
+/// Whether the plan knows a call of a box: the box is one of the line, the line, lever, signal or train that the call
+/// names is there, its code is in the code table, and its moment is one of a day. Of a call or a box that isn't of the
+/// plan the answer is no.
 #[tactic(auto, unfolding(crate::specs::Known::knows_call))]
 pub fn knows(plan: &Plan, box_no: u32, call: &Call) -> bool
     ensures { result ≡ knows_call plan.now box_no call.now }

@@ -1,11 +1,13 @@
-//! Pulling a lever, and putting it back.
+//! Where the levers stand; pulling a lever, and putting it back.
 
-ghost use Rattle.std.specs.Prelude.{◌≡◌, ◌<◌, length, option_map};
+ghost use Rattle.std.specs.Prelude.{◌≡◌, ◌<◌, All, length, option_map};
 ghost use Rattle.locking_table.specs.Places.{IsLever};
 ghost use Rattle.line_plan.specs.Frames.{frame_size, leads_to};
 ghost use Rattle.line_law.specs.declared.state.BoxState.{BoxState};
 ghost use Rattle.line_law.specs.Decisions.{Here, on_pair};
-ghost use Rattle.line_law.specs.Levers.{is_unspent_clear, lever_link, lock_refusal, pull, pull_refusal, pulled, pulled_under, put, put_back, put_refusal, starter_way};
+ghost use Rattle.line_law.specs.LeverEnds.{first_reversed};
+ghost use Rattle.line_law.specs.Levers.{is_unspent_clear, lever_link, lock_refusal, pull, pull_refusal, pulled};
+ghost use Rattle.line_law.specs.Levers.{pulled_under, put, put_back, put_refusal, starter_way};
 ghost use Rattle.line_law.specs.Lines.{HasFrame};
 ghost use Rattle.line_law.specs.Links.{way_of};
 ghost use Rattle.line_law.specs.Sound.{IsSound};
@@ -16,6 +18,19 @@ use crate::tracks::first_standing;
 use block_words::{Position, Way};
 use line_plan::{BoxPlan, Kind, Signal, To};
 use locking_table::{End, end_of};
+
+/// The first of these levers that is reversed.
+pub fn first_reversed(ends: &[End], levers: &[u32]) -> Option<u32>
+    requires { All (IsLever (length ends.now)) levers.now }
+    ensures { result ≡ first_reversed ends.now levers.now }
+{
+    for lever in levers {
+        if end_of(ends, *lever) == End::Reversed {
+            return Some(*lever);
+        }
+    }
+    None
+}
 
 /// The outgoing line into whose section a signal leads, if there is a signal and it is a starter.
 pub fn starter_way(signal: Option<&Signal>) -> Option<Way>
@@ -119,7 +134,8 @@ impl BoxState {
         requires sound { IsSound plan.now }
         requires frame { HasFrame plan.now self.old }
         requires lever { IsLever (frame_size plan.now.levers) lever }
-        ensures { on_pair (way_of (lever_link plan.now lever)) (pull plan.now self.old lever) pair.old ≡ record { reply = result; here = self.new; word = pair.new } }
+        ensures { on_pair (way_of (lever_link plan.now lever)) (pull plan.now self.old lever) pair.old
+            ≡ record { reply = result; here = self.new; word = pair.new } }
     {
         if let Some(reply) = self.pull_refusal(plan, lever) {
             return reply;

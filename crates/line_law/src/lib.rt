@@ -18,35 +18,22 @@ mod reply_laws;
 mod same_reply;
 mod state;
 mod step;
-#[cfg(test)]
-mod tables;
-#[cfg(test)]
-mod tests;
 mod tracks;
-mod train_laws;
 mod trains;
 mod ways;
-mod word_laws;
 
 pub use call::{Act, Call, Entry, Journal, Reply};
 pub use known::{
     DAY_OF_MINUTES, DAY_OF_SECONDS, is_code_no, knows, knows_arm, knows_berth, knows_lever,
     knows_outgoing, knows_side, knows_train, moments_of,
 };
-pub use laws::{
-    bell_law, box_law, commuting_law, footprint_law, history_law, outcome_law, run_law, serial_law,
-    shape_law,
-};
-pub use levers::starter_way;
+pub use laws::{box_law, history_law, outcome_law, run_law, serial_law, shape_law};
+pub use levers::{first_reversed, starter_way};
 pub use link::Link;
 pub use plain::Plain;
 pub use plain_line::PlainLine;
 pub use reply_laws::replies_law;
 pub use state::{Bell, Block, BoxState, Control, Incoming, PairState, Passage};
 pub use step::{link_of, perform_at};
-pub use tracks::{Standing, first_reversed, first_standing, train_on};
-pub use train_laws::{one_pull_law, one_train_law, upgrade_law};
+pub use tracks::{Standing, first_standing, train_on};
 pub use ways::ByWay;
-pub use word_laws::{
-    agreement_law, count_law, end_law, kind_law, operation_law, places_law, rising_law, words_law,
-};

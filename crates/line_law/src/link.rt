@@ -5,7 +5,8 @@ ghost use Rattle.line_law.specs.Links.{pair_no, way_of};
 
 use block_words::Way;
 
-/// A line that leaves a box, or one that comes in. What passes on it goes that way: a code that is rung, a train, the sight of an instrument.
+/// A line that leaves a box, or one that comes in. What passes on it goes that way: a code that is rung, a train, the
+/// sight of an instrument.
 #[derive(Clone, Copy, Debug, PartialEq, Eq)]
 pub enum Link {
     Out(Way),

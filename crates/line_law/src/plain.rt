@@ -3,7 +3,7 @@
 ghost use Rattle.std.specs.Prelude.{◌≡◌, ◌<◌, ◌^◌, ◌+◌, ◌↔◌, IfOk, IsTrue, length, map, replicate};
 ghost use Rattle.line_plan.specs.Sections.{IsSection};
 ghost use Rattle.line_law.specs.History.{Performs};
-ghost use Rattle.line_law.specs.Law.{MayCall, pair_of, plan_of, step};
+ghost use Rattle.line_law.specs.Law.{MayCall, pair_of, box_plan_of, step};
 ghost use Rattle.line_law.specs.Lines.{IsLineOf};
 ghost use Rattle.line_law.specs.Ready.{IsReady};
 ghost use Rattle.line_law.specs.Sections.{count_of, held_by};
@@ -35,7 +35,10 @@ impl Model for Plain {
 
     ghost Value = { PlainState };
 
-    ghost view = { λ plain. record { line = record { boxes = plain.boxes.items; pairs = plain.pairs.items }; calls = plain.calls } };
+    ghost view = { λ plain. record {
+      line = record { boxes = plain.boxes.items; pairs = plain.pairs.items };
+      calls = plain.calls;
+    } };
 }
 
 // The boxes of a line that opens.
@@ -103,7 +106,8 @@ impl Plain {
         requires plan_box { box_no < length plan.now.boxes }
         requires here { box_no < length self.now.line.boxes }
         requires pair { pair_of plan.now box_no call.now < length self.now.line.pairs }
-        requires ready { IsReady plan.now (plan_of plan.now box_no) call.now (box_at self.now.line box_no) (pair_at self.now.line (pair_of plan.now box_no call.now)) }
+        requires ready { IsReady plan.now (box_plan_of plan.now box_no) call.now (box_at self.now.line box_no)
+            (pair_at self.now.line (pair_of plan.now box_no call.now)) }
         ensures { result ≡ (step plan.now self.now.line box_no call.now).reply }
     {
         answer_on(&self.boxes, &self.pairs, plan, box_no, call)
@@ -116,8 +120,7 @@ impl Plain {
         requires few { self.now.calls < 2 ^ 32 }
         ensures { result ≡ (step plan.now self.now.line box_no call.now).reply }
     {
-        // The read shows the proof what the type of a plan keeps.
-        let _two = plan.boxes.len();
+        plan.meets_conditions();
         self.answer_here(plan, box_no, call)
     }
 
@@ -126,7 +129,8 @@ impl Plain {
         requires plan_box { box_no < length plan.now.boxes }
         requires here { box_no < length self.old.line.boxes }
         requires pair { pair_of plan.now box_no call.now < length self.old.line.pairs }
-        requires ready { IsReady plan.now (plan_of plan.now box_no) call.now (box_at self.old.line box_no) (pair_at self.old.line (pair_of plan.now box_no call.now)) }
+        requires ready { IsReady plan.now (box_plan_of plan.now box_no) call.now (box_at self.old.line box_no)
+            (pair_at self.old.line (pair_of plan.now box_no call.now)) }
         requires few { self.old.calls < 2 ^ 32 }
         ensures told { step plan.now self.old.line box_no call.now ≡ record { reply = result; after = self.new.line } }
         ensures calls { self.new.calls ≡ self.old.calls + 1 }
@@ -143,10 +147,10 @@ impl Plain {
         ensures told { step plan.now self.old.line box_no call.now ≡ record { reply = result; after = self.new.line } }
         ensures calls { self.new.calls ≡ self.old.calls + 1 }
         ensures line { IsLineOf plan.now self.new }
-        ensures performed { Performs plan.now self.old (record { box_no = box_no; call = call.now; reply = result }) self.new }
+        ensures performed { Performs plan.now self.old (record { box_no = box_no; call = call.now; reply = result })
+            self.new }
     {
-        // The read shows the proof what the type of a plan keeps.
-        let _two = plan.boxes.len();
+        plan.meets_conditions();
         self.step(plan, box_no, call)
     }
 
@@ -168,10 +172,9 @@ impl Plain {
         requires section { IsSection plan.now section }
         ensures { result ≡ held_by plan.now self.now.line section }
     {
-        // The read shows the proof what the type of a plan keeps.
-        let _two = plan.boxes.len();
+        plan.meets_conditions();
         let pair = &self.pairs[Link::Out(section.way).pair_no(section.rear as usize)];
-        let on_line = pair.line(section.way).len() as u32;
+        let on_line = pair.plain_line(section.way).len() as u32;
         match section.berth(plan) {
             Some(berth) => on_line + self.in_berth(section.advance(plan), berth.place),
             None => on_line,

@@ -6,7 +6,8 @@ ghost use Rattle.line_law.specs.Trains.{holds};
 use crate::state::Passage;
 use std::marker::Model;
 
-/// The trains on a plain line in the order in which they entered, at most four. Contracts see it as their list; it takes no memory.
+/// The trains on a plain line in the order in which they entered, at most four. Contracts see it as their list; it
+/// takes no memory.
 #[derive(Debug, Drop)]
 pub struct PlainLine {
     lanes: [Passage; 4],

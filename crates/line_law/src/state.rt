@@ -127,7 +127,8 @@ impl Incoming {
 }
 
 impl BoxState {
-    /// A box as the line opens: all levers normal, all arms at danger, all places empty, no train brought, all counts 0.
+    /// A box as the line opens: all levers normal, all arms at danger, all places empty, no train brought, all counts
+    /// 0.
     pub fn open(alloc: Global, plan: &BoxPlan, trains: usize) -> Result<BoxState, NoMemory>
         ensures { IfOk result (λ here. here ≡ opening_box trains plan.now) }
     {

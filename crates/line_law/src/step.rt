@@ -1,7 +1,7 @@
 //! One call, in the state of its box and of the pair of neighbours that it reaches.
 
 ghost use Rattle.std.specs.Prelude.{◌≡◌, ◌<◌, length};
-ghost use Rattle.line_law.specs.Law.{link_of, pair_of, plan_of, step, step_at};
+ghost use Rattle.line_law.specs.Law.{link_of, pair_of, box_plan_of, step, step_at};
 ghost use Rattle.line_law.specs.Levers.{lever_link};
 ghost use Rattle.line_law.specs.Ready.{IsReady};
 ghost use Rattle.line_law.specs.States.{box_at, pair_at};
@@ -54,7 +54,8 @@ pub fn perform_at(
     call: &Call,
 ) -> Reply
     requires { IsReady plan.now box_plan.now call.now here.old pair.old }
-    ensures { step_at plan.now box_plan.now call.now here.old pair.old ≡ record { reply = result; here = here.new; word = pair.new } }
+    ensures { step_at plan.now box_plan.now call.now here.old pair.old
+        ≡ record { reply = result; here = here.new; word = pair.new } }
 {
     here.moment = call.moment;
     match call.act {
@@ -71,7 +72,7 @@ pub fn perform_at(
         Act::Bring { train } => here.bring(train, plan.train(train).place),
         Act::Pass { lever } => here.pass(pair, box_plan, lever),
         Act::Overrun { lever } => here.overrun(pair, box_plan, lever),
-        Act::AwaitTrain { way } => here.look_line(pair, way),
+        Act::AwaitTrain { way } => here.look_plain_line(pair, way),
         Act::Berth { way } => match box_plan.berth(way) {
             Some(berth) => here.berth(pair, berth, way),
             None => Reply::BerthOccupied { train: 0 },
@@ -98,8 +99,11 @@ pub fn perform_on(
     requires plan_box { box_no < length plan.now.boxes }
     requires here { box_no < length boxes.old }
     requires pair { pair_of plan.now box_no call.now < length pairs.old }
-    requires ready { IsReady plan.now (plan_of plan.now box_no) call.now (box_at (record { boxes = boxes.old; pairs = pairs.old }) box_no) (pair_at (record { boxes = boxes.old; pairs = pairs.old }) (pair_of plan.now box_no call.now)) }
-    ensures { step plan.now (record { boxes = boxes.old; pairs = pairs.old }) box_no call.now ≡ record { reply = result; after = record { boxes = boxes.new; pairs = pairs.new } } }
+    requires ready { IsReady plan.now (box_plan_of plan.now box_no) call.now
+        (box_at (record { boxes = boxes.old; pairs = pairs.old }) box_no)
+        (pair_at (record { boxes = boxes.old; pairs = pairs.old }) (pair_of plan.now box_no call.now)) }
+    ensures { step plan.now (record { boxes = boxes.old; pairs = pairs.old }) box_no call.now
+        ≡ record { reply = result; after = record { boxes = boxes.new; pairs = pairs.new } } }
 {
     let at = box_no as usize;
     let box_plan = &plan.boxes.as_slice()[at];

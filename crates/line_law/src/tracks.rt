@@ -1,10 +1,7 @@
-//! What stands at the places and levers of a box.
+//! What stands at the places of a box.
 
 ghost use Rattle.std.specs.Prelude.{◌≡◌, ◌<◌, All, length};
-ghost use Rattle.locking_table.specs.Places.{IsLever};
-ghost use Rattle.line_law.specs.Tracks.{first_reversed, first_standing, train_on};
-
-use locking_table::{End, end_of};
+ghost use Rattle.line_law.specs.Tracks.{first_standing, train_on};
 
 /// A place with the train that stands there.
 #[derive(Clone, Copy, Debug, PartialEq, Eq)]
@@ -32,19 +29,6 @@ pub fn first_standing(places: &[Option<u32>], wanted: &[u32]) -> Option<Standing
                 place: *place,
                 train,
             });
-        }
-    }
-    None
-}
-
-/// The first of these levers that is reversed.
-pub fn first_reversed(ends: &[End], levers: &[u32]) -> Option<u32>
-    requires { All (IsLever (length ends.now)) levers.now }
-    ensures { result ≡ first_reversed ends.now levers.now }
-{
-    for lever in levers {
-        if end_of(ends, *lever) == End::Reversed {
-            return Some(*lever);
         }
     }
     None

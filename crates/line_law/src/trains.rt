@@ -3,12 +3,13 @@
 ghost use Rattle.std.specs.Prelude.{◌≡◌, ◌<◌, ◌^◌, ◌-◌, Some, length, option_map};
 ghost use Rattle.block_words.specs.declared.Way.{Way};
 ghost use Rattle.line_plan.specs.Frames.{signal_of};
-ghost use Rattle.line_law.specs.Decisions.{Here, OnLine, on_pair};
+ghost use Rattle.line_law.specs.Decisions.{Here, OnPlainLine, on_pair};
 ghost use Rattle.line_law.specs.Levers.{lever_link, starter_link, starter_way};
 ghost use Rattle.line_law.specs.Lines.{HasFrame, HasRoom};
 ghost use Rattle.line_law.specs.Links.{way_of};
 ghost use Rattle.line_law.specs.Sound.{IsSound, SignalFits};
-ghost use Rattle.line_law.specs.Trains.{bring, bring_refusal, enter, go, left_by, line_left, overrun, overrun_refusal, overrun_signal, pass, pass_refusal, pass_signal, way_refusal};
+ghost use Rattle.line_law.specs.Trains.{bring, bring_refusal, enter, go, left_by, line_left, overrun, overrun_refusal};
+ghost use Rattle.line_law.specs.Trains.{overrun_signal, pass, pass_refusal, pass_signal, way_refusal};
 ghost use Rattle.line_law.specs.Ways.{of_way};
 
 use crate::call::Reply;
@@ -136,7 +137,8 @@ impl BoxState {
         requires arms { length self.old.off ≡ length self.old.ends }
         requires few { of_way self.old.sent way < 2 ^ 32 }
         requires room { HasRoom (of_way self.old.sent way) line.old }
-        ensures { enter self.old (left_by plan.now self.old signal.now) way train line.old ≡ record { reply = result; here = self.new; word = line.new } }
+        ensures { enter self.old (left_by plan.now self.old signal.now) way train line.old
+            ≡ record { reply = result; here = self.new; word = line.new } }
     {
         let k = self.sent.get(way) + 1;
         if line.holds(k) {
@@ -161,7 +163,8 @@ impl BoxState {
         requires arms { length self.old.off ≡ length self.old.ends }
         requires few { of_way self.old.sent way < 2 ^ 32 }
         requires room { HasRoom (of_way self.old.sent way) (of_way pair.old.lines way) }
-        ensures { on_pair way (OnLine (enter self.old (left_by plan.now self.old signal.now) way train)) pair.old ≡ record { reply = result; here = self.new; word = pair.new } }
+        ensures { on_pair way (OnPlainLine (enter self.old (left_by plan.now self.old signal.now) way train)) pair.old
+            ≡ record { reply = result; here = self.new; word = pair.new } }
     {
         match way {
             Way::Up => self.enter(&mut pair.lines.up, plan, signal, Way::Up, train),
@@ -174,8 +177,11 @@ impl BoxState {
         requires signal { SignalFits (length self.old.ends) (length self.old.places) signal.now }
         requires arms { length self.old.off ≡ length self.old.ends }
         requires few { (way : Way) → of_way self.old.sent way < 2 ^ 32 }
-        requires room { (way : Way) → starter_way (Some signal.now) ≡ Some way → HasRoom (of_way self.old.sent way) (of_way pair.old.lines way) }
-        ensures { on_pair (way_of (starter_link (starter_way (Some signal.now)))) (go self.old (left_by plan.now self.old signal.now) train signal.now.to) pair.old ≡ record { reply = result; here = self.new; word = pair.new } }
+        requires room { (way : Way) → starter_way (Some signal.now) ≡ Some way
+            → HasRoom (of_way self.old.sent way) (of_way pair.old.lines way) }
+        ensures { on_pair (way_of (starter_link (starter_way (Some signal.now))))
+            (go self.old (left_by plan.now self.old signal.now) train signal.now.to) pair.old
+            ≡ record { reply = result; here = self.new; word = pair.new } }
     {
         match signal.to {
             To::Place(place) => {
@@ -196,8 +202,11 @@ impl BoxState {
         requires signal { SignalFits (length self.old.ends) (length self.old.places) signal.now }
         requires arms { length self.old.off ≡ length self.old.ends }
         requires few { (way : Way) → of_way self.old.sent way < 2 ^ 32 }
-        requires room { (way : Way) → starter_way (Some signal.now) ≡ Some way → HasRoom (of_way self.old.sent way) (of_way pair.old.lines way) }
-        ensures { on_pair (way_of (starter_link (starter_way (Some signal.now)))) (pass_signal (Some signal.now) plan.now self.old) pair.old ≡ record { reply = result; here = self.new; word = pair.new } }
+        requires room { (way : Way) → starter_way (Some signal.now) ≡ Some way
+            → HasRoom (of_way self.old.sent way) (of_way pair.old.lines way) }
+        ensures { on_pair (way_of (starter_link (starter_way (Some signal.now))))
+            (pass_signal (Some signal.now) plan.now self.old) pair.old
+            ≡ record { reply = result; here = self.new; word = pair.new } }
     {
         let Some(train) = train_on(self.places.as_slice(), signal.from) else {
             return Reply::NoTrain;
@@ -213,8 +222,11 @@ impl BoxState {
         requires signal { SignalFits (length self.old.ends) (length self.old.places) signal.now }
         requires arms { length self.old.off ≡ length self.old.ends }
         requires few { (way : Way) → of_way self.old.sent way < 2 ^ 32 }
-        requires room { (way : Way) → starter_way (Some signal.now) ≡ Some way → HasRoom (of_way self.old.sent way) (of_way pair.old.lines way) }
-        ensures { on_pair (way_of (starter_link (starter_way (Some signal.now)))) (overrun_signal (Some signal.now) plan.now self.old) pair.old ≡ record { reply = result; here = self.new; word = pair.new } }
+        requires room { (way : Way) → starter_way (Some signal.now) ≡ Some way
+            → HasRoom (of_way self.old.sent way) (of_way pair.old.lines way) }
+        ensures { on_pair (way_of (starter_link (starter_way (Some signal.now))))
+            (overrun_signal (Some signal.now) plan.now self.old) pair.old
+            ≡ record { reply = result; here = self.new; word = pair.new } }
     {
         let Some(train) = train_on(self.places.as_slice(), signal.from) else {
             return Reply::NoTrain;
@@ -230,8 +242,10 @@ impl BoxState {
         requires sound { IsSound plan.now }
         requires frame { HasFrame plan.now self.old }
         requires few { (way : Way) → of_way self.old.sent way < 2 ^ 32 }
-        requires room { (way : Way) → starter_way (signal_of plan.now lever) ≡ Some way → HasRoom (of_way self.old.sent way) (of_way pair.old.lines way) }
-        ensures { on_pair (way_of (lever_link plan.now lever)) (pass plan.now self.old lever) pair.old ≡ record { reply = result; here = self.new; word = pair.new } }
+        requires room { (way : Way) → starter_way (signal_of plan.now lever) ≡ Some way
+            → HasRoom (of_way self.old.sent way) (of_way pair.old.lines way) }
+        ensures { on_pair (way_of (lever_link plan.now lever)) (pass plan.now self.old lever) pair.old
+            ≡ record { reply = result; here = self.new; word = pair.new } }
     {
         match plan.signal(lever) {
             Some(signal) => self.pass_signal(pair, plan, signal),
@@ -244,8 +258,10 @@ impl BoxState {
         requires sound { IsSound plan.now }
         requires frame { HasFrame plan.now self.old }
         requires few { (way : Way) → of_way self.old.sent way < 2 ^ 32 }
-        requires room { (way : Way) → starter_way (signal_of plan.now lever) ≡ Some way → HasRoom (of_way self.old.sent way) (of_way pair.old.lines way) }
-        ensures { on_pair (way_of (lever_link plan.now lever)) (overrun plan.now self.old lever) pair.old ≡ record { reply = result; here = self.new; word = pair.new } }
+        requires room { (way : Way) → starter_way (signal_of plan.now lever) ≡ Some way
+            → HasRoom (of_way self.old.sent way) (of_way pair.old.lines way) }
+        ensures { on_pair (way_of (lever_link plan.now lever)) (overrun plan.now self.old lever) pair.old
+            ≡ record { reply = result; here = self.new; word = pair.new } }
     {
         match plan.signal(lever) {
             Some(signal) => self.overrun_signal(pair, plan, signal),

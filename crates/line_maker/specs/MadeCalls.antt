@@ -4,7 +4,8 @@ use Rattle.block_words.specs.declared.Way.{Way}
 use Rattle.block_words.specs.declared.Way.TheVariants.{Up, Down}
 use Rattle.block_words.specs.declared.Position.TheVariants.{Normal, LineClear, TrainOnLine}
 use Rattle.line_law.specs.declared.call.Act.{Act}
-use Rattle.line_law.specs.declared.call.Act.TheVariants.{Ring, AwaitBell, Turn, AwaitBlock, Pull, Put, Bring, Pass, AwaitTrain, Berth}
+use Rattle.line_law.specs.declared.call.Act.TheVariants.{Ring, AwaitBell, Turn, AwaitBlock, Pull, Put, Bring, Pass}
+use Rattle.line_law.specs.declared.call.Act.TheVariants.{AwaitTrain, Berth}
 use Rattle.line_law.specs.declared.call.Call.{Call}
 use Rattle.line_plan.specs.Plans.{PlanFields}
 use Rattle.script_text.specs.Scripts.{IsScriptOf}
@@ -13,7 +14,8 @@ use Rattle.line_maker.specs.MadeTrains.{class_code, runs_down, train_moment}
 use Rattle.line_maker.specs.declared.working.MadeBox.{MadeBox}
 use Rattle.line_maker.specs.declared.working.MadeBox.TheVariants.{Ash, Beech, Cedar}
 
--- A train is sent on: Call Attention (code 1), its class, Line Clear, the starter, Train Entering Section (code 6); it leaves, and Train Out of Section (code 7) follows.
+-- A train is sent on: Call Attention (code 1), its class, Line Clear, the starter, Train Entering Section (code 6); it
+-- leaves, and Train Out of Section (code 7) follows.
 unfoldable pub send : Way → ℕ → ℕ → List Act
 send side lever code =
     Ring side 1 ∷ AwaitBell side 1 ∷ Ring side code ∷ AwaitBell side code ∷ AwaitBlock side LineClear ∷ Pull lever
@@ -22,8 +24,10 @@ send side lever code =
 -- A train is taken in from a side, on the line of that way, and passes its home signal.
 unfoldable pub take_in : Way → Way → ℕ → ℕ → List Act
 take_in side way home code =
-    AwaitBell side 1 ∷ Ring side 1 ∷ AwaitBell side code ∷ Ring side code ∷ Turn way LineClear ∷ AwaitBell side 6 ∷ Ring side 6 ∷ Turn way TrainOnLine
-    ∷ AwaitTrain way ∷ Berth way ∷ Pull home ∷ Pass home ∷ Put home ∷ Ring side 7 ∷ Turn way Normal ∷ AwaitBell side 7 ∷ []
+    AwaitBell side 1 ∷ Ring side 1 ∷ AwaitBell side code ∷ Ring side code ∷ Turn way LineClear ∷ AwaitBell side 6
+    ∷ Ring side 6 ∷ Turn way TrainOnLine
+    ∷ AwaitTrain way ∷ Berth way ∷ Pull home ∷ Pass home ∷ Put home ∷ Ring side 7 ∷ Turn way Normal ∷ AwaitBell side 7
+    ∷ []
 
 -- a train leaves the line by the signal of a lever
 unfoldable pub off : ℕ → List Act
@@ -56,7 +60,8 @@ made_calls at (suc n) = made_calls at n ++ calls_at (train_moment (suc n)) (acts
 
 -- the scripts of the three boxes for trains 1 to n, in box order
 unfoldable pub made_scripts : ℕ → List Script
-made_scripts n = record { box_no = 0; calls = made_calls Ash n } ∷ record { box_no = 1; calls = made_calls Beech n } ∷ record { box_no = 2; calls = made_calls Cedar n } ∷ []
+made_scripts n = record { box_no = 0; calls = made_calls Ash n } ∷ record { box_no = 1; calls = made_calls Beech n }
+    ∷ record { box_no = 2; calls = made_calls Cedar n } ∷ []
 
 -- scripts by which a line can be worked: one for each box, in box order
 pub record AreLineScripts (plan : PlanFields) (scripts : List Script) : Type 0 where

@@ -8,7 +8,4 @@ mod scripts;
 mod working;
 
 pub use error::MakeError;
-pub use making::{MOST_TRAINS, make_line};
-
-#[cfg(test)]
-mod tests;
+pub use making::{MOST_MADE_TRAINS, make_line};

@@ -14,7 +14,7 @@ use script_text::Script;
 use std::alloc::Global;
 
 /// The most trains of a made line.
-pub const MOST_TRAINS: u32 = 200;
+pub const MOST_MADE_TRAINS: u32 = 200;
 
 // The plan of n trains, by its text. The text spells a plan, so it is never refused.
 #[tactic(auto, using(crate::proofs::PlanRead::plan_rules))]
@@ -44,7 +44,7 @@ pub fn make_line(alloc: Global, n: u32) -> Result<(Plan, Vec<Script>), MakeError
     ensures scripts { IfOk result (λ made. made.1.items ≡ made_scripts n) }
     ensures known { IfOk result (λ made. AreLineScripts made.0 made.1.items) }
 {
-    if n < 1 || MOST_TRAINS < n {
+    if n < 1 || MOST_MADE_TRAINS < n {
         return Err(MakeError::OutOfRange { n });
     }
     let plan = made_plan(alloc, n)?;

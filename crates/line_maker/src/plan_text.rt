@@ -1,7 +1,8 @@
 //! The text of the made line's plan.
 
 ghost use Rattle.std.specs.Prelude.{◌≡◌, ◌++◌, IfOk, OnOk, string_bytes};
-ghost use Rattle.line_maker.specs.MadeTexts.{ash_text, beech_text, brought_text, cedar_text, class_name, head_text, made_plan_text, train_text, trains_text};
+ghost use Rattle.line_maker.specs.MadeTexts.{ash_text, beech_text, brought_text, cedar_text, class_name, head_text};
+ghost use Rattle.line_maker.specs.MadeTexts.{made_plan_text, train_text, trains_text};
 
 use crate::working::runs_down;
 use std::alloc::{AllocError, Global};

@@ -118,7 +118,8 @@ fn put_taking(
     home: u32,
     code: CodeNo,
 ) -> Result<(), AllocError>
-    ensures { OnOk result (calls.new.items ≡ calls.old.items ++ calls_at moment (take_in side (opposite side) home code)) }
+    ensures { OnOk result (calls.new.items
+        ≡ calls.old.items ++ calls_at moment (take_in side (opposite side) home code)) }
 {
     let way = side.opposite();
     let taking = [

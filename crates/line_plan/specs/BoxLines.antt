@@ -1,5 +1,6 @@
 -- What the lines of a box make of the box.
-use Rattle.std.specs.Prelude.{ℕ, Bool, true, false, not, nat_le, nat_lt, ◌==◌, List, [], ◌∷◌, ◌++◌, length, drop, Option, Some, None, is_some, Result, Ok, Err, if◌then◌else◌, bytes_eq, codes}
+use Rattle.std.specs.Prelude.{ℕ, Bool, true, false, not, nat_le, nat_lt, ◌==◌, List, [], ◌∷◌, ◌++◌, length, drop}
+use Rattle.std.specs.Prelude.{Option, Some, None, is_some, Result, Ok, Err, if◌then◌else◌, bytes_eq, codes}
 use Rattle.std.specs.List.{list_any, join_with_byte}
 use Rattle.rail_text.specs.Gives.{◌>>=◌}
 use Rattle.rail_text.specs.Words.{number_in}
@@ -12,14 +13,18 @@ use Rattle.locking_table.specs.Sound.{all_differ, levers_of}
 use Rattle.locking_table.specs.declared.reading.RowError.{RowError}
 use Rattle.locking_table.specs.declared.reading.RowError.TheVariants as row_errors
 use Rattle.locking_table.specs.declared.row.Row.{Row}
+use Rattle.locking_table.specs.Places.{most_levers}
+use Rattle.line_plan.specs.Limits.{most_places, most_rows}
 use Rattle.line_plan.specs.declared.frame.Kind.{Kind}
 use Rattle.line_plan.specs.declared.frame.Kind.TheVariants as kinds
 use Rattle.line_plan.specs.declared.signal.To.TheVariants as ends
 use Rattle.line_plan.specs.declared.signal.Signal.{Signal}
 use Rattle.line_plan.specs.declared.berth.Berth.{Berth}
-use Rattle.line_plan.specs.Frames.{BoxFields, kind_of, is_working, frame_size, signal_of, starter_of, places_of, is_entered, berth_of, berth_places, homes_of}
+use Rattle.line_plan.specs.Frames.{BoxFields, kind_of, is_working, frame_size, signal_of, starter_of, places_of}
+use Rattle.line_plan.specs.Frames.{is_entered, berth_of, berth_places, homes_of}
 use Rattle.line_plan.specs.Ways.{comes_in, leaves}
-use Rattle.line_plan.specs.LineWords.{counted, word, new_name, number_in_names, places_onto, way_in, kind_in, end_in, lever_in, working_in}
+use Rattle.line_plan.specs.LineWords.{counted, word, new_name, number_in_names, places_onto, way_in, kind_in, end_in}
+use Rattle.line_plan.specs.LineWords.{lever_in, working_in}
 
 -- ---- places and levers
 
@@ -32,11 +37,14 @@ unfoldable pub place_onto : BoxFields → List (List ℕ) → Result BoxFields C
 place_onto box_plan words = do
   two ← counted 2 2 words
   name ← new_place box_plan (word 1 words)
-  if nat_le 64 (length box_plan.places) then Err causes.TooMany else Ok (record box_plan { places = box_plan.places ++ name ∷ [] })
+  if nat_le most_places (length box_plan.places) then Err causes.TooMany
+      else Ok (record box_plan { places = box_plan.places ++ name ∷ [] })
 
 -- a number above that of the box's last lever
 unfoldable pub next_number : BoxFields → List ℕ → Result ℕ Cause
-next_number box_plan text = number_in 1 120 text >>= (λ number. if nat_lt (frame_size box_plan.levers) number then Ok number else Err causes.LeverOrder)
+next_number box_plan text =
+    number_in 1 most_levers text >>=
+    (λ number. if nat_lt (frame_size box_plan.levers) number then Ok number else Err causes.LeverOrder)
 
 -- lever L KIND
 unfoldable pub lever_onto : BoxFields → List (List ℕ) → Result BoxFields Cause
@@ -77,7 +85,9 @@ counted_over words = if length words == 4 then Ok tt else counted 6 9 words
 
 -- a signal more, whose places all differ
 unfoldable pub with_signal : BoxFields → Signal → Result BoxFields Cause
-with_signal box_plan signal = if all_differ (places_of signal) then Ok (record box_plan { signals = box_plan.signals ++ signal ∷ [] }) else Err causes.SamePlace
+with_signal box_plan signal =
+    if all_differ (places_of signal) then Ok (record box_plan { signals = box_plan.signals ++ signal ∷ [] })
+    else Err causes.SamePlace
 
 -- signal L FROM TO over P..
 unfoldable pub signal_onto : BoxFields → List (List ℕ) → Result BoxFields Cause
@@ -122,7 +132,8 @@ coming_in boxes b box_plan text =
     else if is_some (berth_of box_plan way) then Err causes.Taken
     else Ok way)
 
--- a place that can be a berth: no berth already, no signal leads into it or over it, and some signal begins there; with its homes
+-- a place that can be a berth: no berth already, no signal leads into it or over it, and some signal begins there; with
+-- its homes
 unfoldable pub berth_at : BoxFields → ℕ → Result Berth Cause
 berth_at box_plan place =
     if list_any (λ berth. berth == place) (berth_places box_plan) then Err causes.Taken
@@ -157,7 +168,8 @@ cleared box_plan Down places = record box_plan { berth_down = clearing_at places
 -- clearing places that differ from each other and from the berth
 unfoldable pub clearing_in : BoxFields → Berth → List (List ℕ) → Result (List ℕ) Cause
 clearing_in box_plan berth words =
-    places_onto box_plan.places [] (drop 2 words) >>= (λ places. if all_differ (berth.place ∷ places) then Ok places else Err causes.SamePlace)
+    places_onto box_plan.places [] (drop 2 words) >>=
+    (λ places. if all_differ (berth.place ∷ places) then Ok places else Err causes.SamePlace)
 
 -- clear WAY P..: a berth of that line, without clearing places so far
 unfoldable pub clear_onto : BoxFields → List (List ℕ) → Result BoxFields Cause
@@ -191,7 +203,9 @@ permissive_onto box_plan words = do
 
 -- a working lever without track circuits so far
 unfoldable pub track_in : BoxFields → List ℕ → Result ℕ Cause
-track_in box_plan text = working_in box_plan text >>= (λ lever. if list_any (λ track. track.lever == lever) box_plan.tracks then Err causes.Taken else Ok lever)
+track_in box_plan text =
+    working_in box_plan text >>=
+    (λ lever. if list_any (λ track. track.lever == lever) box_plan.tracks then Err causes.Taken else Ok lever)
 
 -- track L P..
 unfoldable pub track_onto : BoxFields → List (List ℕ) → Result BoxFields Cause
@@ -199,7 +213,9 @@ track_onto box_plan words = do
   several ← counted 3 10 words
   lever ← track_in box_plan (word 1 words)
   places ← places_onto box_plan.places [] (drop 2 words)
-  if all_differ places then Ok (record box_plan { tracks = box_plan.tracks ++ record { lever = lever; places = places } ∷ [] }) else Err causes.SamePlace
+  if all_differ places then Ok
+      (record box_plan { tracks = box_plan.tracks ++ record { lever = lever; places = places } ∷ [] })
+      else Err causes.SamePlace
 
 -- why a text spells no row
 abbrev pub row_cause : RowError → Cause
@@ -227,4 +243,5 @@ unfoldable pub row_onto : BoxFields → List (List ℕ) → Result BoxFields Cau
 row_onto box_plan words = do
   row ← spelled_row (row_of (join_with_byte 32 (drop 1 words)))
   all ← all_worked box_plan (levers_of row)
-  if nat_le 400 (length box_plan.rows) then Err causes.TooMany else Ok (record box_plan { rows = box_plan.rows ++ row ∷ [] })
+  if nat_le most_rows (length box_plan.rows) then Err causes.TooMany
+      else Ok (record box_plan { rows = box_plan.rows ++ row ∷ [] })

@@ -7,7 +7,8 @@ use Rattle.line_plan.specs.declared.plan.Class.{Class}
 use Rattle.line_plan.specs.declared.draft.Stage.{Stage}
 use Rattle.line_plan.specs.declared.draft.Stage.TheVariants as stages
 
--- the kind of the last line, how many boxes are announced, the fields so far with the boxes that are complete, and the box whose lines are being read
+-- the kind of the last line, how many boxes are announced, the fields so far with the boxes that are complete, and the
+-- box whose lines are being read
 pub record DraftFields : Type 0 where
   pub stage : Stage
   pub count : ℕ
@@ -46,11 +47,25 @@ behind_box stage = nat_le 7 (rank stage) && nat_le (rank stage) 15
 -- the first four classes of every plan
 abbrev pub opening_classes : List Class
 opening_classes =
-    record { name = codes "express"; code = 2 } ∷ record { name = codes "ordinary"; code = 3 } ∷ record { name = codes "empty"; code = 4 } ∷ record { name = codes "light"; code = 5 } ∷ []
+    record { name = codes "express"; code = 2 } ∷ record { name = codes "ordinary"; code = 3 }
+    ∷ record { name = codes "empty"; code = 4 } ∷ record { name = codes "light"; code = 5 } ∷ []
 
 -- nothing is read yet
 abbrev pub start : DraftFields
-start = record { stage = stages.Start; count = 2; plan = record { version = 1; delay = 0; looks = 1; codes = opening_codes; classes = opening_classes; boxes = []; trains = [] }; here = no_box }
+start = record {
+  stage = stages.Start;
+  count = 2;
+  plan = record {
+    version = 1;
+    delay = 0;
+    looks = 1;
+    codes = opening_codes;
+    classes = opening_classes;
+    boxes = [];
+    trains = [];
+  };
+  here = no_box;
+}
 
 -- complete boxes, and the one whose lines are being read
 abbrev pub boxes_with : Stage → List BoxFields → BoxFields → List BoxFields

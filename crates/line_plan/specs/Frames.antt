@@ -1,5 +1,6 @@
 -- What a box has, and what belongs together in it.
-use Rattle.std.specs.Prelude.{ℕ, Bool, true, false, not, ◌&&◌, ◌||◌, ◌==◌, nat_lt, List, [], ◌∷◌, ◌++◌, map, filter, Option, Some, None, is_some, option_map}
+use Rattle.std.specs.Prelude.{ℕ, Bool, true, false, not, ◌&&◌, ◌||◌, ◌==◌, nat_lt, List, [], ◌∷◌, ◌++◌, map, filter}
+use Rattle.std.specs.Prelude.{Option, Some, None, is_some, option_map}
 use Rattle.std.specs.List.{list_any, find}
 use Rattle.block_words.specs.declared.Way.{Way}
 use Rattle.block_words.specs.declared.Way.TheVariants.{Up, Down}
@@ -105,7 +106,9 @@ starter_of box_plan way = find (is_starter way) box_plan.signals
 -- signals stand before starters
 abbrev pub starters_last : List Signal → Bool
 starters_last [] = true
-starters_last (signal ∷ signals) = (not (is_some (leads_to signal)) || not (list_any (λ later. not (is_some (leads_to later))) signals)) && starters_last signals
+starters_last (signal ∷ signals) =
+    (not (is_some (leads_to signal)) || not (list_any (λ later. not (is_some (leads_to later))) signals))
+    && starters_last signals
 
 -- the places into and over which a signal leads
 abbrev pub entered_by : Signal → List ℕ

@@ -5,6 +5,18 @@ use Rattle.std.specs.Prelude.{ℕ, ◌==◌, if◌then◌else◌}
 abbrev pub most_boxes : ℕ → ℕ
 most_boxes version = if version == 1 then 32 else 64
 
+-- the most places of a box
+abbrev pub most_places : ℕ
+most_places = 64
+
+-- the most rows of a box
+abbrev pub most_rows : ℕ
+most_rows = 400
+
+-- the most trains of a line
+abbrev pub most_plan_trains : ℕ
+most_plan_trains = 5000
+
 -- the longest delay: minutes in version 1, seconds in version 2
 abbrev pub most_delay : ℕ → ℕ
 most_delay version = if version == 1 then 60 else 3600

@@ -1,5 +1,7 @@
 -- What a plan has, and what every plan meets.
-use Rattle.std.specs.Prelude.{◌≡◌, ◌≢◌, ℕ, ◌+◌, ◌-◌, ◌<◌, ◌≤◌, Bool, true, false, ◌&&◌, ◌==◌, nat_lt, List, [], ◌∷◌, length, map, filter, take, None, Some, IfSome, All, IsTrue, slice_index_or, bytes_eq, codes, if◌then◌else◌}
+use Rattle.std.specs.Prelude.{◌≡◌, ◌≢◌, ℕ, ◌+◌, ◌-◌, ◌<◌, ◌≤◌, Bool, true, false, ◌&&◌, ◌==◌, nat_lt, List, [], ◌∷◌}
+use Rattle.std.specs.Prelude.{length, map, filter, take, None, Some, IfSome, All, IsTrue, slice_index_or, bytes_eq}
+use Rattle.std.specs.Prelude.{codes, if◌then◌else◌}
 use Rattle.std.specs.List.{list_all, list_any}
 use Rattle.rail_text.specs.Names.{are_new}
 use Rattle.rail_text.specs.Words.{is_name}
@@ -8,7 +10,8 @@ use Rattle.block_words.specs.declared.Way.{Way}
 use Rattle.block_words.specs.declared.Way.TheVariants.{Up, Down}
 use Rattle.locking_table.specs.Sound.{IsRow, all_differ, levers_of}
 use Rattle.locking_table.specs.declared.row.Row.{Row}
-use Rattle.line_plan.specs.Limits.{most_boxes, most_delay, most_looks}
+use Rattle.locking_table.specs.Places.{most_levers}
+use Rattle.line_plan.specs.Limits.{most_boxes, most_places, most_rows, most_plan_trains, most_delay, most_looks}
 use Rattle.line_plan.specs.Ways.{comes_in, leaves}
 use Rattle.line_plan.specs.declared.plan.Class.{Class}
 use Rattle.line_plan.specs.declared.plan.TrainPlan.{TrainPlan}
@@ -16,7 +19,8 @@ use Rattle.line_plan.specs.declared.frame.Kind.TheVariants as kinds
 use Rattle.line_plan.specs.declared.signal.Signal.{Signal}
 use Rattle.line_plan.specs.declared.signal.TrackLock.{TrackLock}
 use Rattle.line_plan.specs.declared.berth.Berth.{Berth}
-use Rattle.line_plan.specs.Frames.{BoxFields, kind_of, is_working, frame_size, are_rising, places_of, is_starter, leads_to, starters_last, homes_of, is_entered, berth_places}
+use Rattle.line_plan.specs.Frames.{BoxFields, kind_of, is_working, frame_size, are_rising, places_of, is_starter}
+use Rattle.line_plan.specs.Frames.{leads_to, starters_last, homes_of, is_entered, berth_places}
 
 -- the fields of a plan, as contracts see them
 pub record PlanFields : Type 0 where
@@ -38,7 +42,16 @@ box_name plan b = slice_index_or (names_of plan.boxes) b []
 
 -- a box with nothing
 abbrev pub no_box : BoxFields
-no_box = record { name = []; places = []; levers = []; signals = []; berth_up = None; berth_down = None; tracks = []; rows = [] }
+no_box = record {
+  name = [];
+  places = [];
+  levers = [];
+  signals = [];
+  berth_up = None;
+  berth_down = None;
+  tracks = [];
+  rows = [];
+}
 
 -- box b; a number off the line has nothing
 abbrev pub box_at : List BoxFields → ℕ → BoxFields
@@ -70,7 +83,8 @@ IsWorking box_plan lever = IsTrue (is_working (kind_of box_plan lever))
 abbrev pub IsWay : ℕ → ℕ → Signal → Type 0
 IsWay boxes b signal = IfSome (leads_to signal) (λ way. IsTrue (leaves boxes b way))
 
--- a signal or starter of box b: its lever is a signal lever; it runs over four places at most; all places that it names are the box's, and differ
+-- a signal or starter of box b: its lever is a signal lever; it runs over four places at most; all places that it names
+-- are the box's, and differ
 pub record IsSignal (boxes b : ℕ) (box_plan : BoxFields) (signal : Signal) : Type 0 where
   pub lever : kind_of box_plan signal.lever ≡ Some kinds.Signal
   pub places : All (IsPlace box_plan) (places_of signal)
@@ -78,8 +92,9 @@ pub record IsSignal (boxes b : ℕ) (box_plan : BoxFields) (signal : Signal) : T
   pub differ : IsTrue (all_differ (places_of signal))
   pub way : IsWay boxes b signal
 
--- The berth of a line at box b: the line comes in from a neighbour. The berth is a place that no signal or starter leads into or over; its homes are all levers
--- whose signal or starter begins there, at least one. It has eight clearing places at most, all of the box and different from each other and from the berth.
+-- The berth of a line at box b: the line comes in from a neighbour. The berth is a place that no signal or starter
+-- leads into or over; its homes are all levers whose signal or starter begins there, at least one. It has eight
+-- clearing places at most, all of the box and different from each other and from the berth.
 pub record IsBerth (boxes b : ℕ) (box_plan : BoxFields) (way : Way) (berth : Berth) : Type 0 where
   pub line : IsTrue (comes_in boxes b way)
   pub place : IsPlace box_plan berth.place
@@ -91,7 +106,8 @@ pub record IsBerth (boxes b : ℕ) (box_plan : BoxFields) (way : Way) (berth : B
   pub differ : IsTrue (all_differ (berth.place ∷ berth.clearing))
   pub permissive : IfSome berth.permissive (λ n. (1 ≤ n) × (n ≤ 3))
 
--- the track circuits that lock a lever: the lever is no spare one; they are one to eight places of the box, all different
+-- the track circuits that lock a lever: the lever is no spare one; they are one to eight places of the box, all
+-- different
 pub record IsTrackLock (box_plan : BoxFields) (track : TrackLock) : Type 0 where
   pub lever : IsWorking box_plan track.lever
   pub some : 1 ≤ length track.places
@@ -109,9 +125,9 @@ pub record IsBox (boxes b : ℕ) (box_plan : BoxFields) : Type 0 where
   pub named : list_all is_name box_plan.places ≡ true
   pub distinct : are_new [] box_plan.places ≡ true
   pub away : list_any (bytes_eq (codes "away")) box_plan.places ≡ false
-  pub few_places : length box_plan.places ≤ 64
+  pub few_places : length box_plan.places ≤ most_places
   pub rising : IsTrue (are_rising 0 box_plan.levers)
-  pub frame : frame_size box_plan.levers ≤ 120
+  pub frame : frame_size box_plan.levers ≤ most_levers
   pub signals : All (IsSignal boxes b box_plan) box_plan.signals
   pub one_each : IsTrue (all_differ (map (λ signal. signal.lever) box_plan.signals))
   pub starters_last : IsTrue (starters_last box_plan.signals)
@@ -123,7 +139,7 @@ pub record IsBox (boxes b : ℕ) (box_plan : BoxFields) : Type 0 where
   pub tracks : All (IsTrackLock box_plan) box_plan.tracks
   pub one_track : IsTrue (all_differ (map (λ track. track.lever) box_plan.tracks))
   pub rows : All (IsBoxRow box_plan) box_plan.rows
-  pub few_rows : length box_plan.rows ≤ 400
+  pub few_rows : length box_plan.rows ≤ most_rows
 
 -- ---- the conditions of classes and trains
 
@@ -131,7 +147,8 @@ pub record IsBox (boxes b : ℕ) (box_plan : BoxFields) : Type 0 where
 abbrev pub opening_names : List (List ℕ)
 opening_names = codes "express" ∷ codes "ordinary" ∷ codes "empty" ∷ codes "light" ∷ []
 
--- the number of the code of class i: the first four have 2 to 5 of the opening codes, and each further one the next number behind these
+-- the number of the code of class i: the first four have 2 to 5 of the opening codes, and each further one the next
+-- number behind these
 abbrev pub class_code : ℕ → ℕ
 class_code i = if nat_lt i 4 then i + 2 else i + 7
 
@@ -144,7 +161,8 @@ have_codes i (class_plan ∷ classes) = class_plan.code == class_code i && have_
 abbrev pub names_of_classes : List Class → List (List ℕ)
 names_of_classes classes = map (λ class_plan. class_plan.name) classes
 
--- The bell codes and the classes: the opening ones first, then as many further codes as further classes, at most 190. Names and codes are all different.
+-- The bell codes and the classes: the opening ones first, then as many further codes as further classes, at most 190.
+-- Names and codes are all different.
 pub record AreClasses (codes : List (List ℕ)) (classes : List Class) : Type 0 where
   pub table : IsCodeTable codes
   pub opening : take 10 codes ≡ opening_codes
@@ -167,7 +185,8 @@ pub record IsTrain (classes : List Class) (boxes : List BoxFields) (train : Trai
 abbrev pub names_of_trains : List TrainPlan → List (List ℕ)
 names_of_trains trains = map (λ train. train.name) trains
 
--- two boxes or more, as many as the version allows, with names of their own, each as a box is; two numbers in their ranges; and the classes and trains
+-- two boxes or more, as many as the version allows, with names of their own, each as a box is; two numbers in their
+-- ranges; and the classes and trains
 pub record IsPlan (plan : PlanFields) : Type 0 where
   pub version_low : 1 ≤ plan.version
   pub version_high : plan.version ≤ 2
@@ -181,6 +200,6 @@ pub record IsPlan (plan : PlanFields) : Type 0 where
   pub distinct : are_new [] (names_of plan.boxes) ≡ true
   pub each : (b : ℕ) → b < length plan.boxes → IsBox (length plan.boxes) b (box_at plan.boxes b)
   pub trains : All (IsTrain plan.classes plan.boxes) plan.trains
-  pub few_trains : length plan.trains ≤ 5000
+  pub few_trains : length plan.trains ≤ most_plan_trains
   pub trains_named : list_all is_name (names_of_trains plan.trains) ≡ true
   pub trains_distinct : are_new [] (names_of_trains plan.trains) ≡ true

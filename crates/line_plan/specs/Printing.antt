@@ -1,5 +1,6 @@
 -- The one printed spelling of a plan.
-use Rattle.std.specs.Prelude.{ℕ, ◌-◌, List, [], ◌∷◌, ◌++◌, length, map, drop, slice_index_or, Option, None, Some, codes, decimal}
+use Rattle.std.specs.Prelude.{ℕ, ◌-◌, List, [], ◌∷◌, ◌++◌, length, map, drop, slice_index_or, Option, None, Some, codes}
+use Rattle.std.specs.Prelude.{decimal}
 use Rattle.std.specs.List.{flat_map}
 use Rattle.bell_codes.specs.Codes.{code_text}
 use Rattle.block_words.specs.declared.Way.{Way}
@@ -57,9 +58,12 @@ lever_line lever = codes "lever" ∷ decimal lever.number ∷ kind_word lever.ki
 
 -- a signal to a place or off the line; a starter into the section of a way
 abbrev pub arm_words : List (List ℕ) → Signal → To → List (List ℕ)
-arm_words names signal (ends.Place place) = codes "signal" ∷ decimal signal.lever ∷ name_word names signal.from ∷ name_word names place ∷ []
-arm_words names signal ends.Away = codes "signal" ∷ decimal signal.lever ∷ name_word names signal.from ∷ codes "away" ∷ []
-arm_words names signal (ends.Section way) = codes "starter" ∷ way_word way ∷ decimal signal.lever ∷ name_word names signal.from ∷ []
+arm_words names signal (ends.Place place) =
+    codes "signal" ∷ decimal signal.lever ∷ name_word names signal.from ∷ name_word names place ∷ []
+arm_words names signal ends.Away =
+    codes "signal" ∷ decimal signal.lever ∷ name_word names signal.from ∷ codes "away" ∷ []
+arm_words names signal (ends.Section way) =
+    codes "starter" ∷ way_word way ∷ decimal signal.lever ∷ name_word names signal.from ∷ []
 
 abbrev pub signal_line : List (List ℕ) → Signal → List (List ℕ)
 signal_line names signal = arm_words names signal signal.to ++ over_words names signal.over
@@ -96,7 +100,8 @@ row_line row = codes "row" ∷ row_words row
 -- the lines of a box up to those of its starters
 abbrev pub front_lines : BoxFields → List (List (List ℕ))
 front_lines box_plan =
-    (codes "box" ∷ box_plan.name ∷ []) ∷ map place_line box_plan.places ++ map lever_line box_plan.levers ++ map (signal_line box_plan.places) box_plan.signals
+    (codes "box" ∷ box_plan.name ∷ []) ∷ map place_line box_plan.places ++ map lever_line box_plan.levers
+    ++ map (signal_line box_plan.places) box_plan.signals
 
 -- its lines behind those of its berths
 abbrev pub back_lines : BoxFields → List (List (List ℕ))
@@ -126,19 +131,22 @@ class_line table class_plan = codes "class" ∷ class_plan.name ∷ code_word ta
 -- a train with its class, its box and its place
 abbrev pub train_line : PlanFields → TrainPlan → List (List ℕ)
 train_line plan train =
-    codes "train" ∷ train.name ∷ name_word (names_of_classes plan.classes) train.class_no ∷ name_word (names_of plan.boxes) train.box_no
+    codes "train" ∷ train.name ∷ name_word (names_of_classes plan.classes) train.class_no
+    ∷ name_word (names_of plan.boxes) train.box_no
     ∷ name_word (box_at plan.boxes train.box_no).places train.place ∷ []
 
 -- the first four lines
 abbrev pub head_lines : PlanFields → List (List (List ℕ))
 head_lines plan =
-    (codes "plan" ∷ decimal plan.version ∷ []) ∷ (codes "boxes" ∷ decimal (length plan.boxes) ∷ []) ∷ (codes "delay" ∷ decimal plan.delay ∷ [])
+    (codes "plan" ∷ decimal plan.version ∷ []) ∷ (codes "boxes" ∷ decimal (length plan.boxes) ∷ [])
+    ∷ (codes "delay" ∷ decimal plan.delay ∷ [])
     ∷ (codes "looks" ∷ decimal plan.looks ∷ []) ∷ []
 
 -- the lines of a plan: of classes those beyond the first four
 unfoldable pub plan_lines : PlanFields → List (List (List ℕ))
 plan_lines plan =
-    head_lines plan ++ map (class_line plan.codes) (drop 4 plan.classes) ++ flat_map box_lines plan.boxes ++ map (train_line plan) plan.trains ++ (codes "end" ∷ []) ∷ []
+    head_lines plan ++ map (class_line plan.codes) (drop 4 plan.classes) ++ flat_map box_lines plan.boxes
+    ++ map (train_line plan) plan.trains ++ (codes "end" ∷ []) ∷ []
 
 -- ---- texts
 

@@ -1,5 +1,6 @@
 -- Which plan a text gives, or its first fault.
-use Rattle.std.specs.Prelude.{ℕ, ◌+◌, Bool, false, nat_le, ◌&&◌, ◌==◌, List, [], ◌∷◌, ◌++◌, length, Option, Some, None, is_some, Result, Ok, Err, if◌then◌else◌, bytes_eq, codes}
+use Rattle.std.specs.Prelude.{ℕ, ◌+◌, Bool, false, nat_le, ◌&&◌, ◌==◌, List, [], ◌∷◌, ◌++◌, length, Option, Some, None}
+use Rattle.std.specs.Prelude.{is_some, Result, Ok, Err, if◌then◌else◌, bytes_eq, codes}
 use Rattle.std.specs.List.{list_any}
 use Rattle.bell_codes.specs.Table.{code_number}
 use Rattle.rail_text.specs.Texts.{text_onto}
@@ -7,11 +8,12 @@ use Rattle.rail_text.specs.Gives.{◌>>=◌, Fault}
 use Rattle.rail_text.specs.Words.{keyword, number_in}
 use Rattle.rail_text.specs.declared.cause.Cause.{Cause}
 use Rattle.rail_text.specs.declared.cause.Cause.TheVariants as causes
-use Rattle.line_plan.specs.Limits.{most_boxes, most_delay, most_looks, most_bytes}
+use Rattle.line_plan.specs.Limits.{most_boxes, most_plan_trains, most_delay, most_looks, most_bytes}
 use Rattle.line_plan.specs.Frames.{BoxFields, berth_places}
 use Rattle.line_plan.specs.Plans.{PlanFields, names_of, names_of_classes, names_of_trains, no_box, box_at}
 use Rattle.line_plan.specs.LineWords.{counted, word, new_name, number_in_names, code_in}
-use Rattle.line_plan.specs.BoxLines.{place_onto, lever_onto, signal_onto, starter_onto, berth_onto, clear_onto, permissive_onto, track_onto, row_onto}
+use Rattle.line_plan.specs.BoxLines.{place_onto, lever_onto, signal_onto, starter_onto, berth_onto, clear_onto}
+use Rattle.line_plan.specs.BoxLines.{permissive_onto, track_onto, row_onto}
 use Rattle.line_plan.specs.Drafts.{DraftFields, start, rank, all_boxes}
 use Rattle.line_plan.specs.declared.draft.Stage.{Stage}
 use Rattle.line_plan.specs.declared.draft.Stage.TheVariants as stages
@@ -53,7 +55,11 @@ with_class draft name code =
     else if nat_le 200 (length draft.plan.codes) then Err causes.TooMany
     else Ok (record draft {
       stage = stages.Class;
-      plan = record draft.plan { codes = draft.plan.codes ++ code ∷ []; classes = draft.plan.classes ++ record { name = name; code = length draft.plan.codes + 1 } ∷ [] };
+      plan = record draft.plan {
+        codes = draft.plan.codes ++ code ∷ [];
+        classes =
+            draft.plan.classes ++ record { name = name; code = length draft.plan.codes + 1 } ∷ [];
+      };
     })
 
 -- class NAME CODE
@@ -73,12 +79,17 @@ unfoldable pub box_onto : DraftFields → List (List ℕ) → Result DraftFields
 box_onto draft words = do
   two ← counted 2 2 words
   name ← if is_full draft then Err causes.TooMany else new_name (names_of (all_boxes draft)) (word 1 words)
-  Ok (record draft { stage = stages.Box; plan = record draft.plan { boxes = all_boxes draft }; here = record no_box { name = name } })
+  Ok (record draft {
+    stage = stages.Box;
+    plan = record draft.plan { boxes = all_boxes draft };
+    here = record no_box { name = name };
+  })
 
 -- a place where a train may be brought: no berth
 unfoldable pub brought_in : BoxFields → List ℕ → Result ℕ Cause
 brought_in box_plan text =
-    number_in_names box_plan.places text >>= (λ place. if list_any (λ berth. berth == place) (berth_places box_plan) then Err causes.BerthEntered else Ok place)
+    number_in_names box_plan.places text >>=
+    (λ place. if list_any (λ berth. berth == place) (berth_places box_plan) then Err causes.BerthEntered else Ok place)
 
 -- the draft when all its boxes are complete
 abbrev pub closed : Stage → DraftFields → DraftFields
@@ -87,8 +98,14 @@ closed stage draft = record draft { stage = stage; plan = record draft.plan { bo
 -- a train more
 unfoldable pub with_train : DraftFields → List ℕ → ℕ → ℕ → ℕ → Result DraftFields Cause
 with_train draft name class_no box_no place =
-    if nat_le 5000 (length draft.plan.trains) then Err causes.TooMany
-    else Ok (record draft { plan = record draft.plan { trains = draft.plan.trains ++ record { name = name; class_no = class_no; box_no = box_no; place = place } ∷ [] } })
+    if nat_le most_plan_trains (length draft.plan.trains) then Err causes.TooMany
+    else Ok (record draft {
+      plan
+          = record draft.plan {
+            trains = draft.plan.trains
+                ++ record { name = name; class_no = class_no; box_no = box_no; place = place } ∷ [];
+          };
+    })
 
 -- train NAME CLASS BOX PLACE, where all boxes are complete
 unfoldable pub train_in : DraftFields → List (List ℕ) → Result DraftFields Cause
@@ -139,8 +156,9 @@ line_kind text =
 abbrev pub between : ℕ → ℕ → Stage → Bool
 between low high last = nat_le low (rank last) && nat_le (rank last) high
 
--- Which kinds of lines a line of this kind may follow. The first four follow each other; classes stand behind these, and each box behind them or behind another
--- box; the lines of a box stand behind it, kinds in their order; trains and the end stand anywhere behind the first four.
+-- Which kinds of lines a line of this kind may follow. The first four follow each other; classes stand behind these,
+-- and each box behind them or behind another box; the lines of a box stand behind it, kinds in their order; trains and
+-- the end stand anywhere behind the first four.
 unfoldable pub may_follow : Stage → Stage → Bool
 may_follow stages.Start last = false
 may_follow stages.Plan last = between 0 0 last
@@ -184,7 +202,9 @@ box_with stages.Ended boxes b here words = Err causes.WrongKeyword
 
 -- a line of this kind of the box whose lines are being read
 unfoldable pub here_onto : Stage → DraftFields → List (List ℕ) → Result DraftFields Cause
-here_onto kind draft words = box_with kind draft.count (length draft.plan.boxes) draft.here words >>= (λ here. Ok (record draft { stage = kind; here = here }))
+here_onto kind draft words =
+    box_with kind draft.count (length draft.plan.boxes) draft.here words >>=
+    (λ here. Ok (record draft { stage = kind; here = here }))
 
 -- what a line of this kind makes of the plan so far
 unfoldable pub kind_onto : Stage → DraftFields → List (List ℕ) → Result DraftFields Cause
@@ -212,7 +232,8 @@ kind_onto stages.Row draft words = here_onto stages.Row draft words
 -- a line of this kind, if it may stand here
 abbrev pub if_it_may : DraftFields → List (List ℕ) → Option Stage → Result DraftFields Cause
 if_it_may draft words None = Err causes.WrongKeyword
-if_it_may draft words (Some kind) = if may_follow kind draft.stage then kind_onto kind draft words else Err causes.WrongKeyword
+if_it_may draft words (Some kind) =
+    if may_follow kind draft.stage then kind_onto kind draft words else Err causes.WrongKeyword
 
 -- the line `end` has stood
 abbrev pub has_ended : Stage → Bool
@@ -220,8 +241,10 @@ has_ended stage = rank stage == 17
 
 -- what the words of a line make of the plan so far
 unfoldable pub words_onto : DraftFields → List (List ℕ) → Result DraftFields Cause
-words_onto draft words = if has_ended draft.stage then Err causes.AfterEnd else if_it_may draft words (line_kind (keyword words))
+words_onto draft words =
+    if has_ended draft.stage then Err causes.AfterEnd else if_it_may draft words (line_kind (keyword words))
 
 -- the plan that the bytes spell, or the first fault
 unfoldable pub plan_of : List ℕ → Result PlanFields Fault
-plan_of bytes = text_onto words_onto (λ draft. has_ended draft.stage) most_bytes start bytes >>= (λ draft. Ok draft.plan)
+plan_of bytes = text_onto words_onto (λ draft. has_ended draft.stage) most_bytes start bytes >>=
+    (λ draft. Ok draft.plan)

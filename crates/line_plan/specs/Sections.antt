@@ -44,10 +44,12 @@ limit_at (Some berth) = most_of berth.permissive
 abbrev pub limit_of : PlanFields → Section → ℕ
 limit_of plan section = limit_at (section_berth plan section)
 
--- the sections of so many pairs of neighbours, from box b and the next on: of each pair the down line's, then the up line's
+-- the sections of so many pairs of neighbours, from box b and the next on: of each pair the down line's, then the up
+-- line's
 abbrev pub sections_from : ℕ → ℕ → List Section
 sections_from b zero = []
-sections_from b (suc pairs) = record { rear = b; way = Down } ∷ record { rear = b + 1; way = Up } ∷ sections_from (b + 1) pairs
+sections_from b (suc pairs) =
+    record { rear = b; way = Down } ∷ record { rear = b + 1; way = Up } ∷ sections_from (b + 1) pairs
 
 -- the sections of a line, in the order in which they are printed
 abbrev pub sections_of : PlanFields → List Section

@@ -1,5 +1,6 @@
 -- Which texts spell a plan: a relation on whole texts.
-use Rattle.std.specs.Prelude.{◌≡◌, ℕ, ◌≤◌, Bool, true, ◌&&◌, nat_le, List, [], ◌∷◌, ◌++◌, length, map, drop, codes, if◌then◌else◌}
+use Rattle.std.specs.Prelude.{◌≡◌, ℕ, ◌≤◌, Bool, true, ◌&&◌, nat_le, List, [], ◌∷◌, ◌++◌, length, map, drop, codes}
+use Rattle.std.specs.Prelude.{if◌then◌else◌}
 use Rattle.std.specs.List.{list_all}
 use Rattle.rail_text.specs.Lines.{Line, lines_of, words_of}
 use Rattle.rail_text.specs.Forms.{is_printable, is_skipped}
@@ -8,7 +9,8 @@ use Rattle.block_words.specs.declared.Way.TheVariants.{Up, Down}
 use Rattle.line_plan.specs.Limits.{most_bytes}
 use Rattle.line_plan.specs.Frames.{BoxFields, berth_of}
 use Rattle.line_plan.specs.Plans.{PlanFields}
-use Rattle.line_plan.specs.Printing.{berth_lines, clear_lines, permissive_lines, front_lines, back_lines, head_lines, class_line, train_line}
+use Rattle.line_plan.specs.Printing.{berth_lines, clear_lines, permissive_lines, front_lines, back_lines, head_lines}
+use Rattle.line_plan.specs.Printing.{class_line, train_line}
 
 -- a line with its end, of at most 200 bytes, all of which may stand in a line
 abbrev pub is_formed : Line → Bool
@@ -58,10 +60,11 @@ boxes_lines_by (first ∷ firsts) (box_plan ∷ boxes) = box_lines_by first box_
 -- the words of a plan's lines, where these ways stand first in the boxes
 unfoldable pub plan_lines_by : List FirstWays → PlanFields → List (List (List ℕ))
 plan_lines_by firsts plan =
-    head_lines plan ++ map (class_line plan.codes) (drop 4 plan.classes) ++ boxes_lines_by firsts plan.boxes ++ map (train_line plan) plan.trains ++ (codes "end" ∷ []) ∷ []
+    head_lines plan ++ map (class_line plan.codes) (drop 4 plan.classes) ++ boxes_lines_by firsts plan.boxes
+    ++ map (train_line plan) plan.trains ++ (codes "end" ∷ []) ∷ []
 
--- The text of a plan: it keeps within its limit, each line has its form, and the lines that aren't skipped have the words of the plan's lines,
--- where in each box either way may stand first.
+-- The text of a plan: it keeps within its limit, each line has its form, and the lines that aren't skipped have the
+-- words of the plan's lines, where in each box either way may stand first.
 pub record Spells (bytes : List ℕ) (plan : PlanFields) : Type 0 where
   pub short : length bytes ≤ most_bytes
   pub formed : list_all is_formed (lines_of bytes) ≡ true

@@ -1,18 +1,24 @@
 //! What the lines of a box make of the box.
 
-ghost use Rattle.std.specs.Prelude.{◌≡◌, ◌<◌, ◌==◌, ◌++◌, [], ◌∷◌, IfOk, bytes_eq, drop, map, is_some, false, option_map};
+ghost use Rattle.std.specs.Prelude.{◌≡◌, ◌<◌, ◌==◌, ◌++◌, [], ◌∷◌, IfOk, bytes_eq, drop, map, is_some, false};
+ghost use Rattle.std.specs.Prelude.{option_map};
 ghost use Rattle.std.specs.List.{join_with_byte, list_any};
 ghost use Rattle.rail_text.specs.Gives.{GivesLine};
 ghost use Rattle.rail_text.specs.Lines.{words_of};
 ghost use Rattle.locking_table.specs.Reading.{row_of};
 ghost use Rattle.locking_table.specs.Sound.{IsRow, all_differ, levers_of};
-ghost use Rattle.line_plan.specs.Frames.{begins_at, berth_places, end_places, entered_by, frame_size, homes_of, is_entered, kind_of, place_of, places_of, signal_of};
-ghost use Rattle.line_plan.specs.BoxLines.{all_worked, arm_in, berth_at, berth_onto, clear_onto, clearing_in, coming_in, counted_over, leaving_in, lever_onto, new_place, next_number, over_in, permissive_onto, place_onto, row_onto, signal_onto, spelled_row, starter_onto, track_in, track_onto, with_signal, worked};
+ghost use Rattle.line_plan.specs.Frames.{begins_at, berth_places, end_places, entered_by, frame_size, homes_of};
+ghost use Rattle.line_plan.specs.Frames.{is_entered, kind_of, place_of, places_of, signal_of};
+ghost use Rattle.line_plan.specs.BoxLines.{all_worked, arm_in, berth_at, berth_onto, clear_onto, clearing_in};
+ghost use Rattle.line_plan.specs.BoxLines.{coming_in, counted_over, leaving_in, lever_onto, new_place, next_number};
+ghost use Rattle.line_plan.specs.BoxLines.{over_in, permissive_onto, place_onto, row_onto, signal_onto, spelled_row};
+ghost use Rattle.line_plan.specs.BoxLines.{starter_onto, track_in, track_onto, with_signal, worked};
 
 use crate::berth::Berth;
 use crate::box_plan::BoxPlan;
 use crate::frame::{Kind, Lever};
 use crate::items::Items;
+use crate::limits::{MOST_PLACES, MOST_ROWS};
 use crate::line_words::{
     counted, end_in, kind_in, lever_in, new_name, number_in_names, places_from, way_in, word,
     working_in,
@@ -20,15 +26,9 @@ use crate::line_words::{
 use crate::signal::{Signal, To, TrackLock};
 use crate::ways::{comes_in, leaves};
 use block_words::Way;
-use locking_table::{Cond, Row, RowError, read_row};
+use locking_table::{Cond, MOST_LEVERS, Row, RowError, read_row};
 use rail_text::{Cause, LineFault, NoMemory, TextLine, number_in};
 use std::alloc::Global;
-
-/// The most places of a box.
-pub const MOST_PLACES: usize = 64;
-
-/// The most rows of a box.
-pub const MOST_ROWS: usize = 400;
 
 // ---- places and levers
 
@@ -65,7 +65,7 @@ fn next_number(here: &BoxPlan, word: &[u8]) -> Result<u32, LineFault>
     ensures gives { GivesLine (λ number. number) result (next_number here.now word.now) }
     ensures above { IfOk result (λ number. frame_size here.now.levers < number) }
 {
-    let number = number_in(word, 1, 120)?;
+    let number = number_in(word, 1, MOST_LEVERS)?;
     if here.frame_size() < number {
         Ok(number)
     } else {

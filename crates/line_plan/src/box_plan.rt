@@ -49,7 +49,16 @@ impl Model for BoxPlan {
 
     ghost Value = { BoxFields };
 
-    ghost view = { λ b. record { name = b.name; places = b.places; levers = b.levers; signals = b.signals; berth_up = b.berth_up; berth_down = b.berth_down; tracks = b.tracks; rows = b.table } };
+    ghost view = { λ b. record {
+      name = b.name;
+      places = b.places;
+      levers = b.levers;
+      signals = b.signals;
+      berth_up = b.berth_up;
+      berth_down = b.berth_down;
+      tracks = b.tracks;
+      rows = b.table;
+    } };
 
     ghost invariant = { λ b. (b.lever_numbers ≡ map (λ lever. lever.number) b.levers)
         × (b.signal_levers ≡ map (λ signal. signal.lever) b.signals)
@@ -59,7 +68,6 @@ impl Model for BoxPlan {
 
 impl BoxPlan {
     /// The lever with this number; none where the frame doesn't have it.
-
     pub fn lever(&self, number: u32) -> Option<&Lever>
         ensures { option_map (λ lever. lever.now) result ≡ lever_of self.now number }
     {
@@ -77,7 +85,6 @@ impl BoxPlan {
     }
 
     /// The number of the last lever, which is the greatest; 0 without levers.
-
     pub fn frame_size(&self) -> u32
         ensures { result ≡ frame_size self.now.levers }
     {
@@ -88,7 +95,6 @@ impl BoxPlan {
     }
 
     /// The signal or starter that a lever works.
-
     pub fn signal(&self, lever: u32) -> Option<&Signal>
         ensures { option_map (λ signal. signal.now) result ≡ signal_of self.now lever }
     {
@@ -119,7 +125,6 @@ impl BoxPlan {
     }
 
     /// The places whose occupation locks a lever.
-
     pub fn track(&self, lever: u32) -> &[u32]
         ensures { result.now ≡ track_of self.now lever }
     {

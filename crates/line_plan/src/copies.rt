@@ -1,6 +1,7 @@
 //! Copies of the parts of a plan.
 
-ghost use Rattle.std.specs.Prelude.{◌≡◌, ◌-◌, ◌<◌, ◌^◌, [], ◌∷◌, ◌++◌, length, map, option_map, is_ok, IfOk, OnOk, IsTrue};
+ghost use Rattle.std.specs.Prelude.{◌≡◌, ◌-◌, ◌<◌, ◌^◌, [], ◌∷◌, ◌++◌, length, map, option_map, is_ok, IfOk, OnOk};
+ghost use Rattle.std.specs.Prelude.{IsTrue};
 ghost use Rattle.locking_table.specs.Sound.{IsRow, all_differ};
 ghost use Rattle.line_plan.specs.Frames.{are_rising};
 

@@ -4,6 +4,7 @@ use crate::box_plan::BoxPlan;
 use crate::growing::{add_name, label_of};
 use crate::items::Items;
 use crate::label::Label;
+use crate::limits::MOST_PLAN_TRAINS;
 use crate::plan::{Class, Plan, TrainPlan};
 use bell_codes::{Code, CodeNo, CodeTable, EMPTY, EXPRESS, LIGHT, ORDINARY};
 use rail_text::{Cause, LineFault, Names, NoMemory};
@@ -72,8 +73,8 @@ impl Stage {
     }
 }
 
-/// What is read so far: the kind of the last line, the number of boxes that is announced, the fields of the plan with the boxes that are complete, and
-/// the box whose lines are being read.
+/// What is read so far: the kind of the last line, the number of boxes that is announced, the fields of the plan with
+/// the boxes that are complete, and the box whose lines are being read.
 #[derive(Drop)]
 pub struct PlanDraft {
     pub stage: Stage,
@@ -99,16 +100,26 @@ impl Model for PlanDraft {
 
     ghost Value = { DraftFields };
 
-    ghost view = { λ d. record { stage = d.stage; count = d.count; plan = record { version = d.version; delay = d.delay; looks = d.looks; codes = d.codes; classes = d.classes.items; boxes = d.boxes.items; trains = d.trains.items }; here = d.here } };
+    ghost view = { λ d. record {
+      stage = d.stage;
+      count = d.count;
+      plan = record {
+        version = d.version;
+        delay = d.delay;
+        looks = d.looks;
+        codes = d.codes;
+        classes = d.classes.items;
+        boxes = d.boxes.items;
+        trains = d.trains.items;
+      };
+      here = d.here;
+    } };
 
     ghost invariant = { λ d. (d.class_names ≡ names_of_classes d.classes.items)
         × (d.box_names ≡ names_of (boxes_with d.stage d.boxes.items d.here))
         × (d.train_names ≡ names_of_trains d.trains.items)
         × (length d.class_names + 6 ≤ length d.codes) };
 }
-
-/// The most trains of a plan.
-pub const MOST_TRAINS: usize = 5000;
 
 ghost use Rattle.std.specs.Prelude.{◌≡◌, ◌<◌, ◌+◌, ◌++◌, [], ◌∷◌, length, IfOk, OnErr, None, vec_len, vec_capacity};
 ghost use Rattle.bell_codes.specs.Table.{code_number, opening_codes};
@@ -295,7 +306,7 @@ impl PlanDraft {
         requires { list_any (bytes_eq name.now) (names_of_trains self.old.plan.trains) ≡ false }
         ensures { GivesLine (λ _. self.new) result (with_train self.old name.now class_no box_no place) }
     {
-        if self.trains.len() >= MOST_TRAINS {
+        if self.trains.len() >= MOST_PLAN_TRAINS {
             return Err(LineFault::Cause(Cause::TooMany));
         }
         let label = label_of(self.alloc, name)?;

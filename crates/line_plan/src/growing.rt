@@ -1,11 +1,13 @@
 //! A box that grows line by line.
 
-ghost use Rattle.std.specs.Prelude.{◌≡◌, ◌<◌, ◌-◌, ◌^◌, [], ◌∷◌, ◌++◌, length, is_some, false, IfOk, OnOk, OnErr, None, Some, bytes_eq};
+ghost use Rattle.std.specs.Prelude.{◌≡◌, ◌<◌, ◌-◌, ◌^◌, [], ◌∷◌, ◌++◌, length, is_some, false, IfOk, OnOk, OnErr, None};
+ghost use Rattle.std.specs.Prelude.{Some, bytes_eq};
 ghost use Rattle.locking_table.specs.Sound.{IsRow};
 ghost use Rattle.std.specs.List.{list_any};
 ghost use Rattle.std.specs.Prelude.{◌==◌};
 ghost use Rattle.line_plan.specs.BoxLines.{cleared, permitted, with_berth};
 ghost use Rattle.line_plan.specs.Frames.{frame_size, signal_of};
+ghost use Rattle.line_plan.specs.Limits.{most_places, most_rows};
 ghost use Rattle.line_plan.specs.Plans.{no_box};
 
 use crate::berth::Berth;
@@ -47,7 +49,8 @@ fn grow<T: Drop>(
     number: u32,
 ) -> Result<(), NoMemory>
     requires { list_any (λ n. n == number) numbers.old ≡ false }
-    ensures ok { OnOk result ((list.new.items ≡ list.old.items ++ item ∷ []) × (numbers.new ≡ numbers.old ++ number ∷ [])) }
+    ensures ok { OnOk result
+        ((list.new.items ≡ list.old.items ++ item ∷ []) × (numbers.new ≡ numbers.old ++ number ∷ [])) }
     ensures err { OnErr result ((list.new.items ≡ list.old.items) × (numbers.new ≡ numbers.old)) }
 {
     list.reserve(1)?;
@@ -78,7 +81,7 @@ impl BoxPlan {
 
     /// A place more, whose name is new.
     pub fn add_place(&mut self, name: &str) -> Result<(), NoMemory>
-        requires few { length self.old.places < 64 }
+        requires few { length self.old.places < most_places }
         requires new { list_any (bytes_eq name.now) self.old.places ≡ false }
         ensures ok { OnOk result (self.new ≡ record self.old { places = self.old.places ++ name.now ∷ [] }) }
         ensures err { OnErr result (self.new ≡ self.old) }
@@ -176,7 +179,7 @@ impl BoxPlan {
 
     /// A row more.
     pub fn add_row(&mut self, row: Row) -> Result<(), NoMemory>
-        requires few { length self.old.rows < 400 }
+        requires few { length self.old.rows < most_rows }
         requires row { IsRow row }
         ensures ok { OnOk result (self.new ≡ record self.old { rows = self.old.rows ++ row ∷ [] }) }
         ensures err { OnErr result (self.new ≡ self.old) }

@@ -5,7 +5,9 @@ ghost use Rattle.rail_text.specs.Gives.{GivesLine};
 ghost use Rattle.rail_text.specs.Lines.{words_of};
 ghost use Rattle.line_plan.specs.Drafts.{behind_box, in_box};
 ghost use Rattle.line_plan.specs.Plans.{box_at};
-ghost use Rattle.line_plan.specs.Reading.{box_onto, box_with, boxes_onto, brought_in, class_onto, delay_onto, end_onto, here_onto, kind_onto, may_follow, looks_onto, plan_onto, train_in, train_onto};
+ghost use Rattle.line_plan.specs.Reading.{box_onto, box_with, boxes_onto, brought_in, class_onto, delay_onto, end_onto};
+ghost use Rattle.line_plan.specs.Reading.{here_onto, kind_onto, may_follow, looks_onto, plan_onto, train_in};
+ghost use Rattle.line_plan.specs.Reading.{train_onto};
 
 use crate::box_lines::{
     berth_line, clear_line, is_berth, lever_line, permissive_line, place_line, row_line,
@@ -165,7 +167,8 @@ fn box_with(
     here: &mut BoxPlan,
     line: &TextLine<'_>,
 ) -> Result<(), LineFault>
-    ensures gives { GivesLine (λ _. here.new) result (box_with kind boxes box_no here.old (words_of line.now.text.now)) }
+    ensures gives { GivesLine (λ _. here.new) result
+        (box_with kind boxes box_no here.old (words_of line.now.text.now)) }
     ensures name { here.new.name ≡ here.old.name }
 {
     match kind {

@@ -1,4 +1,5 @@
-//! The plan of a line: its boxes, and the limits under which the signalmen work. Plans are read from texts and printed as texts.
+//! The plan of a line: its boxes, and the limits under which the signalmen work. Plans are read from texts and printed
+//! as texts.
 #![tactic(auto)]
 
 mod berth;
@@ -28,7 +29,9 @@ pub use box_plan::BoxPlan;
 pub use frame::{Kind, Lever};
 pub use items::Items;
 pub use label::Label;
-pub use limits::{MOST_LOOKS, PLAN_LIMIT, most_boxes, most_delay};
+pub use limits::{
+    MOST_LOOKS, MOST_PLACES, MOST_PLAN_TRAINS, MOST_ROWS, PLAN_LIMIT, most_boxes, most_delay,
+};
 pub use numbers::Numbers;
 pub use plan::{Class, Plan, TrainPlan};
 pub use printing::{kind_word, print_plan, way_word};
@@ -38,6 +41,3 @@ pub use signal::{Signal, To, TrackLock};
 pub use spelling::{printed_is_read, spelled_is_read};
 pub use upgrading::upgrade;
 pub use ways::{comes_in, has_neighbour, leaves};
-
-#[cfg(test)]
-mod tests;

@@ -4,7 +4,8 @@ ghost use Rattle.std.specs.Prelude.{◌≡◌, [], IfOk, bytes_eq, drop, false};
 ghost use Rattle.std.specs.List.{list_any};
 ghost use Rattle.rail_text.specs.Gives.{GivesLine};
 ghost use Rattle.rail_text.specs.Lines.{words_of};
-ghost use Rattle.line_plan.specs.LineWords.{code_in, counted, end_in, kind_in, lever_in, new_name, number_in_names, places_onto, way_in, word, working_in};
+ghost use Rattle.line_plan.specs.LineWords.{code_in, counted, end_in, kind_in, lever_in, new_name, number_in_names};
+ghost use Rattle.line_plan.specs.LineWords.{places_onto, way_in, word, working_in};
 
 use crate::box_plan::BoxPlan;
 use crate::frame::{Kind, Lever};
@@ -12,6 +13,7 @@ use crate::items::Items;
 use crate::signal::To;
 use bell_codes::{Code, read_code};
 use block_words::Way;
+use locking_table::MOST_LEVERS;
 use rail_text::{Cause, LineFault, Names, TextLine, is_name, name_in, number_in};
 use std::alloc::Global;
 
@@ -144,7 +146,7 @@ pub fn end_in(places: &Names, word: &[u8]) -> Result<To, LineFault>
 pub fn lever_in(here: &BoxPlan, word: &[u8]) -> Result<Lever, LineFault>
     ensures { GivesLine (λ lever. lever) result (lever_in here.now word.now) }
 {
-    let number = number_in(word, 1, 120)?;
+    let number = number_in(word, 1, MOST_LEVERS)?;
     match here.lever(number) {
         Some(lever) => Ok(*lever),
         None => Err(LineFault::Cause(Cause::UnknownLever)),

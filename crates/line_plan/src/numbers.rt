@@ -1,6 +1,7 @@
 //! Numbers that are found without a scan.
 
-ghost use Rattle.std.specs.Prelude.{◌≡◌, ◌+◌, ◌==◌, ◌<◌, ◌^◌, [], ◌∷◌, ◌++◌, length, position, false, IsTrue, OnOk, OnErr};
+ghost use Rattle.std.specs.Prelude.{◌≡◌, ◌+◌, ◌==◌, ◌<◌, ◌^◌, [], ◌∷◌, ◌++◌, length, position, false, IsTrue, OnOk};
+ghost use Rattle.std.specs.Prelude.{OnErr};
 ghost use Rattle.std.specs.List.{list_any};
 ghost use Rattle.locking_table.specs.Sound.{all_differ};
 
@@ -34,7 +35,6 @@ impl Numbers {
     }
 
     /// Adds a number that isn't there.
-
     pub fn add(&mut self, number: u32) -> Result<(), NoMemory>
         requires { list_any (λ n. n == number) self.old ≡ false }
         ensures ok { OnOk result (self.new ≡ self.old ++ number ∷ []) }

@@ -1,7 +1,7 @@
 //! A plan.
 
 ghost use Rattle.std.specs.Prelude.{◌≡◌, ◌-◌, ◌<◌, length, IsTrue, option_map, IfSome};
-ghost use Rattle.line_plan.specs.Plans.{box_at, box_name, is_train, train_at};
+ghost use Rattle.line_plan.specs.Plans.{IsPlan, box_at, box_name, is_train, train_at};
 
 use crate::box_plan::BoxPlan;
 use crate::items::Items;
@@ -65,15 +65,39 @@ impl Model for Plan {
 
     ghost Value = { PlanFields };
 
-    ghost view = { λ plan. record { version = plan.version; delay = plan.delay; looks = plan.looks; codes = plan.codes; classes = plan.classes; boxes = plan.boxes; trains = plan.trains } };
+    ghost view = { λ plan. record {
+      version = plan.version;
+      delay = plan.delay;
+      looks = plan.looks;
+      codes = plan.codes;
+      classes = plan.classes;
+      boxes = plan.boxes;
+      trains = plan.trains;
+    } };
 
-    ghost invariant = { λ plan. IsPlan (record { version = plan.version; delay = plan.delay; looks = plan.looks; codes = plan.codes; classes = plan.classes; boxes = plan.boxes; trains = plan.trains })
+    ghost invariant = { λ plan. IsPlan
+        (record {
+          version = plan.version;
+          delay = plan.delay;
+          looks = plan.looks;
+          codes = plan.codes;
+          classes = plan.classes;
+          boxes = plan.boxes;
+          trains = plan.trains;
+        })
         × (plan.class_names ≡ names_of_classes plan.classes)
         × (plan.box_names ≡ names_of plan.boxes)
         × (plan.train_names ≡ names_of_trains plan.trains) };
 }
 
 impl Plan {
+    /// Shows a proof the conditions that the type of a plan keeps: every plan meets them.
+    pub fn meets_conditions(&self)
+        ensures { IsPlan self.now }
+    {
+        let _ = &self.version;
+    }
+
     /// The name of a box.
     #[tactic(auto, using(crate::proofs::Named::name_at))]
     pub fn box_name(&self, box_no: u32) -> &str

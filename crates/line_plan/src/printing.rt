@@ -5,7 +5,11 @@ ghost use Rattle.std.specs.List.{flat_map};
 ghost use Rattle.locking_table.specs.Sound.{IsRow};
 ghost use Rattle.locking_table.specs.Words.{joined, spaced};
 ghost use Rattle.line_plan.specs.Plans.{box_at};
-ghost use Rattle.line_plan.specs.Printing.{arm_words, back_lines, berth_lines, box_lines, class_line, clear_lines, clearing_lines, code_word, front_lines, head_lines, kind_word, lever_line, most_lines, name_word, over_words, permissive_lines, place_line, place_words, plan_text, printed, printed_words, row_line, signal_line, track_line, train_line, way_lines, way_word};
+ghost use Rattle.line_plan.specs.Printing.{arm_words, back_lines, berth_lines, box_lines, class_line, clear_lines};
+ghost use Rattle.line_plan.specs.Printing.{clearing_lines, code_word, front_lines, head_lines, kind_word, lever_line};
+ghost use Rattle.line_plan.specs.Printing.{most_lines, name_word, over_words, permissive_lines, place_line};
+ghost use Rattle.line_plan.specs.Printing.{place_words, plan_text, printed, printed_words, row_line, signal_line};
+ghost use Rattle.line_plan.specs.Printing.{track_line, train_line, way_lines, way_word};
 
 use crate::berth::Berth;
 use crate::box_plan::BoxPlan;
@@ -199,7 +203,8 @@ fn put_berth(
     way: Way,
     berth: Option<&Berth>,
 ) -> Result<(), NoMemory>
-    ensures { OnOk result (out.new.items ≡ out.old.items ++ printed (berth_lines places.now way (option_map (λ berth. berth.now) berth.entry))) }
+    ensures { OnOk result (out.new.items
+        ≡ out.old.items ++ printed (berth_lines places.now way (option_map (λ berth. berth.now) berth.entry))) }
 {
     let Some(berth) = berth else {
         return Ok(());
@@ -237,7 +242,8 @@ fn put_clear(
     way: Way,
     berth: Option<&Berth>,
 ) -> Result<(), NoMemory>
-    ensures { OnOk result (out.new.items ≡ out.old.items ++ printed (clear_lines places.now way (option_map (λ berth. berth.now) berth.entry))) }
+    ensures { OnOk result (out.new.items
+        ≡ out.old.items ++ printed (clear_lines places.now way (option_map (λ berth. berth.now) berth.entry))) }
 {
     match berth {
         Some(berth) => put_clearing(out, places, way, berth.clearing.as_slice()),
@@ -272,7 +278,8 @@ fn put_permissive(
     way: Way,
     berth: Option<&Berth>,
 ) -> Result<(), NoMemory>
-    ensures { OnOk result (out.new.items ≡ out.old.items ++ printed (permissive_lines way (option_map (λ berth. berth.now) berth.entry))) }
+    ensures { OnOk result (out.new.items
+        ≡ out.old.items ++ printed (permissive_lines way (option_map (λ berth. berth.now) berth.entry))) }
 {
     match berth {
         Some(berth) => put_most(alloc, out, way, berth.permissive),
@@ -466,7 +473,8 @@ fn put_class(
 // Classes beyond the first four.
 #[tactic(auto, using(crate::proofs::Printed::print_rules))]
 fn put_classes(alloc: Global, out: &mut Vec<u8>, plan: &Plan) -> Result<(), NoMemory>
-    ensures { OnOk result (out.new.items ≡ out.old.items ++ printed (map (class_line plan.now.codes) (drop 4 plan.now.classes))) }
+    ensures { OnOk result (out.new.items
+        ≡ out.old.items ++ printed (map (class_line plan.now.codes) (drop 4 plan.now.classes))) }
 {
     let classes = plan.classes.as_slice();
     for i in 4..classes.len() {

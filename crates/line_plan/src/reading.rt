@@ -125,7 +125,8 @@ ghost use Rattle.line_plan.specs.Spelled.{Spells};
 // What the lines of a text make of the draft of a plan.
 #[tactic(auto, using(crate::proofs::Drafted::reading_rules))]
 fn draft_in(alloc: Global, bytes: &[u8]) -> Result<PlanDraft, ReadError>
-    ensures reads { GivesText (λ draft. draft) result (text_onto words_onto (λ draft. has_ended draft.stage) most_bytes start bytes.now) }
+    ensures reads { GivesText (λ draft. draft) result
+        (text_onto words_onto (λ draft. has_ended draft.stage) most_bytes start bytes.now) }
     ensures ended { IfOk result (λ draft. has_ended draft.stage ≡ true) }
 {
     let mut draft = PlanDraft::new(alloc)?;
@@ -150,14 +151,15 @@ fn plan_in(alloc: Global, bytes: &[u8]) -> Result<Plan, ReadError>
 /// The plan that the bytes spell, or the line and the cause of the first fault. Lines are numbered from 1, and each is
 /// tested in this order:
 ///
-/// - `Cut` where it has no end, `BadByte`, `LongLine` above 200 bytes; then an empty line and one that begins with `#` are
-///   passed over; `Spacing` where a word is empty;
+/// - `Cut` where it has no end, `BadByte`, `LongLine` above 200 bytes; then an empty line and one that begins with `#`
+///   are passed over; `Spacing` where a word is empty;
 /// - `AfterEnd` behind the line `end`, else `WrongKeyword` where its first word may not stand there;
-/// - `WordCount`, but for the line `row`; then its words from left to right, each by the cause of its form and then by its
-///   conditions; and last what the line asks as a whole. `box` has first of all `TooMany`, `train` and `end` `TooFewBoxes`.
+/// - `WordCount`, but for the line `row`; then its words from left to right, each by the cause of its form and then by
+///   its conditions; and last what the line asks as a whole. `box` has first of all `TooMany`, `train` and `end`
+///   `TooFewBoxes`.
 ///
-/// A text above `PLAN_LIMIT` bytes is `TooLong` at line 0, and one that has no line `end` is `NoEnd` behind its last line.
-/// What is read meets every condition of a plan. A text that spells a plan is refused for want of memory alone.
+/// A text above `PLAN_LIMIT` bytes is `TooLong` at line 0, and one that has no line `end` is `NoEnd` behind its last
+/// line. What is read meets every condition of a plan. A text that spells a plan is refused for want of memory alone.
 #[tactic(auto, using(crate::proofs::SpellLaws::reader_laws))]
 pub fn read_plan(alloc: Global, bytes: &[u8]) -> Result<Plan, ReadError>
     ensures exact { GivesText (λ plan. plan) result (plan_of bytes.now) }

@@ -10,7 +10,8 @@ ghost use Rattle.line_plan.specs.Spelled.{Spells};
 /// A law: what is printed of a plan is read as that plan, where it keeps within the limit of a text.
 #[tactic(auto, using(crate::proofs::SpelledPlans::printed_laws))]
 pub fn printed_is_read()
-    ensures { (plan : PlanFields) → IsPlan plan → length (plan_text plan) ≤ most_bytes → plan_of (plan_text plan) ≡ Ok plan }
+    ensures { (plan : PlanFields) → IsPlan plan → length (plan_text plan) ≤ most_bytes
+        → plan_of (plan_text plan) ≡ Ok plan }
 {}
 
 /// A law: a text is read as a plan exactly where it spells that plan.

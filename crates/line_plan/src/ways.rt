@@ -5,7 +5,8 @@ ghost use Rattle.line_plan.specs.Ways.{comes_in, has_neighbour, leaves};
 
 use block_words::Way;
 
-/// Whether box `box_no` of so many has a neighbour on that side. The first box has none on its up side, the last none on its down side.
+/// Whether box `box_no` of so many has a neighbour on that side. The first box has none on its up side, the last none
+/// on its down side.
 pub fn has_neighbour(boxes: u32, box_no: u32, side: Way) -> bool
     ensures { result ≡ has_neighbour boxes box_no side }
 {
@@ -15,14 +16,16 @@ pub fn has_neighbour(boxes: u32, box_no: u32, side: Way) -> bool
     }
 }
 
-/// Whether the line of that way leaves a box to a neighbour: the down line leaves every box but the last, the up line every box but the first.
+/// Whether the line of that way leaves a box to a neighbour: the down line leaves every box but the last, the up line
+/// every box but the first.
 pub fn leaves(boxes: u32, box_no: u32, way: Way) -> bool
     ensures { result ≡ leaves boxes box_no way }
 {
     has_neighbour(boxes, box_no, way)
 }
 
-/// Whether the line of that way comes into a box from a neighbour: the down line into every box but the first, the up line into every box but the last.
+/// Whether the line of that way comes into a box from a neighbour: the down line into every box but the first, the up
+/// line into every box but the last.
 pub fn comes_in(boxes: u32, box_no: u32, way: Way) -> bool
     ensures { result ≡ comes_in boxes box_no way }
 {

@@ -9,7 +9,7 @@ use Rattle.line_law.specs.declared.call.Entry.{Entry}
 use Rattle.line_law.specs.History.{calls_of}
 use Rattle.line_law.specs.Known.{KnowsCall}
 use Rattle.line_law.specs.Serial.{AreCalls}
-use Rattle.script_text.specs.Told.{IsSpelled}
+use Rattle.script_text.specs.Entries.{IsSpelled}
 use Rattle.line_report.specs.Asked.{AreAsked}
 use Rattle.line_report.specs.Spelled.{IsAnswered}
 

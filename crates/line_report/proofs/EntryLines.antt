@@ -31,7 +31,7 @@ use Rattle.script_text.specs.Moments.{moment_text}
 use Rattle.script_text.specs.Replies.{reply_words, reply_text, is_spelled_reply}
 use Rattle.script_text.specs.Scripts.{not_falling}
 use Rattle.script_text.specs.Spelled.{SpellsCall}
-use Rattle.script_text.specs.Told.{IsSpelled, told_text}
+use Rattle.script_text.specs.Entries.{IsSpelled, told_text}
 use Rattle.script_text.proofs.CallTexts.{moment_read, moment_word, call_words_are, words_of-call, printed_call, spelled_call, length-call_text}
 use Rattle.script_text.proofs.Named.{valid_at, found_is, found_at}
 use Rattle.script_text.proofs.ReplyTexts.{printed_reply, spelled_reply}

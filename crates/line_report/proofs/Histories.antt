@@ -8,7 +8,7 @@ use Rattle.line_law.specs.States.{LineState, opening_state}
 use Rattle.line_law.specs.Tellings.{IsTold}
 use Rattle.line_law.proofs.Sides.{known_box}
 use Rattle.line_law.proofs.ToldHistories.{all_told}
-use Rattle.script_text.specs.Told.{IsSpelled}
+use Rattle.script_text.specs.Entries.{IsSpelled}
 use Rattle.line_report.proofs.Spellings.{told_spelled}
 
 -- the reply of an entry tells what is there

@@ -22,10 +22,10 @@ use Rattle.rail_text.proofs.PrintedWords.{decimal_is_word, length-decimal_word, 
 use Rattle.line_plan.specs.Plans.{PlanFields, IsPlan}
 use Rattle.line_law.specs.declared.call.Entry.{Entry}
 use Rattle.line_law.specs.declared.call.Journal.{Journal}
-use Rattle.script_text.specs.Told.{IsSpelled}
+use Rattle.script_text.specs.Entries.{IsSpelled}
 use Rattle.line_report.specs.declared.journal_draft.Stage.{Stage}
 use Rattle.line_report.specs.declared.journal_draft.Stage.TheVariants as stages
-use Rattle.line_report.specs.Asked.{AreAsked, AreFew}
+use Rattle.line_report.specs.Asked.{AreAsked, AreFewEntries}
 use Rattle.line_report.specs.Drafts.{DraftFields, start}
 use Rattle.line_report.specs.Journals.{entry_text, entries_text, journal_text}
 use Rattle.line_report.specs.Reading.{most_journal_bytes, heading_onto, entry_in, entry_onto, end_onto, stage_onto, line_onto, has_ended, lines_onto, journal_of}
@@ -355,7 +355,7 @@ pub reading_asked : (plan : PlanFields) (bytes : List ℕ) (r : Result Journal R
 reading_asked plan bytes (Ok journal) e = (spelled_journal plan bytes journal.entries e).asked
 reading_asked plan bytes (Err fault) e = tt
 
-pub reading_few : (plan : PlanFields) (bytes : List ℕ) (r : Result Journal ReadError) → IsReading plan bytes r → IfOk r (λ journal. AreFew journal.entries)
+pub reading_few : (plan : PlanFields) (bytes : List ℕ) (r : Result Journal ReadError) → IsReading plan bytes r → IfOk r (λ journal. AreFewEntries journal.entries)
 reading_few plan bytes (Ok journal) e = omega (arith, few_entries plan bytes journal.entries (spelled_journal plan bytes journal.entries e))
 reading_few plan bytes (Err fault) e = tt
 

@@ -15,8 +15,8 @@ use Rattle.line_law.specs.Law.{step}
 use Rattle.line_law.specs.SectionFacts.{Fact}
 use Rattle.line_law.specs.Sections.{IsClean, berth_count, held_by, spoils}
 use Rattle.line_law.specs.States.{IsStateOf, LineState, opening_state}
-use Rattle.line_law.proofs.OneTrain.{held_few_before}
-use Rattle.line_law.proofs.SectionReplies.{Leads, step_leads}
+use Rattle.train_laws.proofs.OneTrain.{held_few_before}
+use Rattle.train_laws.proofs.SectionReplies.{Leads, step_leads}
 use Rattle.line_report.specs.Sections.{most_from, most_of}
 
 -- ---- counted so far

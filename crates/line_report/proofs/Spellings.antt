@@ -9,7 +9,7 @@ use Rattle.line_plan.specs.Plans.{IsPlan, PlanFields, is_train}
 use Rattle.line_law.specs.declared.call.Reply.{Reply}
 use Rattle.line_law.specs.declared.call.Reply.TheVariants as replies
 use Rattle.line_law.specs.Known.{is_code_no, knows_lever, moments_of}
-use Rattle.line_law.specs.Law.{plan_of}
+use Rattle.line_law.specs.Law.{box_plan_of}
 use Rattle.line_law.specs.Tellings.{HasRow, HoldsBack, IsCode, IsReadyMoment, IsStand, IsTold}
 use Rattle.script_text.specs.Moments.{ready_moments}
 use Rattle.script_text.specs.Replies.{is_count, is_holding, is_place, is_ready_moment, is_row, is_small, is_spelled_reply, is_stand, shows_code}
@@ -33,8 +33,8 @@ stand_is plan b place train h =
 row_is : (plan : PlanFields) (b row : ℕ) → HasRow plan b row → IsTrue (is_row plan b row)
 row_is plan b row h =
     let low : IsTrue (nat_le 1 row) = (let p = h.0 in grind (arith, nat_tests)) in
-    let high : IsTrue (nat_le row (length (plan_of plan b).rows)) = (let p = h.1 in grind (arith, nat_tests)) in
-    and_true (nat_le 1 row) (nat_le row (length (plan_of plan b).rows)) low high
+    let high : IsTrue (nat_le row (length (box_plan_of plan b).rows)) = (let p = h.1 in grind (arith, nat_tests)) in
+    and_true (nat_le 1 row) (nat_le row (length (box_plan_of plan b).rows)) low high
 
 shown_is : (plan : PlanFields) (shown : Option ℕ) → IfSome shown (IsCode plan) → IsTrue (shows_code plan shown)
 shown_is plan None h = refl

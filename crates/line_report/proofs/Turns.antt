@@ -15,9 +15,9 @@ use Rattle.line_law.specs.Known.{KnowsCall}
 use Rattle.line_law.specs.Law.{MayCall}
 use Rattle.line_law.specs.Serial.{AreCalls}
 use Rattle.line_law.specs.States.{IsStateOf, LineState, box_at, no_state, opening_box, opening_state}
-use Rattle.line_law.proofs.Footprints.{has_places}
+use Rattle.line_law.proofs.Lines.{has_places}
 use Rattle.line_law.proofs.Left.{moment_here, other_box}
-use Rattle.line_law.proofs.StarterFacts.{eqb_refl}
+use Rattle.train_laws.proofs.StarterFacts.{eqb_refl}
 use Rattle.line_report.specs.Asked.{AreAsked}
 
 -- ---- calls that may be made in turn

@@ -17,9 +17,9 @@ use Rattle.line_law.proofs.Opens.{opening_shape}
 use Rattle.line_law.proofs.SameReplies.{same_reply-itself, same_reply-true}
 use Rattle.line_law.proofs.ToldHistories.{each_told}
 use Rattle.script_text.specs.Replies.{is_spelled_reply}
-use Rattle.script_text.specs.Told.{IsSpelled}
-use Rattle.line_report.specs.Asked.{AreAsked, AreFew}
-use Rattle.line_report.specs.Verdicts.{IsWrongAt, box_told, judgement_text, legal_text, verdict_from, verdict_of, verdict_text, wrong_text}
+use Rattle.script_text.specs.Entries.{IsSpelled}
+use Rattle.line_report.specs.Asked.{AreAsked, AreFewEntries}
+use Rattle.line_report.specs.Verdicts.{IsWrongAt, box_of_entry, judgement_text, legal_text, verdict_from, verdict_of, verdict_text, wrong_text}
 use Rattle.line_report.specs.declared.judging.Verdict.{Verdict}
 use Rattle.line_report.specs.declared.judging.Verdict.TheVariants.{Legal, WrongAt}
 use Rattle.line_report.proofs.Spellings.{told_spelled}
@@ -159,7 +159,7 @@ pub legal_printed : (plan : PlanFields) (es : List Entry) → verdict_of plan es
 unfolding judgement_text
 legal_printed plan es found = ap (λ (v : Verdict). verdict_text plan es v) found
 
-pub wrong_printed : (plan : PlanFields) (es : List Entry) (k b : ℕ) (said law : Reply) → verdict_of plan es ≡ WrongAt k said law → b ≡ box_told es k → judgement_text plan es ≡ wrong_text plan b k said law
+pub wrong_printed : (plan : PlanFields) (es : List Entry) (k b : ℕ) (said law : Reply) → verdict_of plan es ≡ WrongAt k said law → b ≡ box_of_entry es k → judgement_text plan es ≡ wrong_text plan b k said law
 unfolding judgement_text
 wrong_printed plan es k b said law found box = ap (λ (v : Verdict). verdict_text plan es v) found ∙ ap (λ (n : ℕ). wrong_text plan n k said law) (sym box)
 
@@ -172,7 +172,7 @@ pub record CanPrint (plan : PlanFields) (es : List Entry) (k b : ℕ) (said law 
   pub box : b < length plan.boxes
   pub said_there : IsTrue (is_spelled_reply plan b said)
   pub law_there : IsTrue (is_spelled_reply plan b law)
-  pub same : b ≡ box_told es k
+  pub same : b ≡ box_of_entry es k
 
 -- an item of a list that is there
 at_within : (es : List Entry) (i : ℕ) (d e : Entry) → slice_get es i ≡ Some e → (i < length es) × (get_or es i d ≡ e)
@@ -191,7 +191,7 @@ law_spelled plan es b call is few legal may =
     told_spelled (step plan (state_of plan es) b call).reply plan b (length es + 1) is few
     (each_told plan es [] (entry_of plan (state_of plan es) b call) is (history_grows plan es b call legal may))
 
-pub can_print : (plan : PlanFields) (es : List Entry) (k : ℕ) (said law : Reply) (d : Entry) → IsPlan plan → All (IsSpelled plan) es → AreAsked plan es → AreFew es → verdict_of plan es ≡ WrongAt k said law → CanPrint plan es k (get_or es (k - 1) d).box_no said law
+pub can_print : (plan : PlanFields) (es : List Entry) (k : ℕ) (said law : Reply) (d : Entry) → IsPlan plan → All (IsSpelled plan) es → AreAsked plan es → AreFewEntries es → verdict_of plan es ≡ WrongAt k said law → CanPrint plan es k (get_or es (k - 1) d).box_no said law
 can_print plan es k said law d is spelled asked few found =
     let h = first_wrong plan es k said law is asked found in
     let number = h.is in

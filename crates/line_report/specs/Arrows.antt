@@ -1,5 +1,6 @@
 -- Where the call of an entry's line ends and its reply begins.
-use Rattle.std.specs.Prelude.{ℕ, ◌+◌, List, [], ◌∷◌, length, Option, Some, None, option_map, if◌then◌else◌, bytes_eq, codes}
+use Rattle.std.specs.Prelude.{ℕ, ◌+◌, List, [], ◌∷◌, length, Option, Some, None, option_map, if◌then◌else◌, bytes_eq}
+use Rattle.std.specs.Prelude.{codes}
 
 -- the words before the first `->`
 abbrev pub before_arrow : List (List ℕ) → List (List ℕ)
@@ -14,4 +15,5 @@ behind_arrow (word ∷ words) = if bytes_eq word (codes "->") then Some words el
 -- how many bytes stand before the first `->`, if it stands: those of each word, and the space behind it
 abbrev pub arrow_place : List (List ℕ) → Option ℕ
 arrow_place [] = None
-arrow_place (word ∷ words) = if bytes_eq word (codes "->") then Some 0 else option_map (λ n. length word + 1 + n) (arrow_place words)
+arrow_place (word ∷ words) =
+    if bytes_eq word (codes "->") then Some 0 else option_map (λ n. length word + 1 + n) (arrow_place words)

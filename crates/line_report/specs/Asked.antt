@@ -10,5 +10,5 @@ abbrev pub AreAsked : PlanFields → List Entry → Type 0
 AreAsked plan es = (b : ℕ) → AreCalls plan b 0 (calls_of b es)
 
 -- fewer entries than a line can count
-abbrev pub AreFew : List Entry → Type 0
-AreFew es = length es < 2 ^ 32
+abbrev pub AreFewEntries : List Entry → Type 0
+AreFewEntries es = length es < 2 ^ 32

@@ -17,11 +17,13 @@ section_between p Down = record { rear = p; way = Down }
 
 -- the trains that the two sections of pair p hold in a state
 abbrev pub held_between : PlanFields → LineState → ℕ → ByWay ℕ
-held_between plan state p = record { up = held_by plan state (section_between p Up); down = held_by plan state (section_between p Down) }
+held_between plan state p =
+    record { up = held_by plan state (section_between p Up); down = held_by plan state (section_between p Down) }
 
 -- the most trains that the two sections of pair p held
 abbrev pub most_between : PlanFields → List Entry → ℕ → ByWay ℕ
-most_between plan es p = record { up = most_of plan es (section_between p Up); down = most_of plan es (section_between p Down) }
+most_between plan es p =
+    record { up = most_of plan es (section_between p Up); down = most_of plan es (section_between p Down) }
 
 -- no trains on either way
 abbrev pub no_trains : ByWay ℕ
@@ -52,12 +54,14 @@ raised_at plan state p most = slice_set most p (raised (trains_at most p) (held_
 -- the pairs of box b are raised to the trains that they hold in a state; all others stay
 pub record RaisesBeside (plan : PlanFields) (state : LineState) (b : ℕ) (old new : List (ByWay ℕ)) : Type 0 where
   pub each : length new ≡ length old
-  pub beside : (p : ℕ) → p < length old → (p ≡ b) ⊎ (p + 1 ≡ b) → trains_at new p ≡ raised (trains_at old p) (held_between plan state p)
+  pub beside : (p : ℕ) → p < length old → (p ≡ b) ⊎ (p + 1 ≡ b)
+      → trains_at new p ≡ raised (trains_at old p) (held_between plan state p)
   pub others : (p : ℕ) → p ≢ b → p + 1 ≢ b → trains_at new p ≡ trains_at old p
 
 -- the lines of the two sections of pair p: the down line's, then the up line's
 abbrev pub pair_text : PlanFields → ℕ → ByWay ℕ → List ℕ
-pair_text plan p most = section_text plan (section_between p Down) most.down ++ section_text plan (section_between p Up) most.up
+pair_text plan p most = section_text plan (section_between p Down) most.down
+    ++ section_text plan (section_between p Up) most.up
 
 -- the lines of all sections, by the most trains of each pair from pair p on
 abbrev pub pairs_text : PlanFields → ℕ → List (ByWay ℕ) → List ℕ

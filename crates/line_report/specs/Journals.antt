@@ -2,7 +2,7 @@
 use Rattle.std.specs.Prelude.{ℕ, ◌+◌, List, [], ◌∷◌, ◌++◌, codes, decimal}
 use Rattle.line_plan.specs.Plans.{PlanFields, box_name}
 use Rattle.line_law.specs.declared.call.Entry.{Entry}
-use Rattle.script_text.specs.Told.{told_text}
+use Rattle.script_text.specs.Entries.{told_text}
 
 -- an entry's line: its number, its box, and what was told there: its call, and its reply
 unfoldable pub entry_text : PlanFields → ℕ → Entry → List ℕ

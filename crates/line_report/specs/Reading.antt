@@ -1,5 +1,7 @@
 -- Which journal a text gives, or its first fault.
-use Rattle.std.specs.Prelude.{ℕ, ◌+◌, ◌==◌, Bool, true, false, nat_lt, List, [], ◌∷◌, ◌++◌, length, drop, slice_get, slice_set, slice_index, Option, Some, None, option_map, Result, Ok, Err, if◌then◌else◌, bytes_eq, codes, position, cond}
+use Rattle.std.specs.Prelude.{ℕ, ◌+◌, ◌==◌, Bool, true, false, nat_lt, List, [], ◌∷◌, ◌++◌, length, drop, slice_get}
+use Rattle.std.specs.Prelude.{slice_set, slice_index, Option, Some, None, option_map, Result, Ok, Err, if◌then◌else◌}
+use Rattle.std.specs.Prelude.{bytes_eq, codes, position, cond}
 use Rattle.std.specs.List.{join_with_byte}
 use Rattle.rail_text.specs.Forms.{form_of}
 use Rattle.rail_text.specs.Gives.{◌>>=◌, Fault}
@@ -105,8 +107,10 @@ end_onto draft words = do
 
 -- the lines that may stand at each stage: first `journal`, then entries up to `end`; behind it nothing is read
 unfoldable pub stage_onto : Stage → DraftFields → List (List ℕ) → Result DraftFields Cause
-stage_onto stages.Heading draft words = if bytes_eq (keyword words) (codes "journal") then heading_onto draft words else Err causes.WrongKeyword
-stage_onto stages.Entries draft words = if bytes_eq (keyword words) (codes "end") then end_onto draft words else entry_onto draft words
+stage_onto stages.Heading draft words =
+    if bytes_eq (keyword words) (codes "journal") then heading_onto draft words else Err causes.WrongKeyword
+stage_onto stages.Entries draft words =
+    if bytes_eq (keyword words) (codes "end") then end_onto draft words else entry_onto draft words
 stage_onto stages.Ended draft words = Ok draft
 
 -- a line: its form first, by which none is skipped, then its words
@@ -124,7 +128,9 @@ has_ended stages.Ended = true
 -- the lines from number n on, up to the line `end`
 unfoldable pub lines_onto : ℕ → DraftFields → List Line → Result DraftFields Fault
 lines_onto n draft [] = Err (record { line = n; cause = causes.NoEnd })
-lines_onto n draft (line ∷ lines) = at_line n (line_onto draft line) >>= (λ next. if has_ended next.stage then Ok next else lines_onto (n + 1) next lines)
+lines_onto n draft (line ∷ lines) =
+    at_line n (line_onto draft line) >>=
+    (λ next. if has_ended next.stage then Ok next else lines_onto (n + 1) next lines)
 
 -- the entries of the journal that the bytes spell, or the first fault
 unfoldable pub journal_of : PlanFields → List ℕ → Result (List Entry) Fault

@@ -13,7 +13,8 @@ use Rattle.script_text.specs.Names.{way_text}
 -- the most trains that a section holds in a state, and after each of these entries from there
 abbrev pub most_from : PlanFields → Section → LineState → List Entry → ℕ
 most_from plan section state [] = held_by plan state section
-most_from plan section state (e ∷ es) = max (held_by plan state section) (most_from plan section (after_entry plan state e) es)
+most_from plan section state (e ∷ es) =
+    max (held_by plan state section) (most_from plan section (after_entry plan state e) es)
 
 -- the most trains that a section held: after any of the journal's prefixes, the empty one too
 abbrev pub most_of : PlanFields → List Entry → Section → ℕ
@@ -22,7 +23,8 @@ most_of plan es section = most_from plan section (opening_state plan) es
 -- a section's line: its way, its boxes from rear to advance, and the most trains that it held
 unfoldable pub section_text : PlanFields → Section → ℕ → List ℕ
 section_text plan section most =
-    codes "section " ++ way_text section.way ++ 32 ∷ box_name plan section.rear ++ 32 ∷ box_name plan (advance_of section) ++ codes " most " ++ decimal most ++ 10 ∷ []
+    codes "section " ++ way_text section.way ++ 32 ∷ box_name plan section.rear
+    ++ 32 ∷ box_name plan (advance_of section) ++ codes " most " ++ decimal most ++ 10 ∷ []
 
 -- the lines of all sections
 unfoldable pub sections_text : PlanFields → List Entry → List ℕ

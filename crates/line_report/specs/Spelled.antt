@@ -3,7 +3,7 @@ use Rattle.std.specs.Prelude.{◌≡◌, ◌≤◌, ℕ, IsTrue, All, List, ◌+
 use Rattle.line_plan.specs.Plans.{PlanFields}
 use Rattle.line_law.specs.declared.call.Entry.{Entry}
 use Rattle.script_text.specs.Rows.{may_answer}
-use Rattle.script_text.specs.Told.{IsSpelled}
+use Rattle.script_text.specs.Entries.{IsSpelled}
 use Rattle.line_report.specs.Asked.{AreAsked}
 use Rattle.line_report.specs.Journals.{journal_text}
 use Rattle.line_report.specs.Reading.{most_journal_bytes}
@@ -12,8 +12,9 @@ use Rattle.line_report.specs.Reading.{most_journal_bytes}
 abbrev pub IsAnswered : Entry → Type 0
 IsAnswered e = IsTrue (may_answer e.call.act e.reply)
 
--- The text of a journal: it keeps within its limit, and begins with the journal of these entries as it is printed, whatever stands behind. The plan knows each
--- call, and no moment falls within a box; each reply is one that such a call may have, and some text spells it.
+-- The text of a journal: it keeps within its limit, and begins with the journal of these entries as it is printed,
+-- whatever stands behind. The plan knows each call, and no moment falls within a box; each reply is one that such a
+-- call may have, and some text spells it.
 pub record SpellsJournal (plan : PlanFields) (bytes : List ℕ) (es : List Entry) : Type 0 where
   pub short : length bytes ≤ most_journal_bytes plan.version
   pub asked : AreAsked plan es

@@ -1,5 +1,6 @@
 -- What a judge finds of a journal.
-use Rattle.std.specs.Prelude.{◌≡◌, ◌≢◌, ℕ, ◌+◌, ◌-◌, ◌≤◌, List, [], ◌∷◌, ◌++◌, length, take, map, Some, slice_get, slice_index_or, codes, decimal, if◌then◌else◌}
+use Rattle.std.specs.Prelude.{◌≡◌, ◌≢◌, ℕ, ◌+◌, ◌-◌, ◌≤◌, List, [], ◌∷◌, ◌++◌, length, take, map, Some, slice_get}
+use Rattle.std.specs.Prelude.{slice_index_or, codes, decimal, if◌then◌else◌}
 use Rattle.line_plan.specs.Plans.{PlanFields}
 use Rattle.line_law.specs.declared.call.Entry.{Entry}
 use Rattle.line_law.specs.declared.call.Reply.{Reply}
@@ -15,13 +16,16 @@ use Rattle.script_text.specs.Replies.{reply_text}
 abbrev pub verdict_from : PlanFields → LineState → ℕ → List Entry → Verdict
 verdict_from plan state k [] = Legal
 verdict_from plan state k (e ∷ es) =
-    if same_reply e.reply (step plan state e.box_no e.call).reply then verdict_from plan (after_entry plan state e) (k + 1) es else WrongAt k e.reply (step plan state e.box_no e.call).reply
+    if same_reply e.reply (step plan state e.box_no e.call).reply
+    then verdict_from plan (after_entry plan state e) (k + 1) es
+    else WrongAt k e.reply (step plan state e.box_no e.call).reply
 
 -- the verdict on a journal: legal, or the first entry whose reply isn't the law's, from 1, with both replies
 abbrev pub verdict_of : PlanFields → List Entry → Verdict
 verdict_of plan es = verdict_from plan (opening_state plan) 1 es
 
--- Entry k, from 1, is the first whose reply isn't the law's: the entries before it are a legal history, and there the law says otherwise.
+-- Entry k, from 1, is the first whose reply isn't the law's: the entries before it are a legal history, and there the
+-- law says otherwise.
 pub record IsWrongAt (plan : PlanFields) (es : List Entry) (k : ℕ) (said law : Reply) : Type 0 where
   pub entry : Entry
   pub low : 1 ≤ k
@@ -38,16 +42,17 @@ legal_text count = codes "legal " ++ decimal count ++ 10 ∷ []
 -- the lines that are printed of entry k of box b: what the journal says, and what the law says
 unfoldable pub wrong_text : PlanFields → ℕ → ℕ → Reply → Reply → List ℕ
 wrong_text plan b k said law =
-    codes "wrong at " ++ decimal k ++ codes "\nsaid " ++ reply_text plan b said ++ codes "\nlaw " ++ reply_text plan b law ++ 10 ∷ []
+    codes "wrong at " ++ decimal k ++ codes "\nsaid " ++ reply_text plan b said ++ codes "\nlaw "
+    ++ reply_text plan b law ++ 10 ∷ []
 
 -- the box of entry k, from 1
-abbrev pub box_told : List Entry → ℕ → ℕ
-box_told es k = slice_index_or (map (λ e. e.box_no) es) (k - 1) 0
+abbrev pub box_of_entry : List Entry → ℕ → ℕ
+box_of_entry es k = slice_index_or (map (λ e. e.box_no) es) (k - 1) 0
 
 -- a verdict on a journal as it is printed
 abbrev pub verdict_text : PlanFields → List Entry → Verdict → List ℕ
 verdict_text plan es Legal = legal_text (length es)
-verdict_text plan es (WrongAt k said law) = wrong_text plan (box_told es k) k said law
+verdict_text plan es (WrongAt k said law) = wrong_text plan (box_of_entry es k) k said law
 
 -- what a judge prints of a journal
 unfoldable pub judgement_text : PlanFields → List Entry → List ℕ

@@ -85,7 +85,8 @@ fn arrow_at(text: &[u8]) -> Option<usize>
 #[tactic(auto, using(crate::proofs::Arrows::cut_rules))]
 fn cut_at_arrow(text: &[u8]) -> (&[u8], Option<&[u8]>)
     ensures call { result.0.now ≡ join_with_byte 32 (before_arrow (words_of text.now)) }
-    ensures reply { option_map (λ s. s.now) result.1 ≡ option_map (λ behind. join_with_byte 32 behind) (behind_arrow (words_of text.now)) }
+    ensures reply { option_map (λ s. s.now) result.1
+        ≡ option_map (λ behind. join_with_byte 32 behind) (behind_arrow (words_of text.now)) }
 {
     match arrow_at(text) {
         None => (text, None),
@@ -97,7 +98,8 @@ fn cut_at_arrow(text: &[u8]) -> (&[u8], Option<&[u8]>)
     }
 }
 
-/// The text of the entry's call, between the box and the first word `->`, and that of its reply behind it, if it stands.
+/// The text of the entry's call, between the box and the first word `->`, and that of its reply behind it, if it
+/// stands.
 #[tactic(auto, unfolding(crate::specs::Reading::call_told, crate::specs::Reading::reply_told))]
 pub fn told_texts<'a>(line: &TextLine<'a>) -> (&'a [u8], Option<&'a [u8]>)
     ensures call { result.0.now ≡ call_told (words_of line.now.text.now) }

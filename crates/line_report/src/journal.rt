@@ -1,7 +1,7 @@
 //! The printed journal.
 
 ghost use Rattle.std.specs.Prelude.{◌≡◌, ◌++◌, All, IfOk, OnOk, string_bytes};
-ghost use Rattle.script_text.specs.Told.{IsSpelled};
+ghost use Rattle.script_text.specs.Entries.{IsSpelled};
 ghost use Rattle.line_report.specs.Journals.{entry_text, entries_text, journal_text};
 
 use line_law::{Entry, Journal};
@@ -41,8 +41,8 @@ fn put_entries(out: &mut String, plan: &Plan, entries: &[Entry]) -> Result<(), A
     Ok(())
 }
 
-/// Puts the whole journal behind a text, from its first line to its end. Each entry is one that the line can spell. Where
-/// memory runs out a part may stand behind the text.
+/// Puts the whole journal behind a text, from its first line to its end. Each entry is one that the line can spell.
+/// Where memory runs out a part may stand behind the text.
 #[tactic(auto, unfolding(crate::specs::Journals::journal_text))]
 pub fn put_journal(out: &mut String, plan: &Plan, journal: &Journal) -> Result<(), AllocError>
     requires { All (IsSpelled plan.now) journal.now.entries }
@@ -54,8 +54,8 @@ pub fn put_journal(out: &mut String, plan: &Plan, journal: &Journal) -> Result<(
     out.push_str("end\n")
 }
 
-/// The journal of a line as it is printed: `journal` and the plan's version, a line for each entry, numbered from 1, and
-/// `end`. Each entry is one that the line can spell, as `is_spelled` tells; all of a legal history are. A moment is
+/// The journal of a line as it is printed: `journal` and the plan's version, a line for each entry, numbered from 1,
+/// and `end`. Each entry is one that the line can spell, as `is_spelled` tells; all of a legal history are. A moment is
 /// printed as `HH:MM` where the plan has version 1, else as `HH:MM:SS`.
 pub fn print_journal(alloc: Global, plan: &Plan, journal: &Journal) -> Result<Vec<u8>, NoMemory>
     requires { All (IsSpelled plan.now) journal.now.entries }

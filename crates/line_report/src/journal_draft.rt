@@ -29,9 +29,15 @@ impl<'a> Model for JournalDraft<'a> {
 
     ghost Value = { DraftFields };
 
-    ghost view = { λ d. record { plan = d.plan.now; stage = d.stage; moments = d.moments.items; entries = d.entries.items } };
+    ghost view = { λ d. record {
+      plan = d.plan.now;
+      stage = d.stage;
+      moments = d.moments.items;
+      entries = d.entries.items;
+    } };
 
-    ghost invariant = { λ d. IsDraft (record { plan = d.plan.now; stage = d.stage; moments = d.moments.items; entries = d.entries.items }) };
+    ghost invariant = { λ d. IsDraft
+        (record { plan = d.plan.now; stage = d.stage; moments = d.moments.items; entries = d.entries.items }) };
 }
 
 impl<'a> JournalDraft<'a> {
@@ -39,7 +45,8 @@ impl<'a> JournalDraft<'a> {
     ghost use Rattle.rail_text.specs.Gives.{GivesLine};
     ghost use Rattle.rail_text.specs.Lines.{words_of};
     ghost use Rattle.line_report.specs.Drafts.{start};
-    ghost use Rattle.line_report.specs.Reading.{end_onto, entry_in, entry_onto, has_ended, heading_onto, line_onto, stage_onto};
+    ghost use Rattle.line_report.specs.Reading.{end_onto, entry_in, entry_onto, has_ended, heading_onto, line_onto};
+    ghost use Rattle.line_report.specs.Reading.{stage_onto};
 
     /// Nothing is read.
     pub fn new(alloc: Global, plan: &'a Plan) -> Result<JournalDraft<'a>, NoMemory>
@@ -123,7 +130,8 @@ impl<'a> JournalDraft<'a> {
     /// A line: its form first, by which none is skipped, then its words.
     #[tactic(auto, unfolding(crate::specs::Reading::line_onto))]
     pub fn read_line(&mut self, line: &TextLine<'_>) -> Result<(), LineFault>
-        ensures { GivesLine (λ _. self.new) result (line_onto self.old (record { text = line.now.text.now; ended = line.now.ended })) }
+        ensures { GivesLine (λ _. self.new) result
+            (line_onto self.old (record { text = line.now.text.now; ended = line.now.ended })) }
     {
         line.form(false)?;
         self.words_line(line)

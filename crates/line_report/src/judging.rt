@@ -2,10 +2,10 @@
 
 ghost use Rattle.std.specs.Prelude.{◌≡◌, ◌↔◌, ◌++◌, ◌<◌, ℕ, All, IfOk, IsTrue, OnOk, length, string_bytes};
 ghost use Rattle.line_law.specs.History.{IsLegal};
-ghost use Rattle.line_report.specs.Asked.{AreAsked, AreFew};
+ghost use Rattle.line_report.specs.Asked.{AreAsked, AreFewEntries};
 ghost use Rattle.line_report.specs.Verdicts.{IsWrongAt, judgement_text, legal_text, verdict_of, wrong_text};
 ghost use Rattle.script_text.specs.Replies.{is_spelled_reply};
-ghost use Rattle.script_text.specs.Told.{IsSpelled};
+ghost use Rattle.script_text.specs.Entries.{IsSpelled};
 
 use line_law::{Entry, Journal, Plain, Reply};
 use line_plan::Plan;
@@ -25,11 +25,10 @@ pub enum Verdict {
 
 // Whether these entries may be judged, by each performed once on a line that opens.
 fn may_judge_all(alloc: Global, plan: &Plan, entries: &[Entry]) -> Result<bool, NoMemory>
-    requires { AreFew entries.now }
+    requires { AreFewEntries entries.now }
     ensures { IfOk result (λ may. IsTrue may ↔ AreAsked plan.now entries.now) }
 {
-    // The read shows the proof what the type of a plan keeps.
-    let _two = plan.boxes.len();
+    plan.meets_conditions();
     let mut plain = Plain::open(alloc, plan)?;
     for entry in entries {
         if !plain.may_call(plan, entry.box_no, &entry.call) {
@@ -40,10 +39,10 @@ fn may_judge_all(alloc: Global, plan: &Plan, entries: &[Entry]) -> Result<bool, 
     Ok(true)
 }
 
-/// Whether a journal may be judged: the plan knows each call of each box, and moments don't fall within a box. There are
-/// fewer than 2^32 entries.
+/// Whether a journal may be judged: the plan knows each call of each box, and moments don't fall within a box. There
+/// are fewer than 2^32 entries.
 pub fn may_judge(alloc: Global, plan: &Plan, journal: &Journal) -> Result<bool, NoMemory>
-    requires { AreFew journal.now.entries }
+    requires { AreFewEntries journal.now.entries }
     ensures { IfOk result (λ may. IsTrue may ↔ AreAsked plan.now journal.now.entries) }
 {
     may_judge_all(alloc, plan, journal.entries.as_slice())
@@ -52,11 +51,10 @@ pub fn may_judge(alloc: Global, plan: &Plan, journal: &Journal) -> Result<bool, 
 // What the judge finds of these entries, each of which is performed once on a line that opens.
 fn verdict_on(alloc: Global, plan: &Plan, entries: &[Entry]) -> Result<Verdict, NoMemory>
     requires asked { AreAsked plan.now entries.now }
-    requires few { AreFew entries.now }
+    requires few { AreFewEntries entries.now }
     ensures { IfOk result (λ verdict. verdict ≡ verdict_of plan.now entries.now) }
 {
-    // The read shows the proof what the type of a plan keeps.
-    let _two = plan.boxes.len();
+    plan.meets_conditions();
     let mut plain = Plain::open(alloc, plan)?;
     for (place, entry) in entries.iter().enumerate() {
         let law = plain.perform(plan, entry.box_no, &entry.call);
@@ -71,19 +69,19 @@ fn verdict_on(alloc: Global, plan: &Plan, entries: &[Entry]) -> Result<Verdict, 
     Ok(Verdict::Legal)
 }
 
-/// Judges a journal: whether each reply is the law's. The calls of each box are ones that the plan knows, with moments that
-/// don't fall, as `read_journal` gives them; and there are fewer than 2^32 entries. A journal is legal exactly where no reply
-/// is wrong; else the first that is wrong is named.
+/// Judges a journal: whether each reply is the law's. The calls of each box are ones that the plan knows, with moments
+/// that don't fall, as `read_journal` gives them; and there are fewer than 2^32 entries. A journal is legal exactly
+/// where no reply is wrong; else the first that is wrong is named.
 #[tactic(auto, using(crate::proofs::Verdicts::legal_exactly, crate::proofs::Verdicts::wrong_exactly))]
 pub fn judge(alloc: Global, plan: &Plan, journal: &Journal) -> Result<Verdict, NoMemory>
     requires asked { AreAsked plan.now journal.now.entries }
-    requires few { AreFew journal.now.entries }
+    requires few { AreFewEntries journal.now.entries }
     ensures exact { IfOk result (λ verdict. verdict ≡ verdict_of plan.now journal.now.entries) }
     ensures legal { IfOk result (λ verdict. verdict ≡ Verdict.Legal ↔ IsLegal plan.now journal.now.entries) }
-    ensures wrong { (k : ℕ) (said law : Reply) → result ≡ Ok (Verdict.WrongAt k said law) → IsWrongAt plan.now journal.now.entries k said law }
+    ensures wrong { (k : ℕ) (said law : Reply) → result ≡ Ok (Verdict.WrongAt k said law)
+        → IsWrongAt plan.now journal.now.entries k said law }
 {
-    // The read shows the proof what the type of a plan keeps.
-    let _two = plan.boxes.len();
+    plan.meets_conditions();
     verdict_on(alloc, plan, journal.entries.as_slice())
 }
 
@@ -108,7 +106,8 @@ fn put_wrong(
     requires box_no { box_no < length plan.now.boxes }
     requires said { IsTrue (is_spelled_reply plan.now box_no said.now) }
     requires law { IsTrue (is_spelled_reply plan.now box_no law.now) }
-    ensures { OnOk result (string_bytes out.new ≡ string_bytes out.old ++ wrong_text plan.now box_no line said.now law.now) }
+    ensures { OnOk result (string_bytes out.new
+        ≡ string_bytes out.old ++ wrong_text plan.now box_no line said.now law.now) }
 {
     write!(out, "wrong at {line}\nsaid ")?;
     put_reply(out, plan, box_no, said)?;
@@ -126,12 +125,11 @@ fn put_verdict(
 ) -> Result<(), AllocError>
     requires spelled { All (IsSpelled plan.now) entries.now }
     requires asked { AreAsked plan.now entries.now }
-    requires few { AreFew entries.now }
+    requires few { AreFewEntries entries.now }
     requires of { verdict.now ≡ verdict_of plan.now entries.now }
     ensures { OnOk result (string_bytes out.new ≡ string_bytes out.old ++ judgement_text plan.now entries.now) }
 {
-    // The read shows the proof what the type of a plan keeps.
-    let _two = plan.boxes.len();
+    plan.meets_conditions();
     match *verdict {
         Verdict::Legal => put_legal(out, entries.len()),
         Verdict::WrongAt { line, said, law } => {
@@ -141,9 +139,9 @@ fn put_verdict(
     }
 }
 
-/// A verdict on a journal as it is printed: `legal` and the number of entries, or the three lines `wrong at` with the number
-/// of the entry, `said` with the reply that the journal gives there, and `law` with the law's. Each entry is one that the
-/// line can spell, as `is_spelled` tells.
+/// A verdict on a journal as it is printed: `legal` and the number of entries, or the three lines `wrong at` with the
+/// number of the entry, `said` with the reply that the journal gives there, and `law` with the law's. Each entry is one
+/// that the line can spell, as `is_spelled` tells.
 pub fn print_verdict(
     alloc: Global,
     plan: &Plan,
@@ -152,7 +150,7 @@ pub fn print_verdict(
 ) -> Result<Vec<u8>, NoMemory>
     requires spelled { All (IsSpelled plan.now) journal.now.entries }
     requires asked { AreAsked plan.now journal.now.entries }
-    requires few { AreFew journal.now.entries }
+    requires few { AreFewEntries journal.now.entries }
     requires of { verdict.now ≡ verdict_of plan.now journal.now.entries }
     ensures { IfOk result (λ text. text.items ≡ judgement_text plan.now journal.now.entries) }
 {

@@ -12,29 +12,36 @@ ghost use Rattle.line_report.specs.Asked.{AreAsked};
 ghost use Rattle.line_report.specs.Sections.{most_of};
 ghost use Rattle.line_report.specs.Verdicts.{IsWrongAt, verdict_of};
 ghost use Rattle.line_report.specs.declared.judging.Verdict.TheVariants.{Legal, WrongAt};
-ghost use Rattle.script_text.specs.Told.{IsSpelled};
+ghost use Rattle.script_text.specs.Entries.{IsSpelled};
 
 /// A law: every entry of a legal history of a plan's line can be printed, where the history has fewer than ten thousand
-/// million entries. The line has its box and knows its call; each code, place, train, lever and row that its reply names is
-/// there, and each count has at most ten digits.
+/// million entries. The line has its box and knows its call; each code, place, train, lever and row that its reply
+/// names is there, and each count has at most ten digits.
 pub fn histories_can_be_printed()
-    ensures { (plan : PlanFields) (es : List Entry) → IsPlan plan → length es < 10 ^ 10 → IsLegal plan es → All (IsSpelled plan) es }
+    ensures { (plan : PlanFields) (es : List Entry) → IsPlan plan → length es < 10 ^ 10 → IsLegal plan es
+        → All (IsSpelled plan) es }
 {}
 
-/// A law of the judge: where the calls of each box are ones that the plan knows, with moments that don't fall, a journal is
-/// found legal exactly where it is a legal history of the line; else the entry found wrong is the first whose reply isn't the
-/// law's.
+/// A law of the judge: where the calls of each box are ones that the plan knows, with moments that don't fall, a
+/// journal is found legal exactly where it is a legal history of the line; else the entry found wrong is the first
+/// whose reply isn't the law's.
 #[tactic(auto, using(crate::proofs::Verdicts::legal_exactly, crate::proofs::Verdicts::wrong_exactly))]
 pub fn verdict_law()
-    ensures legal { (plan : PlanFields) (es : List Entry) → IsPlan plan → AreAsked plan es → (verdict_of plan es ≡ Legal ↔ IsLegal plan es) }
-    ensures wrong { (plan : PlanFields) (es : List Entry) (k : ℕ) (said law : Reply) → IsPlan plan → AreAsked plan es → verdict_of plan es ≡ WrongAt k said law → IsWrongAt plan es k said law }
+    ensures legal { (plan : PlanFields) (es : List Entry) → IsPlan plan → AreAsked plan es
+        → (verdict_of plan es ≡ Legal ↔ IsLegal plan es) }
+    ensures wrong { (plan : PlanFields) (es : List Entry) (k : ℕ) (said law : Reply) → IsPlan plan → AreAsked plan es
+        → verdict_of plan es ≡ WrongAt k said law → IsWrongAt plan es k said law }
 {}
 
-/// A law of the most trains that a section held: it held so many after some of the entries, and after none more; and where a
-/// legal history is clean for it, that is no more than it may hold.
+/// A law of the most trains that a section held: it held so many after some of the entries, and after none more; and
+/// where a legal history is clean for it, that is no more than it may hold.
 #[tactic(auto, using(crate::proofs::MostTrains::most_reached, crate::proofs::MostTrains::most_bounds, crate::proofs::MostTrains::one_train_reaches))]
 pub fn most_trains_law()
-    ensures held { (plan : PlanFields) (es : List Entry) (section : Section) → (before : List Entry) × (more : List Entry) × (es ≡ before ++ more) × (most_of plan es section ≡ held_by plan (state_of plan before) section) }
-    ensures most { (plan : PlanFields) (before more : List Entry) (section : Section) → held_by plan (state_of plan before) section ≤ most_of plan (before ++ more) section }
-    ensures clean { (plan : PlanFields) (es : List Entry) (section : Section) → IsPlan plan → IsSection plan section → IsLegal plan es → IsClean plan section es → most_of plan es section ≤ limit_of plan section }
+    ensures held { (plan : PlanFields) (es : List Entry) (section : Section)
+        → (before : List Entry) × (more : List Entry) × (es ≡ before ++ more)
+        × (most_of plan es section ≡ held_by plan (state_of plan before) section) }
+    ensures most { (plan : PlanFields) (before more : List Entry) (section : Section)
+        → held_by plan (state_of plan before) section ≤ most_of plan (before ++ more) section }
+    ensures clean { (plan : PlanFields) (es : List Entry) (section : Section) → IsPlan plan → IsSection plan section
+        → IsLegal plan es → IsClean plan section es → most_of plan es section ≤ limit_of plan section }
 {}

@@ -1,5 +1,5 @@
-//! What is told of a line after it was worked: its journal as a text, printed and read; which calls were refused, the most
-//! trains that each section held, and whether a journal keeps the law.
+//! What is told of a line after it was worked: its journal as a text, printed and read; which calls were refused, the
+//! most trains that each section held, and whether a journal keeps the law.
 #![tactic(auto)]
 
 mod entry_line;
@@ -17,10 +17,3 @@ pub use laws::{histories_can_be_printed, most_trains_law, verdict_law};
 pub use reading::{journals_law, most_journal_bytes, read_journal};
 pub use refusals::{is_refused, put_refusals, refused_count};
 pub use sections::{most_trains, put_sections};
-
-#[cfg(test)]
-mod judge_tests;
-#[cfg(test)]
-mod read_tests;
-#[cfg(test)]
-mod tests;

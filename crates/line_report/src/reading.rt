@@ -6,8 +6,8 @@ ghost use Rattle.rail_text.specs.Lines.{lines_of};
 ghost use Rattle.rail_text.specs.declared.cause.Cause.{Cause};
 ghost use Rattle.line_plan.specs.Plans.{IsPlan, PlanFields};
 ghost use Rattle.line_law.specs.declared.call.Entry.{Entry};
-ghost use Rattle.script_text.specs.Told.{IsSpelled};
-ghost use Rattle.line_report.specs.Asked.{AreAsked, AreFew};
+ghost use Rattle.script_text.specs.Entries.{IsSpelled};
+ghost use Rattle.line_report.specs.Asked.{AreAsked, AreFewEntries};
 ghost use Rattle.line_report.specs.Reading.{journal_of, lines_onto, most_journal_bytes};
 ghost use Rattle.line_report.specs.Spelled.{SpellsJournal};
 
@@ -28,7 +28,8 @@ pub fn most_journal_bytes(version: u8) -> usize
     }
 }
 
-// Reads the lines up to the line `end`. The first fault is refused with its line and cause: where the text has no such line, it is `NoEnd` behind the last.
+// Reads the lines up to the line `end`. The first fault is refused with its line and cause: where the text has no such
+// line, it is `NoEnd` behind the last.
 #[tactic(auto, unfolding(crate::specs::Reading::lines_onto))]
 fn read_lines(draft: &mut JournalDraft<'_>, bytes: &[u8]) -> Result<(), ReadError>
     requires { length bytes.now + 1 < 2 ^ 32 }
@@ -65,24 +66,27 @@ fn journal_of(alloc: Global, plan: &Plan, bytes: &[u8]) -> Result<Journal, ReadE
 }
 
 /// The journal of a line that the bytes spell, or the line and the cause of the first fault: a text longer than
-/// `most_journal_bytes` is `TooLong` at line 0, and one without a line `end` is `NoEnd` behind its last line. No line is
-/// skipped, and what stands behind the line `end` isn't read. The plan knows each call, no moment is below the one before it
-/// at the same box, and each reply is one that such a call may have and that some text spells; whether it is the law's isn't
-/// tested.
+/// `most_journal_bytes` is `TooLong` at line 0, and one without a line `end` is `NoEnd` behind its last line. No line
+/// is skipped, and what stands behind the line `end` isn't read. The plan knows each call, no moment is below the one
+/// before it at the same box, and each reply is one that such a call may have and that some text spells; whether it is
+/// the law's isn't tested.
 #[tactic(auto, using(crate::proofs::JournalTexts::reading_rules))]
 pub fn read_journal(alloc: Global, plan: &Plan, bytes: &[u8]) -> Result<Journal, ReadError>
     ensures exact { GivesText (λ journal. journal.entries) result (journal_of plan.now bytes.now) }
     ensures asked { IfOk result (λ journal. AreAsked plan.now journal.entries) }
-    ensures few { IfOk result (λ journal. AreFew journal.entries) }
+    ensures few { IfOk result (λ journal. AreFewEntries journal.entries) }
     ensures can_be_printed { IfOk result (λ journal. All (IsSpelled plan.now) journal.entries) }
     ensures spelled { IfOk result (λ journal. SpellsJournal plan.now bytes.now journal.entries) }
-    ensures refused { (line : ℕ) (cause : Cause) → IsErrOf result (ReadError.Refused line cause) → (es : List Entry) → ¬ SpellsJournal plan.now bytes.now es }
+    ensures refused { (line : ℕ) (cause : Cause) → IsErrOf result (ReadError.Refused line cause) → (es : List Entry)
+        → ¬ SpellsJournal plan.now bytes.now es }
 {
     journal_of(alloc, plan, bytes)
 }
 
 /// A law: a text is read as a journal exactly where it spells it, whatever stands behind its end.
 pub fn journals_law()
-    ensures read { (plan : PlanFields) (bytes : List ℕ) (es : List Entry) → IsPlan plan → SpellsJournal plan bytes es → journal_of plan bytes ≡ Ok es }
-    ensures spelled { (plan : PlanFields) (bytes : List ℕ) (es : List Entry) → journal_of plan bytes ≡ Ok es → SpellsJournal plan bytes es }
+    ensures read { (plan : PlanFields) (bytes : List ℕ) (es : List Entry) → IsPlan plan → SpellsJournal plan bytes es
+        → journal_of plan bytes ≡ Ok es }
+    ensures spelled { (plan : PlanFields) (bytes : List ℕ) (es : List Entry) → journal_of plan bytes ≡ Ok es
+        → SpellsJournal plan bytes es }
 {}

@@ -1,7 +1,7 @@
 //! The refused calls of a journal.
 
 ghost use Rattle.std.specs.Prelude.{◌≡◌, ◌++◌, All, OnOk, string_bytes};
-ghost use Rattle.script_text.specs.Told.{IsSpelled};
+ghost use Rattle.script_text.specs.Entries.{IsSpelled};
 ghost use Rattle.line_report.specs.Refusals.{
   is_refused,
   is_success,
@@ -86,9 +86,9 @@ fn put_refused_entries(out: &mut String, plan: &Plan, entries: &[Entry]) -> Resu
     Ok(())
 }
 
-/// Puts the refused calls of a journal behind a text: `refusals` and how many there are, and the journal's line of each, with
-/// its number in the journal. Each entry is one that the line can spell, as `is_spelled` tells. Where memory runs out a part
-/// may stand behind the text.
+/// Puts the refused calls of a journal behind a text: `refusals` and how many there are, and the journal's line of
+/// each, with its number in the journal. Each entry is one that the line can spell, as `is_spelled` tells. Where memory
+/// runs out a part may stand behind the text.
 #[tactic(auto, unfolding(crate::specs::Refusals::refusals_text))]
 pub fn put_refusals(out: &mut String, plan: &Plan, journal: &Journal) -> Result<(), AllocError>
     requires { All (IsSpelled plan.now) journal.now.entries }

@@ -6,8 +6,9 @@ ghost use Rattle.line_plan.specs.Sections.{IsSection, advance_of, limit_of};
 ghost use Rattle.line_law.specs.History.{IsLegal};
 ghost use Rattle.line_law.specs.Lines.{IsLineOf};
 ghost use Rattle.line_law.specs.Sections.{IsClean};
-ghost use Rattle.line_report.specs.Asked.{AreFew};
-ghost use Rattle.line_report.specs.Between.{AreHeld, AreMost, RaisesBeside, held_between, pair_text, pairs_text, raised, raised_at, section_between};
+ghost use Rattle.line_report.specs.Asked.{AreFewEntries};
+ghost use Rattle.line_report.specs.Between.{AreHeld, AreMost, RaisesBeside, held_between, pair_text, pairs_text};
+ghost use Rattle.line_report.specs.Between.{raised, raised_at, section_between};
 ghost use Rattle.line_report.specs.Sections.{most_of, section_text, sections_text};
 ghost use Rattle.script_text.specs.Names.{way_text};
 
@@ -19,8 +20,8 @@ use script_text::way_word;
 use std::alloc::{AllocError, Global};
 use std::fmt::Write;
 
-/// The most trains that a section held: after any of the entries of a legal journal, or before them all. There are fewer than
-/// 2^32 entries. Where the journal is clean for the section, that is no more than the section may hold.
+/// The most trains that a section held: after any of the entries of a legal journal, or before them all. There are
+/// fewer than 2^32 entries. Where the journal is clean for the section, that is no more than the section may hold.
 #[tactic(auto, using(crate::proofs::MostTrains::one_train_reaches))]
 pub fn most_trains(
     alloc: Global,
@@ -30,12 +31,12 @@ pub fn most_trains(
 ) -> Result<u32, NoMemory>
     requires section { IsSection plan.now section }
     requires legal { IsLegal plan.now journal.now.entries }
-    requires few { AreFew journal.now.entries }
+    requires few { AreFewEntries journal.now.entries }
     ensures most { IfOk result (λ most. most ≡ most_of plan.now journal.now.entries section) }
-    ensures clean { IsClean plan.now section journal.now.entries → IfOk result (λ most. most ≤ limit_of plan.now section) }
+    ensures clean { IsClean plan.now section journal.now.entries
+        → IfOk result (λ most. most ≤ limit_of plan.now section) }
 {
-    // The read shows the proof what the type of a plan keeps.
-    let _two = plan.boxes.len();
+    plan.meets_conditions();
     most_in(alloc, plan, journal.entries.as_slice(), section)
 }
 
@@ -43,7 +44,7 @@ pub fn most_trains(
 fn most_in(alloc: Global, plan: &Plan, entries: &[Entry], section: Section) -> Result<u32, NoMemory>
     requires section { IsSection plan.now section }
     requires legal { IsLegal plan.now entries.now }
-    requires few { AreFew entries.now }
+    requires few { AreFewEntries entries.now }
     ensures { IfOk result (λ most. most ≡ most_of plan.now entries.now section) }
 {
     let mut plain = Plain::open(alloc, plan)?;
@@ -61,8 +62,7 @@ fn section_between(plan: &Plan, pair: usize, way: Way) -> Section
     ensures between { result ≡ section_between pair way }
     ensures section { IsSection plan.now result }
 {
-    // The read shows the proof that a plan has few boxes.
-    let _few = plan.boxes.len();
+    plan.meets_conditions();
     let rear = pair as u32;
     match way {
         Way::Up => Section {
@@ -139,11 +139,10 @@ fn raise_beside(most: &mut [ByWay<u32>], plain: &Plain, plan: &Plan, box_no: u32
 // The most trains that the sections of each pair held, by each entry performed once on a line that opens.
 fn most_by_pairs(alloc: Global, plan: &Plan, entries: &[Entry]) -> Result<Vec<ByWay<u32>>, NoMemory>
     requires legal { IsLegal plan.now entries.now }
-    requires few { AreFew entries.now }
+    requires few { AreFewEntries entries.now }
     ensures { IfOk result (λ most. AreMost plan.now entries.now most.items) }
 {
-    // The read shows the proof what the type of a plan keeps.
-    let _two = plan.boxes.len();
+    plan.meets_conditions();
     let mut plain = Plain::open(alloc, plan)?;
     let mut most = held_by_pairs(alloc, &plain, plan)?;
     for entry in entries {
@@ -156,7 +155,9 @@ fn most_by_pairs(alloc: Global, plan: &Plan, entries: &[Entry]) -> Result<Vec<By
 // A section as it is named: its way, its rear box and its box in advance.
 fn put_named(out: &mut String, plan: &Plan, section: Section) -> Result<(), AllocError>
     requires { IsSection plan.now section }
-    ensures { OnOk result (string_bytes out.new ≡ string_bytes out.old ++ (way_text section.way ++ 32 ∷ box_name plan.now section.rear ++ 32 ∷ box_name plan.now (advance_of section))) }
+    ensures { OnOk result (string_bytes out.new
+        ≡ string_bytes out.old ++ (way_text section.way ++ 32 ∷ box_name plan.now section.rear
+        ++ 32 ∷ box_name plan.now (advance_of section))) }
 {
     out.push_str(way_word(section.way))?;
     out.push_str(" ")?;
@@ -196,9 +197,9 @@ fn put_pairs(out: &mut String, plan: &Plan, most: &[ByWay<u32>]) -> Result<(), A
     Ok(())
 }
 
-/// Puts the lines of all sections behind a text: for each pair of neighbours in order that of the down line, and then that of
-/// the up line, each with the most trains that the section held after any of the entries of a legal journal, or before them
-/// all. There are fewer than 2^32 entries. Where memory runs out a part may stand behind the text.
+/// Puts the lines of all sections behind a text: for each pair of neighbours in order that of the down line, and then
+/// that of the up line, each with the most trains that the section held after any of the entries of a legal journal, or
+/// before them all. There are fewer than 2^32 entries. Where memory runs out a part may stand behind the text.
 #[tactic(auto, using(crate::proofs::PairTexts::all_pairs))]
 pub fn put_sections(
     out: &mut String,
@@ -207,7 +208,7 @@ pub fn put_sections(
     journal: &Journal,
 ) -> Result<(), NoMemory>
     requires legal { IsLegal plan.now journal.now.entries }
-    requires few { AreFew journal.now.entries }
+    requires few { AreFewEntries journal.now.entries }
     ensures { OnOk result (string_bytes out.new ≡ string_bytes out.old ++ sections_text plan.now journal.now.entries) }
 {
     let most = most_by_pairs(alloc, plan, journal.entries.as_slice())?;

@@ -1,15 +1,7 @@
-//! Whole runs over texts and a sink in memory.
+//! Whole runs over texts and a sink in memory, where a worked case can't say what is shown: calls of the shelf and the
+//! sink that fail, what passes the gate, and the desk alone.
 
-mod bells;
-mod block;
+mod alone;
 mod desk;
 mod faults;
 mod gates;
-mod judged;
-mod levers;
-mod lines;
-mod refusals;
-mod reports;
-mod through;
-mod trains;
-mod worked;

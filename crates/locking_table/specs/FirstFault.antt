@@ -14,7 +14,8 @@ pub record BeginsRow (words : List (List ℕ)) : Type 0 where
 -- behind the words in front no row's text goes on with the next word, or, where none is left, no row's text ends
 abbrev pub LeavesGrammar : List (List ℕ) → List (List ℕ) → Type 0
 LeavesGrammar front [] = (row : Row) → IsGrammarRow row → row_words row ≢ front
-LeavesGrammar front (word ∷ words) = (row : Row) → IsGrammarRow row → (more : List (List ℕ)) → row_words row ≢ front ++ word ∷ more
+LeavesGrammar front (word ∷ words) = (row : Row) → IsGrammarRow row → (more : List (List ℕ))
+    → row_words row ≢ front ++ word ∷ more
 
 -- the word with this number, from 1, is the first with which no row's text goes on, or one past the last word
 pub record StopsAt (words : List (List ℕ)) (number : ℕ) : Type 0 where

@@ -1,5 +1,6 @@
 -- What a row of a locking table means, which lever may move, and what holds it.
-use Rattle.std.specs.Prelude.{◌≡◌, ℕ, ◌+◌, List, [], ◌∷◌, ◌++◌, Option, Some, None, Bool, not, ◌&&◌, ◌==◌, if◌then◌else◌, IsTrue, All, length}
+use Rattle.std.specs.Prelude.{◌≡◌, ℕ, ◌+◌, List, [], ◌∷◌, ◌++◌, Option, Some, None, Bool, not, ◌&&◌, ◌==◌}
+use Rattle.std.specs.Prelude.{if◌then◌else◌, IsTrue, All, length}
 use Rattle.std.specs.List.{list_all}
 use Rattle.locking_table.specs.declared.places.End.{End}
 use Rattle.locking_table.specs.declared.places.End.TheVariants.{Normal, Reversed}
@@ -10,7 +11,8 @@ use Rattle.locking_table.specs.declared.row.RowKind.TheVariants.{LocksNormal, Re
 use Rattle.locking_table.specs.declared.row.Cond.{Cond}
 use Rattle.locking_table.specs.declared.row.Row.{Row}
 use Rattle.locking_table.specs.declared.row.Holder.{Holder}
-use Rattle.locking_table.specs.Places.{LeverPlace, is_normal, is_mid, is_reversed, other_end, end_at, stand_at, stand_of}
+use Rattle.locking_table.specs.Places.{LeverPlace, is_normal, is_mid, is_reversed, other_end, end_at, stand_at}
+use Rattle.locking_table.specs.Places.{stand_of}
 
 -- a condition "C reversed" acts where C isn't normal, and "C normal" where C isn't reversed
 abbrev pub acts_at : End → Stand → Bool
@@ -28,7 +30,8 @@ breaks LocksBoth stand = is_mid stand
 
 -- a row holds unless its subject isn't normal, all its conditions act, and the object breaks its kind
 abbrev pub row_holds : LeverPlace → Row → Bool
-row_holds places row = not (not (is_normal (places row.subject)) && list_all (acts places) row.when && breaks row.kind (places row.object))
+row_holds places row = not
+    (not (is_normal (places row.subject)) && list_all (acts places) row.when && breaks row.kind (places row.object))
 
 abbrev pub RowHolds : LeverPlace → Row → Type 0
 RowHolds places row = IsTrue (row_holds places row)
@@ -54,13 +57,15 @@ holding_lever row moved = if row.subject == moved then row.object else row.subje
 abbrev pub first_holder : List End → ℕ → ℕ → List Row → Option Holder
 first_holder ends lever from [] = None
 first_holder ends lever from (row ∷ rows) =
-    if row_allows ends lever row then first_holder ends lever (from + 1) rows else Some (record { lever = holding_lever row lever; row = from })
+    if row_allows ends lever row then first_holder ends lever (from + 1) rows
+    else Some (record { lever = holding_lever row lever; row = from })
 
 -- what holds a lever: rows are numbered from 1
 abbrev pub holder_of : List End → ℕ → List Row → Option Holder
 holder_of ends lever rows = first_holder ends lever 1 rows
 
--- the row that a holder names is the first in table order that fails in one of the two, and the holder's lever is the one that it names
+-- the row that a holder names is the first in table order that fails in one of the two, and the holder's lever is the
+-- one that it names
 pub record IsFirstToFail (ends : List End) (lever : ℕ) (rows : List Row) (holder : Holder) : Type 0 where
   pub front : List Row
   pub row : Row

@@ -5,6 +5,10 @@ use Rattle.locking_table.specs.declared.places.End.TheVariants.{Normal, Reversed
 use Rattle.locking_table.specs.declared.places.Stand.{Stand}
 use Rattle.locking_table.specs.declared.places.Stand.TheVariants.{AtNormal, AtMid, AtReversed}
 
+-- the most levers of a frame
+abbrev pub most_levers : ℕ
+most_levers = 120
+
 -- a frame of so many levers has this one
 abbrev pub IsLever : ℕ → ℕ → Type 0
 IsLever levers lever = (1 ≤ lever) × (lever ≤ levers)

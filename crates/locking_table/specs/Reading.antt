@@ -1,5 +1,6 @@
 -- How a row is read of its text, from left to right, and the first word at which no row's text goes on.
-use Rattle.std.specs.Prelude.{◌≡◌, ℕ, ◌+◌, ◌-◌, ◌*◌, List, [], ◌∷◌, Option, Some, None, Result, Ok, Err, Bool, true, false, ◌&&◌, ◌==◌, nat_le, if◌then◌else◌, codes, bytes_eq}
+use Rattle.std.specs.Prelude.{◌≡◌, ℕ, ◌+◌, ◌-◌, ◌*◌, List, [], ◌∷◌, Option, Some, None, Result, Ok, Err, Bool, true}
+use Rattle.std.specs.Prelude.{false, ◌&&◌, ◌==◌, nat_le, if◌then◌else◌, codes, bytes_eq}
 use Rattle.std.specs.Char.{is_ascii_digit}
 use Rattle.locking_table.specs.declared.places.End.{End}
 use Rattle.locking_table.specs.declared.places.End.TheVariants.{Normal, Reversed}
@@ -13,6 +14,7 @@ use Rattle.locking_table.specs.declared.words.Verb.{Verb}
 use Rattle.locking_table.specs.declared.words.Verb.TheVariants.{Locks, Released}
 use Rattle.locking_table.specs.declared.words.Bound.{Bound}
 use Rattle.locking_table.specs.declared.words.Bound.TheVariants as bounds
+use Rattle.locking_table.specs.Places.{most_levers}
 use Rattle.locking_table.specs.Words.{Left, words_of}
 use Rattle.locking_table.specs.Sound.{all_differ, levers_of}
 
@@ -21,29 +23,33 @@ abbrev pub ◌>>=◌ : {A B E : Type 0} → Result A E → (A → Result B E) �
 (Ok x) >>= f = f x
 (Err e) >>= f = Err e
 
--- a number of 1 to 120 with one digit more
+-- a number up to that of the last lever, with one digit more
 abbrev pub with_digit : ℕ → ℕ → Option ℕ
 with_digit number byte =
-    if is_ascii_digit byte && nat_le 1 (10 * number + (byte - 48)) && nat_le (10 * number + (byte - 48)) 120 then Some (10 * number + (byte - 48)) else None
+    if is_ascii_digit byte && nat_le 1 (10 * number + (byte - 48)) && nat_le (10 * number + (byte - 48)) most_levers
+    then Some (10 * number + (byte - 48)) else None
 
--- a number with these digits behind it, in which no digit leads out of 1 to 120
+-- a number with these digits behind it, none of which leads out of the numbers of levers
 abbrev pub lever_on : Option ℕ → List ℕ → Option ℕ
 lever_on None bytes = None
 lever_on (Some number) [] = if number == 0 then None else Some number
 lever_on (Some number) (byte ∷ bytes) = lever_on (with_digit number byte) bytes
 
--- the lever that a word names: a number from 1 to 120 without leading zeros
+-- the lever that a word names: its number without leading zeros
 abbrev pub lever_of : List ℕ → Option ℕ
 lever_of word = lever_on (Some 0) word
 
 abbrev pub end_of_word : List ℕ → Option End
-end_of_word word = if bytes_eq word (codes "normal") then Some Normal else if bytes_eq word (codes "reversed") then Some Reversed else None
+end_of_word word = if bytes_eq word (codes "normal") then Some Normal else if bytes_eq word (codes "reversed")
+    then Some Reversed else None
 
 abbrev pub verb_of : List ℕ → Option Verb
-verb_of word = if bytes_eq word (codes "locks") then Some Locks else if bytes_eq word (codes "released") then Some Released else None
+verb_of word = if bytes_eq word (codes "locks") then Some Locks else if bytes_eq word (codes "released")
+    then Some Released else None
 
 abbrev pub bound_of : List ℕ → Option Bound
-bound_of word = if bytes_eq word (codes "normal") then Some bounds.Normal else if bytes_eq word (codes "both") then Some bounds.Both else None
+bound_of word = if bytes_eq word (codes "normal") then Some bounds.Normal else if bytes_eq word (codes "both")
+    then Some bounds.Both else None
 
 abbrev pub only : List ℕ → List ℕ → Option (Unit {0})
 only wanted word = if bytes_eq word wanted then Some tt else None
@@ -96,14 +102,16 @@ locked_from left = bound_from left >>= λ p. locked_by p.0 p.1
 -- what the row says of its object: the kind, and the object
 unfoldable pub asked_by : Verb → Left → Result ((RowKind × ℕ) × Left) RowError
 asked_by Locks left = lever_from left >>= λ object. locked_from object.1 >>= λ kind. Ok ((kind.0, object.0), kind.1)
-asked_by Released left = only_from (codes "by") left >>= λ p. lever_from p.1 >>= λ object. Ok ((ReleasedBy, object.0), object.1)
+asked_by Released left =
+    only_from (codes "by") left >>= λ p. lever_from p.1 >>= λ object. Ok ((ReleasedBy, object.0), object.1)
 
 unfoldable pub asked_from : Left → Result ((RowKind × ℕ) × Left) RowError
 asked_from left = verb_from left >>= λ p. asked_by p.0 p.1
 
 -- a condition behind the word that joins it on
 unfoldable pub cond_from : List ℕ → Left → Result (Cond × Left) RowError
-cond_from joint left = only_from joint left >>= λ p. lever_from p.1 >>= λ lever. end_from lever.1 >>= λ e. Ok (record { lever = lever.0; end = e.0 }, e.1)
+cond_from joint left = only_from joint left >>= λ p. lever_from p.1 >>= λ lever. end_from lever.1 >>= λ e. Ok
+    (record { lever = lever.0; end = e.0 }, e.1)
 
 -- what stands behind one condition: nothing, or one more
 unfoldable pub second_from : Cond → Left → Result (List Cond) RowError
@@ -113,7 +121,8 @@ second_from first left =
 
 -- up to two conditions, and no word more
 unfoldable pub conds_from : Left → Result (List Cond) RowError
-conds_from left = if has_no_word left.words then Ok [] else (cond_from (codes "when") left >>= λ first. second_from first.0 first.1)
+conds_from left = if has_no_word left.words then Ok []
+    else (cond_from (codes "when") left >>= λ first. second_from first.0 first.1)
 
 -- a row by the grammar of rows
 unfoldable pub row_from : Left → Result Row RowError

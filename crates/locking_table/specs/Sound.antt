@@ -3,7 +3,7 @@ use Rattle.std.specs.Prelude.{ℕ, ◌≤◌, ◌<◌, ◌^◌, List, [], ◌∷
 use Rattle.std.specs.List.{list_any}
 use Rattle.locking_table.specs.declared.row.Cond.{Cond}
 use Rattle.locking_table.specs.declared.row.Row.{Row}
-use Rattle.locking_table.specs.Places.{IsLever}
+use Rattle.locking_table.specs.Places.{IsLever, most_levers}
 
 abbrev pub CondFits : ℕ → Cond → Type 0
 CondFits levers cond = IsLever levers cond.lever
@@ -28,14 +28,14 @@ abbrev pub conds_differ : List Cond → Bool
 conds_differ [] = true
 conds_differ (cond ∷ conds) = not (list_any (λ later. later.lever == cond.lever) conds) && conds_differ conds
 
--- some text of the grammar of rows reads so: its levers are 1 to 120, and it has at most two conditions
+-- some text of the grammar of rows reads so: its levers have the numbers of levers, and it has at most two conditions
 pub record IsGrammarRow (row : Row) : Type 0 where
-  pub levers : RowFits 120 row
+  pub levers : RowFits most_levers row
   pub few : length row.when ≤ 2
 
--- some text spells the row: its levers are 1 to 120 and all differ, and it has at most two conditions
+-- some text spells the row: its levers have the numbers of levers and all differ, and it has at most two conditions
 pub record IsRow (row : Row) : Type 0 where
-  pub levers : RowFits 120 row
+  pub levers : RowFits most_levers row
   pub differ : IsTrue (all_differ (levers_of row))
   pub few : length row.when ≤ 2
 

@@ -15,8 +15,10 @@ use crate::reading::RowError;
 
 /// A law: nothing holds a lever exactly where it may move, and what holds it is the first row that fails.
 pub fn holder_law()
-    ensures free { (ends : List End) (lever : ℕ) (rows : List Row) → (holder_of ends lever rows ≡ None) ↔ MayMove ends lever rows }
-    ensures first { (ends : List End) (lever : ℕ) (rows : List Row) (holder : Holder) → holder_of ends lever rows ≡ Some holder → IsFirstToFail ends lever rows holder }
+    ensures free { (ends : List End) (lever : ℕ) (rows : List Row) → (holder_of ends lever rows ≡ None)
+        ↔ MayMove ends lever rows }
+    ensures first { (ends : List End) (lever : ℕ) (rows : List Row) (holder : Holder)
+        → holder_of ends lever rows ≡ Some holder → IsFirstToFail ends lever rows holder }
 {}
 
 /// A law of rows as texts: what is printed of a row is read as that row, and a text that is read as a row is the one
@@ -25,7 +27,8 @@ pub fn holder_law()
 pub fn row_law()
     ensures printed { (row : Row) → IsRow row → row_of (row_text row) ≡ Ok row }
     ensures spelled { (text : List ℕ) (row : Row) → row_of text ≡ Ok row → IsRow row × (text ≡ row_text row) }
-    ensures bad_row { (text : List ℕ) (number : ℕ) → row_of text ≡ Err (RowError.BadRow number) → StopsAt (words_of text) number }
+    ensures bad_row { (text : List ℕ) (number : ℕ) → row_of text ≡ Err (RowError.BadRow number)
+        → StopsAt (words_of text) number }
     ensures same_lever { (text : List ℕ) → (row_of text ≡ Err RowError.SameLever) ↔ NamesTwice text }
     ensures no_memory { (text : List ℕ) → row_of text ≢ Err RowError.NoMemory }
 {}

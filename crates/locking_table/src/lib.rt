@@ -17,11 +17,8 @@ mod words;
 pub use conds::Conds;
 pub use laws::{holder_law, row_law};
 pub use memory::NoMemory;
-pub use places::{End, Stand, end_of, stand_of};
+pub use places::{End, MOST_LEVERS, Stand, end_of, stand_of};
 pub use printing::{print_row, put_row};
 pub use reading::{RowError, read_row};
 pub use row::{Cond, Holder, Row, RowKind};
 pub use table::Table;
-
-#[cfg(test)]
-mod tests;

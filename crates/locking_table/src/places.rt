@@ -3,6 +3,9 @@
 ghost use Rattle.std.specs.Prelude.{◌≡◌, length};
 ghost use Rattle.locking_table.specs.Places.{IsLever, end_at, other_end, stand_at, stand_of};
 
+/// The most levers of a frame. Levers are numbered from 1.
+pub const MOST_LEVERS: u32 = 120;
+
 /// An end of a lever's stroke. Between two moves every lever stands at one.
 #[derive(Clone, Copy, Debug, PartialEq, Eq, Hash)]
 pub enum End {

@@ -46,7 +46,8 @@ fn put_cond(out: &mut String, joint: &str, cond: &Cond) -> Result<(), AllocError
 // Conditions behind another one.
 #[tactic(auto, using(crate::proofs::PrintLemmas::print_rules))]
 fn put_more(out: &mut String, conds: &[Cond]) -> Result<(), AllocError>
-    ensures { OnOk result (string_bytes out.new ≡ string_bytes out.old ++ spaced (flat_map (cond_words (codes "and")) conds.now)) }
+    ensures { OnOk result (string_bytes out.new
+        ≡ string_bytes out.old ++ spaced (flat_map (cond_words (codes "and")) conds.now)) }
 {
     for cond in conds {
         put_cond(out, "and", cond)?;

@@ -2,7 +2,8 @@
 
 ghost use Rattle.std.specs.Prelude.{◌≡◌, ◌+◌, ◌<◌, ◌≤◌, ◌^◌, IfOk};
 ghost use Rattle.locking_table.specs.Printing.{row_text};
-ghost use Rattle.locking_table.specs.Reading.{GivesPart, GivesRow, asked_from, cond_from, conds_from, grammar_of, locked_from, row_of};
+ghost use Rattle.locking_table.specs.Reading.{GivesPart, GivesRow, asked_from, cond_from, conds_from, grammar_of};
+ghost use Rattle.locking_table.specs.Reading.{locked_from, row_of};
 ghost use Rattle.locking_table.specs.Sound.{IsRow};
 
 use crate::conds::Conds;

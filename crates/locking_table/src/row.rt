@@ -7,7 +7,7 @@ ghost use Rattle.locking_table.specs.Meaning.{acts, breaks, holding_lever, row_h
 ghost use Rattle.locking_table.specs.Sound.{CondFits, IsRow, RowFits, all_differ, conds_differ, levers_of};
 
 use crate::conds::Conds;
-use crate::places::{End, Stand, end_of, stand_of};
+use crate::places::{End, MOST_LEVERS, Stand, end_of, stand_of};
 
 /// What a row asks of its object.
 #[derive(Clone, Copy, Debug, PartialEq, Eq, Hash)]
@@ -124,7 +124,7 @@ impl Row {
     pub fn is_spelled(&self) -> bool
         ensures { IsTrue result ↔ IsRow self.now }
     {
-        self.fits(120) && self.levers_differ() && self.when.as_slice().len() <= 2
+        self.fits(MOST_LEVERS) && self.levers_differ() && self.when.as_slice().len() <= 2
     }
 
     /// Whether all levers that the row names differ.

@@ -1,6 +1,7 @@
 //! Locking tables.
 
-ghost use Rattle.std.specs.Prelude.{◌≡◌, ◌<◌, ◌-◌, ◌+◌, ◌^◌, ◌∷◌, ◌++◌, ◌==◌, [], All, OnOk, OnErr, IsNone, IsTrue, ◌↔◌, length, option_map};
+ghost use Rattle.std.specs.Prelude.{◌≡◌, ◌<◌, ◌-◌, ◌+◌, ◌^◌, ◌∷◌, ◌++◌, ◌==◌, [], All, OnOk, OnErr, IsNone, IsTrue};
+ghost use Rattle.std.specs.Prelude.{◌↔◌, length, option_map};
 ghost use Rattle.locking_table.specs.Places.{IsLever};
 ghost use Rattle.locking_table.specs.Meaning.{MayMove, first_holder, holder_of};
 ghost use Rattle.locking_table.specs.Sound.{IsRow, RowFits};

@@ -2,9 +2,12 @@
 
 ghost use Rattle.std.specs.Prelude.{◌≡◌, ◌+◌, ◌-◌, ◌<◌, ◌≤◌, ◌^◌, ◌∷◌, [], Some, IfNone, IfSome, length, option_map};
 ghost use Rattle.locking_table.specs.Words.{cut_of, words_of, words_after};
-ghost use Rattle.locking_table.specs.Reading.{GivesPart, bound_from, bound_of, end_from, end_of_text, end_of_word, has_no_word, lever_from, lever_of, lever_on, only_from, verb_from, verb_of, with_digit};
+ghost use Rattle.locking_table.specs.Reading.{GivesPart, bound_from, bound_of, end_from, end_of_text, end_of_word};
+ghost use Rattle.locking_table.specs.Reading.{has_no_word, lever_from, lever_of, lever_on, only_from, verb_from};
+ghost use Rattle.locking_table.specs.Reading.{verb_of, with_digit};
+ghost use Rattle.locking_table.specs.Places.{most_levers};
 
-use crate::places::End;
+use crate::places::{End, MOST_LEVERS};
 use crate::reading::RowError;
 use std::marker::Model;
 
@@ -59,24 +62,24 @@ fn first_word(bytes: &[u8]) -> (&[u8], Option<&[u8]>)
     cut(bytes)
 }
 
-// A number of 1 to 120 with one digit more.
+// A number up to that of the last lever, with one digit more.
 fn with_digit(number: u32, byte: u8) -> Option<u32>
-    requires { number ≤ 120 }
+    requires { number ≤ most_levers }
     ensures value { result ≡ with_digit number byte }
-    ensures few { IfSome result (λ n. n ≤ 120) }
+    ensures few { IfSome result (λ n. n ≤ most_levers) }
 {
     if !byte.is_ascii_digit() {
         return None;
     }
     let longer = 10 * number + u32::from(byte - b'0');
-    if 1 <= longer && longer <= 120 {
+    if 1 <= longer && longer <= MOST_LEVERS {
         Some(longer)
     } else {
         None
     }
 }
 
-// The lever that a word names: a number from 1 to 120 without leading zeros.
+// The lever that a word names: its number without leading zeros.
 fn lever_of(word: &[u8]) -> Option<u32>
     ensures { result ≡ lever_of word.now }
 {

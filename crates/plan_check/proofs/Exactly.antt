@@ -21,7 +21,7 @@ use Rattle.line_plan.specs.declared.signal.Signal.{Signal}
 use Rattle.line_law.proofs.PlanFacts.{sound}
 use Rattle.plan_check.specs.Clashes.{Clash, do_clash}
 use Rattle.plan_check.specs.Found.{box_findings, boxes_findings, clash_findings, clashes_from, clashes_with, findings_of, gap_findings, is_spare, lever_findings, section_findings, stands_in}
-use Rattle.plan_check.specs.Told.{HasNoRow, LacksBerth, LacksStarter, RowsClashAt, no_row, row_at}
+use Rattle.plan_check.specs.FindingFacts.{HasNoRow, LacksBerth, LacksStarter, RowsClashAt, no_row, row_at}
 use Rattle.plan_check.specs.declared.finding.Finding.{Finding}
 use Rattle.plan_check.specs.declared.finding.Finding.TheVariants.{RowsClash, LeverWithoutRow, NoBerth, NoStarter}
 use Rattle.plan_check.proofs.Meeting.{clashes_exactly, meets_clash}

@@ -8,10 +8,12 @@ use Rattle.locking_table.specs.declared.row.Row.{Row}
 use Rattle.locking_table.specs.declared.row.RowKind.{RowKind}
 use Rattle.locking_table.specs.declared.row.RowKind.TheVariants.{LocksNormal, ReleasedBy, LocksBoth}
 
--- two rows of one subject clash in a frame of so many levers: with the subject at mid, no ends of the other levers let both hold
+-- two rows of one subject clash in a frame of so many levers: with the subject at mid, no ends of the other levers let
+-- both hold
 pub record Clash (levers : ℕ) (first second : Row) : Type 0 where
   pub subject : first.subject ≡ second.subject
-  pub never : (ends : List End) → length ends ≡ levers → ¬ (RowHolds (stand_of ends first.subject AtMid) first × RowHolds (stand_of ends first.subject AtMid) second)
+  pub never : (ends : List End) → length ends ≡ levers
+      → ¬ (RowHolds (stand_of ends first.subject AtMid) first × RowHolds (stand_of ends first.subject AtMid) second)
 
 -- one kind wants its object normal, the other wants it reversed
 abbrev pub opposed : RowKind → RowKind → Bool
@@ -25,6 +27,8 @@ opposed LocksBoth LocksNormal = false
 opposed LocksBoth ReleasedBy = false
 opposed LocksBoth LocksBoth = false
 
--- The test of two rows: one subject, no conditions, and one object wanted at opposed ends. A row with a condition holds where that lever is put to its other end.
+-- The test of two rows: one subject, no conditions, and one object wanted at opposed ends. A row with a condition holds
+-- where that lever is put to its other end.
 abbrev pub do_clash : Row → Row → Bool
-do_clash first second = first.subject == second.subject && length first.when == 0 && length second.when == 0 && first.object == second.object && opposed first.kind second.kind
+do_clash first second = first.subject == second.subject && length first.when == 0 && length second.when == 0
+    && first.object == second.object && opposed first.kind second.kind

@@ -1,5 +1,6 @@
 -- The findings on a plan.
-use Rattle.std.specs.Prelude.{ℕ, ◌+◌, ◌<◌, List, [], ◌∷◌, ◌++◌, length, Bool, true, false, not, ◌&&◌, ◌||◌, ◌==◌, if◌then◌else◌, Option, Some, None}
+use Rattle.std.specs.Prelude.{ℕ, ◌+◌, ◌<◌, List, [], ◌∷◌, ◌++◌, length, Bool, true, false, not, ◌&&◌, ◌||◌, ◌==◌}
+use Rattle.std.specs.Prelude.{if◌then◌else◌, Option, Some, None}
 use Rattle.std.specs.List.{flat_map, list_any}
 use Rattle.block_words.specs.declared.Way.TheVariants.{Up, Down}
 use Rattle.locking_table.specs.declared.row.Row.{Row}
@@ -25,7 +26,8 @@ clash_findings b first row second later = if do_clash row later then RowsClash b
 -- the clashes of a row of box b with the rows behind it, which are numbered from this number on
 abbrev pub clashes_with : ℕ → ℕ → Row → ℕ → List Row → List Finding
 clashes_with b first row second [] = []
-clashes_with b first row second (later ∷ rows) = clash_findings b first row second later ++ clashes_with b first row (second + 1) rows
+clashes_with b first row second (later ∷ rows) =
+    clash_findings b first row second later ++ clashes_with b first row (second + 1) rows
 
 -- the clashes among rows of box b, which are numbered from this number on: by the first row, then by the second
 abbrev pub clashes_from : ℕ → ℕ → List Row → List Finding
@@ -51,7 +53,8 @@ is_spare kinds.Spare = true
 
 -- a lever of box b that isn't spare and stands in no row
 abbrev pub lever_findings : ℕ → List Row → Lever → List Finding
-lever_findings b rows lever = if not (is_spare lever.kind) && not (stands_in rows lever.number) then LeverWithoutRow b lever.number ∷ [] else []
+lever_findings b rows lever =
+    if not (is_spare lever.kind) && not (stands_in rows lever.number) then LeverWithoutRow b lever.number ∷ [] else []
 
 -- ---- sections
 
@@ -67,7 +70,8 @@ section_findings plan section = gap_findings section (section_starter plan secti
 
 -- of the two sections between box b and the next
 abbrev pub pair_findings : PlanFields → ℕ → List Finding
-pair_findings plan b = section_findings plan (record { rear = b; way = Down }) ++ section_findings plan (record { rear = b + 1; way = Up })
+pair_findings plan b = section_findings plan (record { rear = b; way = Down })
+    ++ section_findings plan (record { rear = b + 1; way = Up })
 
 -- ---- all
 

@@ -1,4 +1,4 @@
 pub mod Clashes
 pub mod Found
 pub mod Texts
-pub mod Told
+pub mod FindingFacts

@@ -11,7 +11,8 @@ use Rattle.plan_check.specs.declared.finding.Finding.TheVariants.{RowsClash, Lev
 -- a section that lacks something: its way, and its boxes from rear to advance
 abbrev pub gap_text : PlanFields → Section → List ℕ → List ℕ
 gap_text plan section lacks =
-    codes "section " ++ way_word section.way ++ 32 ∷ box_name plan section.rear ++ 32 ∷ box_name plan (advance_of section) ++ codes " has no " ++ lacks ++ 10 ∷ []
+    codes "section " ++ way_word section.way ++ 32 ∷ box_name plan section.rear
+    ++ 32 ∷ box_name plan (advance_of section) ++ codes " has no " ++ lacks ++ 10 ∷ []
 
 -- a box as a finding names it
 unfoldable pub box_text : PlanFields → ℕ → List ℕ
@@ -20,7 +21,8 @@ box_text plan b = codes "box " ++ box_name plan b
 -- two rows of box b that clash, and their subject
 abbrev pub clash_text : PlanFields → ℕ → ℕ → ℕ → ℕ → List ℕ
 clash_text plan b first second lever =
-    box_text plan b ++ codes " rows " ++ decimal first ++ 32 ∷ decimal second ++ codes " never let lever " ++ decimal lever ++ codes " move\n"
+    box_text plan b ++ codes " rows " ++ decimal first ++ 32 ∷ decimal second ++ codes " never let lever "
+    ++ decimal lever ++ codes " move\n"
 
 -- a lever of box b without a row
 abbrev pub lever_text : PlanFields → ℕ → ℕ → List ℕ
@@ -35,4 +37,5 @@ finding_text plan (NoStarter section) = gap_text plan section (codes "starter")
 
 -- how many findings there are, and the line of each
 unfoldable pub findings_text : PlanFields → List Finding → List ℕ
-findings_text plan findings = codes "findings " ++ decimal (length findings) ++ 10 ∷ flat_map (finding_text plan) findings
+findings_text plan findings =
+    codes "findings " ++ decimal (length findings) ++ 10 ∷ flat_map (finding_text plan) findings

@@ -20,16 +20,16 @@ fn add_boxes(found: &mut Vec<Finding>, plan: &Plan) -> Result<(), NoMemory>
     Ok(())
 }
 
-/// The findings on a plan: in each box, in order, first the pairs of rows that clash, by the first row and then by the second,
-/// then the levers that aren't spare and stand in no row; then, for each section in the order in which sections are printed,
-/// whether it has a starter and no berth, or a berth and no starter. The line has the boxes and the sections of each finding.
+/// The findings on a plan: in each box, in order, first the pairs of rows that clash, by the first row and then by the
+/// second, then the levers that aren't spare and stand in no row; then, for each section in the order in which sections
+/// are printed, whether it has a starter and no berth, or a berth and no starter. The line has the boxes and the
+/// sections of each finding.
 #[tactic(auto, using(crate::proofs::Places::are_there))]
 pub fn check_plan(alloc: Global, plan: &Plan) -> Result<Vec<Finding>, NoMemory>
     ensures exact { IfOk result (λ findings. findings.items ≡ findings_of plan.now) }
     ensures there { IfOk result (λ findings. All (IsOfPlan plan.now) findings.items) }
 {
-    // The read shows the proof what the type of a plan keeps.
-    let _two = plan.boxes.len();
+    plan.meets_conditions();
     let mut found = Vec::new(alloc);
     add_boxes(&mut found, plan)?;
     add_gaps(&mut found, plan)?;

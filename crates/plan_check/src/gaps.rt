@@ -30,8 +30,7 @@ fn add_pair(found: &mut Vec<Finding>, plan: &Plan, rear: u32) -> Result<(), NoMe
     requires { rear + 1 < length plan.now.boxes }
     ensures { OnOk result (found.new.items ≡ found.old.items ++ pair_findings plan.now rear) }
 {
-    // The read shows the proof that a plan has few boxes.
-    let _few = plan.boxes.len();
+    plan.meets_conditions();
     add_gap(
         found,
         plan,
@@ -52,7 +51,8 @@ fn add_pair(found: &mut Vec<Finding>, plan: &Plan, rear: u32) -> Result<(), NoMe
 
 /// Adds what the sections of a line lack, in the order in which they are printed.
 pub fn add_gaps(found: &mut Vec<Finding>, plan: &Plan) -> Result<(), NoMemory>
-    ensures { OnOk result (found.new.items ≡ found.old.items ++ flat_map (section_findings plan.now) (sections_of plan.now)) }
+    ensures { OnOk result (found.new.items
+        ≡ found.old.items ++ flat_map (section_findings plan.now) (sections_of plan.now)) }
 {
     for rear in 0..plan.boxes.len() - 1 {
         add_pair(found, plan, rear as u32)?;

@@ -27,7 +27,9 @@ fn put_box(out: &mut String, plan: &Plan, box_no: u32) -> Result<(), AllocError>
 // A section as it is named: its way, its rear box and its box in advance.
 fn put_named(out: &mut String, plan: &Plan, section: Section) -> Result<(), AllocError>
     requires { IsSection plan.now section }
-    ensures { OnOk result (string_bytes out.new ≡ string_bytes out.old ++ (way_word section.way ++ 32 ∷ box_name plan.now section.rear ++ 32 ∷ box_name plan.now (advance_of section))) }
+    ensures { OnOk result (string_bytes out.new
+        ≡ string_bytes out.old ++ (way_word section.way ++ 32 ∷ box_name plan.now section.rear
+        ++ 32 ∷ box_name plan.now (advance_of section))) }
 {
     out.push_str(way_word(section.way))?;
     out.push_str(" ")?;
@@ -57,7 +59,8 @@ fn put_clash(
     lever: u32,
 ) -> Result<(), AllocError>
     requires { box_no < length plan.now.boxes }
-    ensures { OnOk result (string_bytes out.new ≡ string_bytes out.old ++ clash_text plan.now box_no rows.0 rows.1 lever) }
+    ensures { OnOk result (string_bytes out.new
+        ≡ string_bytes out.old ++ clash_text plan.now box_no rows.0 rows.1 lever) }
 {
     let (first, second) = rows;
     put_box(out, plan, box_no)?;
@@ -96,7 +99,8 @@ fn put_finding(out: &mut String, plan: &Plan, finding: Finding) -> Result<(), Al
 // The lines of all findings.
 fn put_lines(out: &mut String, plan: &Plan, findings: &[Finding]) -> Result<(), AllocError>
     requires { All (IsOfPlan plan.now) findings.now }
-    ensures { OnOk result (string_bytes out.new ≡ string_bytes out.old ++ flat_map (finding_text plan.now) findings.now) }
+    ensures { OnOk result (string_bytes out.new
+        ≡ string_bytes out.old ++ flat_map (finding_text plan.now) findings.now) }
 {
     for finding in findings {
         put_finding(out, plan, *finding)?;
@@ -104,8 +108,8 @@ fn put_lines(out: &mut String, plan: &Plan, findings: &[Finding]) -> Result<(), 
     Ok(())
 }
 
-/// Puts the findings on a plan behind a text: `findings` and how many there are, then a line for each. The line has the boxes
-/// and the sections that they name. Where memory runs out a part may stand behind the text.
+/// Puts the findings on a plan behind a text: `findings` and how many there are, then a line for each. The line has the
+/// boxes and the sections that they name. Where memory runs out a part may stand behind the text.
 #[tactic(auto, unfolding(crate::specs::Texts::findings_text))]
 pub fn put_findings(out: &mut String, plan: &Plan, findings: &[Finding]) -> Result<(), AllocError>
     requires { All (IsOfPlan plan.now) findings.now }
@@ -116,9 +120,10 @@ pub fn put_findings(out: &mut String, plan: &Plan, findings: &[Finding]) -> Resu
     put_lines(out, plan, findings)
 }
 
-/// The findings on a plan as they are printed: `findings COUNT`, then a line for each, as `box NAME rows R S never let lever L
-/// move`, `box NAME lever L has no row`, `section WAY REAR ADVANCE has no berth` or `section WAY REAR ADVANCE has no starter`.
-/// The line has the boxes and the sections that they name, as with those that the check of the plan found.
+/// The findings on a plan as they are printed: `findings COUNT`, then a line for each, as `box NAME rows R S never let
+/// lever L move`, `box NAME lever L has no row`, `section WAY REAR ADVANCE has no berth` or `section WAY REAR ADVANCE
+/// has no starter`. The line has the boxes and the sections that they name, as with those that the check of the plan
+/// found.
 pub fn print_findings(alloc: Global, plan: &Plan, findings: &[Finding]) -> Result<Vec<u8>, NoMemory>
     requires { All (IsOfPlan plan.now) findings.now }
     ensures { IfOk result (λ text. text.items ≡ findings_text plan.now findings.now) }

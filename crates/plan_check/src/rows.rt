@@ -3,7 +3,8 @@
 ghost use Rattle.std.specs.Prelude.{◌≡◌, ◌==◌, ◌+◌, ◌++◌, ◌<◌, ◌^◌, OnOk, length};
 ghost use Rattle.std.specs.List.{flat_map, list_any};
 ghost use Rattle.plan_check.specs.Clashes.{do_clash, opposed};
-ghost use Rattle.plan_check.specs.Found.{box_findings, clashes_from, clashes_with, is_spare, lever_findings, names_lever, stands_in};
+ghost use Rattle.plan_check.specs.Found.{box_findings, clashes_from, clashes_with, is_spare, lever_findings};
+ghost use Rattle.plan_check.specs.Found.{names_lever, stands_in};
 
 use crate::finding::Finding;
 use line_plan::{BoxPlan, Kind, Lever};
@@ -41,7 +42,8 @@ fn add_clashes_with(
     later: &[Row],
 ) -> Result<(), NoMemory>
     requires { number + length later.now < 2 ^ 32 }
-    ensures { OnOk result (found.new.items ≡ found.old.items ++ clashes_with box_no number row.now (number + 1) later.now) }
+    ensures { OnOk result (found.new.items
+        ≡ found.old.items ++ clashes_with box_no number row.now (number + 1) later.now) }
 {
     for (place, other) in later.iter().enumerate() {
         if do_clash(row, other) {

@@ -1,5 +1,6 @@
 -- What a line is before its words are read.
-use Rattle.std.specs.Prelude.{ℕ, Bool, true, not, nat_le, nat_lt, ◌==◌, ◌&&◌, List, [], ◌∷◌, length, Result, Ok, Err, if◌then◌else◌}
+use Rattle.std.specs.Prelude.{ℕ, Bool, true, not, nat_le, nat_lt, ◌==◌, ◌&&◌, List, [], ◌∷◌, length, Result, Ok, Err}
+use Rattle.std.specs.Prelude.{if◌then◌else◌}
 use Rattle.std.specs.List.{list_all, list_any}
 pub use Rattle.rail_text.specs.Lines.{is_empty_word}
 use Rattle.rail_text.specs.Lines.{Line, words_of}

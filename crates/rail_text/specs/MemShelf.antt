@@ -1,5 +1,6 @@
 -- A shelf in memory.
-use Rattle.std.specs.Prelude.{◌≡◌, ℕ, ◌+◌, Bool, nat_eq, List, [], ◌∷◌, take, Option, Some, None, is_some, IsSome, Result, Ok, Err, if◌then◌else◌, string_bytes, bytes_eq, String}
+use Rattle.std.specs.Prelude.{◌≡◌, ℕ, ◌+◌, Bool, nat_eq, List, [], ◌∷◌, take, Option, Some, None, is_some, IsSome}
+use Rattle.std.specs.Prelude.{Result, Ok, Err, if◌then◌else◌, string_bytes, bytes_eq, String}
 use Rattle.std.specs.List.{list_any}
 use Rattle.std.specs.Option.{option_map}
 use Rattle.std.specs.Global.{Vec, Global}
@@ -32,9 +33,11 @@ held_in (text ∷ texts) name = if bytes_eq text.name name then Some text.bytes 
 abbrev pub fails_next : List ℕ → ℕ → Bool
 fails_next fails calls = list_any (nat_eq (raised calls)) fails
 
--- what the next fetch gives: nothing where it is a call that fails or no text has the name, else the first limit + 1 bytes
+-- what the next fetch gives: nothing where it is a call that fails or no text has the name, else the first limit + 1
+-- bytes
 abbrev pub fetched : ShelfState → List ℕ → ℕ → Option (List ℕ)
-fetched shelf name limit = if fails_next shelf.fails shelf.calls then None else option_map (take (limit + 1)) (held_in shelf.texts name)
+fetched shelf name limit =
+    if fails_next shelf.fails shelf.calls then None else option_map (take (limit + 1)) (held_in shelf.texts name)
 
 -- the shelf after that fetch: one call more, and one fault more where it gave nothing
 abbrev pub shelf_after : ShelfState → List ℕ → ℕ → ShelfState

@@ -1,9 +1,11 @@
 -- A sink in memory.
-use Rattle.std.specs.Prelude.{ℕ, ◌-◌, ◌==◌, min, List, ◌++◌, length, take, Option, Some, None, is_some, unwrap_or, if◌then◌else◌}
+use Rattle.std.specs.Prelude.{ℕ, ◌-◌, ◌==◌, min, List, ◌++◌, length, take, Option, Some, None, is_some, unwrap_or}
+use Rattle.std.specs.Prelude.{if◌then◌else◌}
 use Rattle.rail_text.specs.Causes.{raised}
 use Rattle.rail_text.specs.MemShelf.{fails_next}
 
--- what it took, how much it has room for, the most that it takes in a put, the numbers of the calls that fail, and its counts
+-- what it took, how much it has room for, the most that it takes in a put, the numbers of the calls that fail, and its
+-- counts
 pub record SinkState : Type 0 where
   pub taken : List ℕ
   pub room : ℕ
@@ -16,8 +18,8 @@ pub record SinkState : Type 0 where
 abbrev pub room_left : SinkState → ℕ
 room_left sink = sink.room - length sink.taken
 
--- how many bytes of the piece the next put takes; none at all where it is a fault: it is a call that fails, or there is a
--- byte and no room is left
+-- how many bytes of the piece the next put takes; none at all where it is a fault: it is a call that fails, or there is
+-- a byte and no room is left
 abbrev pub taken_next : SinkState → List ℕ → Option ℕ
 taken_next sink piece =
     if fails_next sink.fails sink.calls then None

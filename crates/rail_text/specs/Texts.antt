@@ -29,9 +29,11 @@ at_line n (Err cause) = Err (record { line = n; cause = cause })
 -- the lines from number n on; after the last, the line `end` has stood
 unfoldable pub lines_onto : {D : Type 0} → Reads D → (D → Bool) → ℕ → D → List Line → Result D Fault
 lines_onto read ended n draft [] = if ended draft then Ok draft else Err (record { line = n; cause = causes.NoEnd })
-lines_onto read ended n draft (line ∷ lines) = at_line n (line_onto read draft line) >>= (λ next. lines_onto read ended (n + 1) next lines)
+lines_onto read ended n draft (line ∷ lines) =
+    at_line n (line_onto read draft line) >>= (λ next. lines_onto read ended (n + 1) next lines)
 
 -- a text of at most so many bytes: what its lines make of the start, or its first fault
 unfoldable pub text_onto : {D : Type 0} → Reads D → (D → Bool) → ℕ → D → List ℕ → Result D Fault
 text_onto read ended most start bytes =
-    if nat_lt most (length bytes) then Err (record { line = 0; cause = causes.TooLong }) else lines_onto read ended 1 start (lines_of bytes)
+    if nat_lt most (length bytes) then Err (record { line = 0; cause = causes.TooLong })
+    else lines_onto read ended 1 start (lines_of bytes)

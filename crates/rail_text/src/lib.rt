@@ -33,6 +33,3 @@ pub use reading::{Draft, read_text};
 pub use shelf::Shelf;
 pub use sink::{Sink, put_all};
 pub use words::{has_keyword, is_name, name_in, no_word, number_in, one_word};
-
-#[cfg(test)]
-mod tests;

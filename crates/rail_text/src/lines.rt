@@ -1,8 +1,10 @@
 //! The lines of a text, and the words of a line.
 
-ghost use Rattle.std.specs.Prelude.{◌≡◌, ℕ, List, ◌+◌, ◌^◌, ◌<◌, [], ◌∷◌, length, drop, option_map, IfNone, IfSome, slice_get, map, true};
+ghost use Rattle.std.specs.Prelude.{◌≡◌, ℕ, List, ◌+◌, ◌^◌, ◌<◌, [], ◌∷◌, length, drop, option_map, IfNone, IfSome};
+ghost use Rattle.std.specs.Prelude.{slice_get, map, true};
 ghost use Rattle.std.specs.List.{list_all, flat_map};
-ghost use Rattle.rail_text.specs.Lines.{Line, AreLinesOf, AreWordsOf, lacks, ended_line, printed_line, cut_of, lines_of, words_of, words_after};
+ghost use Rattle.rail_text.specs.Lines.{Line, AreLinesOf, AreWordsOf, lacks, ended_line, printed_line, cut_of};
+ghost use Rattle.rail_text.specs.Lines.{lines_of, words_of, words_after};
 
 use std::marker::Model;
 

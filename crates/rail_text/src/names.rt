@@ -1,6 +1,7 @@
 //! Names that are numbered in the order in which they came.
 
-ghost use Rattle.std.specs.Prelude.{◌≡◌, ℕ, ◌+◌, ◌^◌, ◌<◌, ◌==◌, [], ◌∷◌, ◌++◌, length, not, is_some, bytes_eq, position, slice_get, false, MatchOption, IfSome, IfOk, OnOk, OnErr, Some};
+ghost use Rattle.std.specs.Prelude.{◌≡◌, ℕ, ◌+◌, ◌^◌, ◌<◌, ◌==◌, [], ◌∷◌, ◌++◌, length, not, is_some, bytes_eq};
+ghost use Rattle.std.specs.Prelude.{position, slice_get, false, MatchOption, IfSome, IfOk, OnOk, OnErr, Some};
 ghost use Rattle.std.specs.List.{list_any};
 ghost use Rattle.rail_text.specs.Names.{AreNumbered};
 

@@ -4,7 +4,8 @@ ghost use Rattle.std.specs.Prelude.{◌≡◌, bytes_eq};
 ghost use Rattle.std.specs.List.{list_all};
 ghost use Rattle.rail_text.specs.Lines.{words_of};
 ghost use Rattle.rail_text.specs.Gives.{GivesLine, TakesNoMemory};
-ghost use Rattle.rail_text.specs.Words.{keyword, one_word, no_word, number_in, name_in, is_name, is_letter, is_name_byte, starts_with_letter};
+ghost use Rattle.rail_text.specs.Words.{keyword, one_word, no_word, number_in, name_in, is_name, is_letter};
+ghost use Rattle.rail_text.specs.Words.{is_name_byte, starts_with_letter};
 
 use crate::{Cause, LineFault, TextLine, read_number};
 

@@ -64,8 +64,8 @@ record IsTold (plan : PlanFields) (b : ℕ) (stage : Stage) (texts : List (List 
   last : last_moment 0 draft.calls ≡ draft.moment
   few : length draft.calls ≤ 10000
 
-abbrev Told : PlanFields → ℕ → List (List ℕ) → DraftFields → Type 0
-Told plan b texts draft = IsTold plan b draft.stage texts draft
+abbrev IsReadOnto : PlanFields → ℕ → List (List ℕ) → DraftFields → Type 0
+IsReadOnto plan b texts draft = IsTold plan b draft.stage texts draft
 
 -- a text of two words, or of one, by its words
 two_are : (text kw word : List ℕ) → words_of text ≡ kw ∷ word ∷ [] → text ≡ words_text kw word
@@ -74,11 +74,11 @@ two_are text kw word e = sym (joined-words_of text) ∙ ap (join_with_byte 32) e
 one_is : (text kw : List ℕ) → words_of text ≡ kw ∷ [] → text ≡ kw
 one_is text kw e = sym (joined-words_of text) ∙ ap (join_with_byte 32) e
 
-script_told : (plan : PlanFields) (b : ℕ) (texts : List (List ℕ)) (d : DraftFields) (text : List ℕ) → IsTold plan b stages.Script texts d → keyword (words_of text) ≡ codes "script" → OfOk (Told plan b (texts ++ text ∷ [])) (script_onto d (words_of text))
+script_told : (plan : PlanFields) (b : ℕ) (texts : List (List ℕ)) (d : DraftFields) (text : List ℕ) → IsTold plan b stages.Script texts d → keyword (words_of text) ≡ codes "script" → OfOk (IsReadOnto plan b (texts ++ text ∷ [])) (script_onto d (words_of text))
 unfolding script_onto
 script_told plan b texts d text h k =
-    bind_keeps (λ word. words_of text ≡ keyword (words_of text) ∷ word ∷ []) (Told plan b (texts ++ text ∷ [])) (one_word (words_of text)) _ (one_word_is (words_of text)) (λ name e.
-    if_keeps (Told plan b (texts ++ text ∷ [])) (bytes_eq name (box_name d.plan d.box_no)) _ _ (λ same.
+    bind_keeps (λ word. words_of text ≡ keyword (words_of text) ∷ word ∷ []) (IsReadOnto plan b (texts ++ text ∷ [])) (one_word (words_of text)) _ (one_word_is (words_of text)) (λ name e.
+    if_keeps (IsReadOnto plan b (texts ++ text ∷ [])) (bytes_eq name (box_name d.plan d.box_no)) _ _ (λ same.
     let named : name ≡ box_name d.plan d.box_no = (bytes_eq-Decides name (box_name d.plan d.box_no)).0 same in
     let own : box_name d.plan d.box_no ≡ box_name plan b = rw (h.same_plan, h.same_box) refl in
     let is : text ≡ box_line plan b = two_are text (codes "script") (box_name plan b) (e ∙ ap (λ (x : List ℕ). x ∷ name ∷ []) k ∙ ap (λ (x : List ℕ). codes "script" ∷ x ∷ []) (named ∙ own)) in
@@ -101,14 +101,14 @@ call_lines-more plan b calls call texts text h e =
     ∙ ap (λ (t : List ℕ). (box_line plan b ∷ call_lines plan calls) ++ t ∷ []) (sym e)
     ∙ ap (λ (ts : List (List ℕ)). ts ++ text ∷ []) h
 
-call_told : (plan : PlanFields) (b : ℕ) (texts : List (List ℕ)) (d : DraftFields) (text : List ℕ) → d.stage ≡ stages.Calls → IsTold plan b stages.Calls texts d → OfOk (Told plan b (texts ++ text ∷ [])) (call_onto d (words_of text))
+call_told : (plan : PlanFields) (b : ℕ) (texts : List (List ℕ)) (d : DraftFields) (text : List ℕ) → d.stage ≡ stages.Calls → IsTold plan b stages.Calls texts d → OfOk (IsReadOnto plan b (texts ++ text ∷ [])) (call_onto d (words_of text))
 unfolding call_onto
 call_told plan b texts d text s h =
-    bind_keeps (λ moment. (keyword (words_of text) ≡ moment_text d.plan.version moment) × (moment < moments_of d.plan.version)) (Told plan b (texts ++ text ∷ [])) (moment_in d.plan.version (words_of text)) _ (moment_in_is d.plan.version (words_of text)) (λ read m.
-    bind_keeps (λ moment. (moment ≡ read) × (d.moment ≤ moment)) (Told plan b (texts ++ text ∷ [])) (not_falling d.moment read) _ (rises d.moment read) (λ moment r.
-    bind_keeps (λ act. IsCall d.plan d.box_no (words_of text) (record { moment = moment; act = act })) (Told plan b (texts ++ text ∷ [])) (act_of d.plan d.box_no (words_of text)) _
+    bind_keeps (λ moment. (keyword (words_of text) ≡ moment_text d.plan.version moment) × (moment < moments_of d.plan.version)) (IsReadOnto plan b (texts ++ text ∷ [])) (moment_in d.plan.version (words_of text)) _ (moment_in_is d.plan.version (words_of text)) (λ read m.
+    bind_keeps (λ moment. (moment ≡ read) × (d.moment ≤ moment)) (IsReadOnto plan b (texts ++ text ∷ [])) (not_falling d.moment read) _ (rises d.moment read) (λ moment r.
+    bind_keeps (λ act. IsCall d.plan d.box_no (words_of text) (record { moment = moment; act = act })) (IsReadOnto plan b (texts ++ text ∷ [])) (act_of d.plan d.box_no (words_of text)) _
     (moment_and_act d.plan d.box_no (words_of text) moment (rw (h.same_plan, h.same_box) h.at) (some_words text) (rw r.0 m.0) (rw r.0 m.1)) (λ act c.
-    if_keeps (Told plan b (texts ++ text ∷ [])) (leb 10000 (length d.calls)) _ _ (λ _. tt) (λ room.
+    if_keeps (IsReadOnto plan b (texts ++ text ∷ [])) (leb 10000 (length d.calls)) _ _ (λ _. tt) (λ room.
     let call : Call = record { moment = moment; act = act } in
     let is : IsCall plan b (words_of text) call = rw (← h.same_plan, ← h.same_box) c in
     let behind : last_moment 0 d.calls ≤ moment = rw h.last r.1 in
@@ -126,10 +126,10 @@ call_told plan b texts d text s h =
       rises : (before read : ℕ) → OfOk (λ moment. (moment ≡ read) × (before ≤ moment)) (not_falling before read)
       rises before read = if_keeps (λ moment. (moment ≡ read) × (before ≤ moment)) (ltb read before) _ _ (λ _. tt) (λ e. (refl, grind (arith, nat_tests)))
 
-end_told : (plan : PlanFields) (b : ℕ) (texts : List (List ℕ)) (d : DraftFields) (text : List ℕ) → IsTold plan b stages.Calls texts d → keyword (words_of text) ≡ codes "end" → OfOk (Told plan b (texts ++ text ∷ [])) (end_onto d (words_of text))
+end_told : (plan : PlanFields) (b : ℕ) (texts : List (List ℕ)) (d : DraftFields) (text : List ℕ) → IsTold plan b stages.Calls texts d → keyword (words_of text) ≡ codes "end" → OfOk (IsReadOnto plan b (texts ++ text ∷ [])) (end_onto d (words_of text))
 unfolding end_onto
 end_told plan b texts d text h k =
-    bind_keeps (λ _. words_of text ≡ keyword (words_of text) ∷ []) (Told plan b (texts ++ text ∷ [])) (no_word (words_of text)) _ (no_word_is (words_of text) (some_words text)) (λ _ e.
+    bind_keeps (λ _. words_of text ≡ keyword (words_of text) ∷ []) (IsReadOnto plan b (texts ++ text ∷ [])) (no_word (words_of text)) _ (no_word_is (words_of text) (some_words text)) (λ _ e.
     let is : text ≡ codes "end" = one_is text (codes "end") (e ∙ ap (λ (x : List ℕ). x ∷ []) k) in
     record {
       at = h.at;
@@ -142,20 +142,20 @@ end_told plan b texts d text h k =
       few = h.few;
     })
 
-line_told : (plan : PlanFields) (b : ℕ) (stage : Stage) (texts : List (List ℕ)) (d : DraftFields) (text : List ℕ) → d.stage ≡ stage → IsTold plan b stage texts d → OfOk (Told plan b (texts ++ text ∷ [])) (stage_onto stage d (words_of text))
+line_told : (plan : PlanFields) (b : ℕ) (stage : Stage) (texts : List (List ℕ)) (d : DraftFields) (text : List ℕ) → d.stage ≡ stage → IsTold plan b stage texts d → OfOk (IsReadOnto plan b (texts ++ text ∷ [])) (stage_onto stage d (words_of text))
 unfolding stage_onto
 line_told plan b stages.Script texts d text s h =
-    if_keeps (Told plan b (texts ++ text ∷ [])) (bytes_eq (keyword (words_of text)) (codes "script")) _ _ (λ e. script_told plan b texts d text h ((bytes_eq-Decides (keyword (words_of text)) (codes "script")).0 e)) (λ _. tt)
+    if_keeps (IsReadOnto plan b (texts ++ text ∷ [])) (bytes_eq (keyword (words_of text)) (codes "script")) _ _ (λ e. script_told plan b texts d text h ((bytes_eq-Decides (keyword (words_of text)) (codes "script")).0 e)) (λ _. tt)
 line_told plan b stages.Calls texts d text s h =
-    if_keeps (Told plan b (texts ++ text ∷ [])) (bytes_eq (keyword (words_of text)) (codes "end")) _ _ (λ e. end_told plan b texts d text h ((bytes_eq-Decides (keyword (words_of text)) (codes "end")).0 e)) (λ _. call_told plan b texts d text s h)
+    if_keeps (IsReadOnto plan b (texts ++ text ∷ [])) (bytes_eq (keyword (words_of text)) (codes "end")) _ _ (λ e. end_told plan b texts d text h ((bytes_eq-Decides (keyword (words_of text)) (codes "end")).0 e)) (λ _. call_told plan b texts d text s h)
 line_told plan b stages.Ended texts d text s h = tt
 
 -- each line that is read is told
-all_told : (plan : PlanFields) (b : ℕ) (texts more : List (List ℕ)) (d : DraftFields) → Told plan b texts d → OfOk (Told plan b (texts ++ more)) (all_onto words_onto d more)
+all_told : (plan : PlanFields) (b : ℕ) (texts more : List (List ℕ)) (d : DraftFields) → IsReadOnto plan b texts d → OfOk (IsReadOnto plan b (texts ++ more)) (all_onto words_onto d more)
 all_told plan b texts [] d h = rw append-nil h
 all_told plan b texts (text ∷ more) d h =
-    bind_keeps (Told plan b (texts ++ text ∷ [])) (Told plan b (texts ++ text ∷ more)) (words_onto d (words_of text)) (λ next. all_onto words_onto next more) (line_told plan b d.stage texts d text refl h)
-    (λ next q. subst (λ (ts : List (List ℕ)). OfOk (Told plan b ts) (all_onto words_onto next more)) (append_assoc texts (text ∷ []) more) (all_told plan b (texts ++ text ∷ []) more next q))
+    bind_keeps (IsReadOnto plan b (texts ++ text ∷ [])) (IsReadOnto plan b (texts ++ text ∷ more)) (words_onto d (words_of text)) (λ next. all_onto words_onto next more) (line_told plan b d.stage texts d text refl h)
+    (λ next q. subst (λ (ts : List (List ℕ)). OfOk (IsReadOnto plan b ts) (all_onto words_onto next more)) (append_assoc texts (text ∷ []) more) (all_told plan b (texts ++ text ∷ []) more next q))
 
 -- the script of a draft
 abbrev script_from : DraftFields → Script
@@ -175,12 +175,12 @@ is_ended draft = has_ended draft.stage
 abbrev AreRead : PlanFields → ℕ → List Line → DraftFields → Type 0
 AreRead plan b lines last = (list_all is_formed lines ≡ true) × (all_onto words_onto (start plan b) (kept lines) ≡ Ok last) × (is_ended last ≡ true)
 
-nothing_told : (plan : PlanFields) (b : ℕ) → b < length plan.boxes → Told plan b [] (start plan b)
+nothing_told : (plan : PlanFields) (b : ℕ) → b < length plan.boxes → IsReadOnto plan b [] (start plan b)
 nothing_told plan b at = record { at = at; same_plan = refl; same_box = refl; lines = refl; unbegun = λ _. refl; calls = tt; last = refl; few = omega arith }
 
 read_is_spelled : (plan : PlanFields) (b : ℕ) (bytes : List ℕ) (last : DraftFields) → b < length plan.boxes → length bytes ≤ most_script_bytes → AreRead plan b (lines_of bytes) last → SpellsScript plan b bytes (script_from last)
 read_is_spelled plan b bytes last at fits r =
-    let told : Told plan b (kept (lines_of bytes)) last = subst (OfOk (Told plan b (kept (lines_of bytes)))) r.1 (all_told plan b [] (kept (lines_of bytes)) (start plan b) (nothing_told plan b at)) in
+    let told : IsReadOnto plan b (kept (lines_of bytes)) last = subst (OfOk (IsReadOnto plan b (kept (lines_of bytes)))) r.1 (all_told plan b [] (kept (lines_of bytes)) (start plan b) (nothing_told plan b at)) in
     let whole_lines = script_lines_are plan b last.stage last.calls (kept (lines_of bytes)) r.2 told.lines in
     record {
       of_box = record { box = told.same_box; calls = told.calls; few = told.few };

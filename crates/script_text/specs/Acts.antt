@@ -1,5 +1,6 @@
 -- What the words behind a moment say that a signalman does.
-use Rattle.std.specs.Prelude.{ℕ, List, [], ◌∷◌, length, Option, Some, None, Result, Ok, Err, if◌then◌else◌, bytes_eq, codes, slice_get, decimal}
+use Rattle.std.specs.Prelude.{ℕ, List, [], ◌∷◌, length, Option, Some, None, Result, Ok, Err, if◌then◌else◌, bytes_eq}
+use Rattle.std.specs.Prelude.{codes, slice_get, decimal}
 use Rattle.std.specs.List.{join_with_byte}
 use Rattle.bell_codes.specs.Reading.{code_of}
 use Rattle.bell_codes.specs.Table.{code_number}
@@ -9,12 +10,14 @@ use Rattle.rail_text.specs.Gives.{◌>>=◌}
 use Rattle.rail_text.specs.Words.{number_in}
 use Rattle.rail_text.specs.declared.cause.Cause.{Cause}
 use Rattle.rail_text.specs.declared.cause.Cause.TheVariants as causes
+use Rattle.locking_table.specs.Places.{most_levers}
 use Rattle.line_plan.specs.Plans.{PlanFields}
 use Rattle.line_plan.specs.Ways.{comes_in}
 use Rattle.line_law.specs.declared.call.Act.{Act}
 use Rattle.line_law.specs.declared.call.Act.TheVariants as acts
 use Rattle.line_law.specs.Known.{knows_arm, knows_berth, knows_lever, knows_outgoing, knows_side, knows_train}
-use Rattle.script_text.specs.Names.{way_text, position_text, code_no_text, train_text, way_named, position_named, train_named}
+use Rattle.script_text.specs.Names.{way_text, position_text, code_no_text, train_text, way_named, position_named}
+use Rattle.script_text.specs.Names.{train_named}
 
 -- ---- single words
 
@@ -46,12 +49,13 @@ code_in plan word = coded plan.codes (code_of word)
 -- the line of a way comes into box b from a neighbour, and has a berth there
 abbrev pub with_berth : PlanFields → ℕ → Way → Result Way Cause
 with_berth plan b way =
-    if comes_in (length plan.boxes) b way then (if knows_berth plan b way then Ok way else Err causes.NoBerth) else Err causes.NoLine
+    if comes_in (length plan.boxes) b way then (if knows_berth plan b way then Ok way else Err causes.NoBerth)
+    else Err causes.NoLine
 
 -- a lever of the frame of box b
 unfoldable pub lever_in : PlanFields → ℕ → List ℕ → Result ℕ Cause
 lever_in plan b word = do
-  lever ← number_in 1 120 word
+  lever ← number_in 1 most_levers word
   if knows_lever plan b lever then Ok lever else Err causes.UnknownLever
 
 -- a lever of the frame of box b that works a signal or starter
@@ -172,9 +176,11 @@ unfoldable pub bell_act : PlanFields → ℕ → List (List ℕ) → List ℕ �
 bell_act plan b words word =
     if bytes_eq word (codes "ring") then side_and_code plan b words >>= (λ both. Ok (acts.Ring both.0 both.1))
     else if bytes_eq word (codes "hear") then one_side plan b words >>= (λ side. Ok (acts.Hear side))
-    else if bytes_eq word (codes "await_bell") then side_and_code plan b words >>= (λ both. Ok (acts.AwaitBell both.0 both.1))
+    else if bytes_eq word (codes "await_bell")
+    then side_and_code plan b words >>= (λ both. Ok (acts.AwaitBell both.0 both.1))
     else if bytes_eq word (codes "turn") then berth_and_position plan b words >>= (λ both. Ok (acts.Turn both.0 both.1))
-    else if bytes_eq word (codes "await_block") then outgoing_and_position plan b words >>= (λ both. Ok (acts.AwaitBlock both.0 both.1))
+    else if bytes_eq word (codes "await_block")
+    then outgoing_and_position plan b words >>= (λ both. Ok (acts.AwaitBlock both.0 both.1))
     else lever_act plan b words word
 
 -- what the call's word, if there is one, says with the words of the line

@@ -1,5 +1,6 @@
 -- Which reply a text gives for a call.
-use Rattle.std.specs.Prelude.{ℕ, ◌^◌, Bool, true, false, ◌&&◌, ◌||◌, nat_lt, List, [], ◌∷◌, Option, Some, None, Result, Ok, Err, if◌then◌else◌, bytes_eq, codes, slice_get, option_map}
+use Rattle.std.specs.Prelude.{ℕ, ◌^◌, Bool, true, false, ◌&&◌, ◌||◌, nat_lt, List, [], ◌∷◌, Option, Some, None, Result}
+use Rattle.std.specs.Prelude.{Ok, Err, if◌then◌else◌, bytes_eq, codes, slice_get, option_map}
 use Rattle.block_words.specs.declared.Position.{Position}
 use Rattle.block_words.specs.declared.WelwynState.{WelwynState}
 use Rattle.block_words.specs.declared.WelwynState.TheVariants as states
@@ -36,11 +37,13 @@ small_number word = small (number_of word)
 -- the state that a word names by which the commutator is held
 abbrev pub state_named : List ℕ → Option WelwynState
 state_named word =
-    if bytes_eq word (codes "given") then Some states.Given else if bytes_eq word (codes "berthed") then Some states.Berthed else None
+    if bytes_eq word (codes "given") then Some states.Given else if bytes_eq word (codes "berthed")
+    then Some states.Berthed else None
 
 -- whether the word says that an instrument is spent
 abbrev pub spent_named : List ℕ → Option Bool
-spent_named word = if bytes_eq word (codes "spent") then Some true else if bytes_eq word (codes "unspent") then Some false else None
+spent_named word = if bytes_eq word (codes "spent") then Some true else if bytes_eq word (codes "unspent")
+    then Some false else None
 
 -- the reply of the first row with this word
 abbrev pub row_named : List (List ℕ × Reply) → List ℕ → Option Reply
@@ -96,13 +99,19 @@ count_reply word n = row_named (count_rows n) word
 unfoldable pub pair_reply : PlanFields → List ℕ → List ℕ → Option Reply
 pair_reply plan word other =
     if bytes_eq word (codes "passed") then option_map (λ train. replies.Passed train) (train_named plan other)
-    else if bytes_eq word (codes "occupied") then option_map (λ train. replies.BerthOccupied train) (train_named plan other)
-    else if bytes_eq word (codes "portion_ahead") then option_map (λ train. replies.PortionAhead train) (train_named plan other)
-    else if bytes_eq word (codes "home_reversed") then option_map (λ lever. replies.HomeReversed lever) (small_number other)
+    else if bytes_eq word (codes "occupied")
+    then option_map (λ train. replies.BerthOccupied train) (train_named plan other)
+    else if bytes_eq word (codes "portion_ahead")
+    then option_map (λ train. replies.PortionAhead train) (train_named plan other)
+    else if bytes_eq word (codes "home_reversed")
+    then option_map (λ lever. replies.HomeReversed lever) (small_number other)
     else if bytes_eq word (codes "count_full") then option_map (λ out. replies.CountFull out) (small_number other)
-    else if bytes_eq word (codes "welwyn_holds") then option_map (λ state. replies.WelwynHolds state) (state_named other)
-    else if bytes_eq word (codes "winding") then option_map (λ moment. replies.Winding moment) (ready_of plan.version other)
-    else if bytes_eq word (codes "too_soon") then option_map (λ moment. replies.TooSoon moment) (ready_of plan.version other)
+    else if bytes_eq word (codes "welwyn_holds")
+    then option_map (λ state. replies.WelwynHolds state) (state_named other)
+    else if bytes_eq word (codes "winding")
+    then option_map (λ moment. replies.Winding moment) (ready_of plan.version other)
+    else if bytes_eq word (codes "too_soon")
+    then option_map (λ moment. replies.TooSoon moment) (ready_of plan.version other)
     else number_of other and_then count_reply word
 
 -- replies of a word, a number and a code
@@ -142,11 +151,13 @@ train_reply word n train = row_named (train_rows n train) word
 -- a word before a number and a train
 abbrev pub tells_a_train : List ℕ → Bool
 tells_a_train word =
-    bytes_eq word (codes "entered") || bytes_eq word (codes "approaching") || bytes_eq word (codes "berthed") || bytes_eq word (codes "part_berthed") || bytes_eq word (codes "cleared")
+    bytes_eq word (codes "entered") || bytes_eq word (codes "approaching") || bytes_eq word (codes "berthed")
+    || bytes_eq word (codes "part_berthed") || bytes_eq word (codes "cleared")
 
 -- what a bell shows: no code, or one of the code table
 abbrev pub bell_shown : PlanFields → List ℕ → Option (Option ℕ)
-bell_shown plan word = if bytes_eq word (codes "none") then Some None else option_map (λ code. Some code) (code_named plan word)
+bell_shown plan word = if bytes_eq word (codes "none") then Some None
+    else option_map (λ code. Some code) (code_named plan word)
 
 -- what an instrument or a bell shows after n turns or codes: a position, or else a code or none
 abbrev pub shown_reply : PlanFields → ℕ → List ℕ → Option Position → Option Reply
@@ -156,7 +167,8 @@ shown_reply plan n word None = option_map (λ shown. replies.BellNotYet n shown)
 -- three words: a number with a code, a position or a train, or a place with a train
 unfoldable pub triple_reply : PlanFields → ℕ → List ℕ → List ℕ → List ℕ → Option Reply
 triple_reply plan b word other last =
-    if bytes_eq word (codes "not_yet") then number_of other and_then (λ n. shown_reply plan n last (position_named last))
+    if bytes_eq word (codes "not_yet")
+    then number_of other and_then (λ n. shown_reply plan n last (position_named last))
     else if bytes_eq word (codes "bell_busy") || bytes_eq word (codes "heard") then
     number_of other and_then (λ k. code_named plan last and_then code_reply word k)
     else if tells_a_train word then
@@ -179,7 +191,8 @@ instrument_reply word way turns position spent =
     else None
 
 -- a reply by its first word and those behind it, if there are some
-abbrev pub counted_reply : PlanFields → ℕ → Option (List ℕ) → Option (List ℕ) → Option (List ℕ) → Option (List ℕ) → Option (List ℕ) → Option (List ℕ) → Option Reply
+abbrev pub counted_reply : PlanFields → ℕ → Option (List ℕ) → Option (List ℕ) → Option (List ℕ) → Option (List ℕ)
+    → Option (List ℕ) → Option (List ℕ) → Option Reply
 counted_reply plan b None p q r s t = None
 counted_reply plan b (Some word) None q r s t = lone_reply word
 counted_reply plan b (Some word) (Some p) None r s t = pair_reply plan word p
@@ -190,12 +203,15 @@ counted_reply plan b (Some word) (Some p) (Some q) (Some r) (Some s) (Some t) = 
 
 -- the reply that these words have the shape of
 unfoldable pub shaped_reply : PlanFields → ℕ → List (List ℕ) → Option Reply
-shaped_reply plan b words = counted_reply plan b (slice_get words 0) (slice_get words 1) (slice_get words 2) (slice_get words 3) (slice_get words 4) (slice_get words 5)
+shaped_reply plan b words =
+    counted_reply plan b (slice_get words 0) (slice_get words 1) (slice_get words 2) (slice_get words 3)
+    (slice_get words 4) (slice_get words 5)
 
 -- a reply for such a call, if it may answer it and can be spelled at box b
 abbrev pub accepted : PlanFields → ℕ → Act → Option Reply → Result Reply Cause
 accepted plan b act None = Err causes.BadReply
-accepted plan b act (Some reply) = if may_answer act reply && is_spelled_reply plan b reply then Ok reply else Err causes.BadReply
+accepted plan b act (Some reply) =
+    if may_answer act reply && is_spelled_reply plan b reply then Ok reply else Err causes.BadReply
 
 -- the reply that a text spells for such a call of box b
 unfoldable pub reply_of : PlanFields → ℕ → Act → List ℕ → Result Reply Cause

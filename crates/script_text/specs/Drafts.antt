@@ -5,7 +5,8 @@ use Rattle.line_law.specs.declared.call.Call.{Call}
 use Rattle.script_text.specs.declared.draft.Stage.{Stage}
 use Rattle.script_text.specs.declared.draft.Stage.TheVariants as stages
 
--- the plan and the box for which it is read, which line may come next, the moment of the last call, and the calls so far
+-- the plan and the box for which it is read, which line may come next, the moment of the last call, and the calls so
+-- far
 pub record DraftFields : Type 0 where
   pub plan : PlanFields
   pub box_no : ℕ

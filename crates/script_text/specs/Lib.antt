@@ -5,7 +5,7 @@ pub mod Names
 pub mod Acts
 pub mod Calls
 pub mod Replies
-pub mod Told
+pub mod Entries
 pub mod Rows
 pub mod Answers
 pub mod Drafts

@@ -1,5 +1,6 @@
 -- Moments as texts.
-use Rattle.std.specs.Prelude.{ℕ, ◌+◌, ◌-◌, ◌*◌, ◌/◌, ◌%◌, Bool, ◌&&◌, ◌==◌, nat_lt, nat_le, List, [], ◌∷◌, ◌++◌, length, slice_index, Option, Some, None, if◌then◌else◌}
+use Rattle.std.specs.Prelude.{ℕ, ◌+◌, ◌-◌, ◌*◌, ◌/◌, ◌%◌, Bool, ◌&&◌, ◌==◌, nat_lt, nat_le, List, [], ◌∷◌, ◌++◌, length}
+use Rattle.std.specs.Prelude.{slice_index, Option, Some, None, if◌then◌else◌}
 
 -- 0 to 9
 abbrev pub is_digit : ℕ → Bool
@@ -15,7 +16,8 @@ two_digits word at =
 abbrev pub clock : ℕ → Bool → Option ℕ → Option ℕ → Option ℕ
 clock limit colon None minutes = None
 clock limit colon (Some hours) None = None
-clock limit colon (Some hours) (Some minutes) = if colon && nat_lt hours limit && nat_lt minutes 60 then Some (60 * hours + minutes) else None
+clock limit colon (Some hours) (Some minutes) =
+    if colon && nat_lt hours limit && nat_lt minutes 60 then Some (60 * hours + minutes) else None
 
 -- the minutes of the text HH:MM, with hours below a limit
 abbrev pub clock_of : ℕ → List ℕ → Option ℕ
@@ -30,11 +32,13 @@ with_seconds (Some minutes) (Some seconds) = if nat_lt seconds 60 then Some (60 
 -- the seconds of the text HH:MM:SS, with hours below a limit
 abbrev pub long_clock : ℕ → List ℕ → Option ℕ
 long_clock limit word =
-    if length word == 8 && slice_index word 5 == 58 then with_seconds (clock_of limit word) (two_digits word 6) else None
+    if length word == 8 && slice_index word 5 == 58 then with_seconds (clock_of limit word) (two_digits word 6)
+    else None
 
 -- the time that a word spells, with hours below a limit: HH:MM in version 1, else HH:MM:SS
 abbrev pub time_of : ℕ → ℕ → List ℕ → Option ℕ
-time_of limit version word = if version == 1 then (if length word == 5 then clock_of limit word else None) else long_clock limit word
+time_of limit version word =
+    if version == 1 then (if length word == 5 then clock_of limit word else None) else long_clock limit word
 
 -- the moment of a day that a word spells
 abbrev pub moment_of : ℕ → List ℕ → Option ℕ
@@ -62,4 +66,5 @@ clock_text minutes = two_text (minutes / 60) ++ 58 ∷ two_text (minutes % 60)
 
 -- a moment as it is printed: HH:MM in version 1, else HH:MM:SS
 abbrev pub moment_text : ℕ → ℕ → List ℕ
-moment_text version moment = if version == 1 then clock_text moment else clock_text (moment / 60) ++ 58 ∷ two_text (moment % 60)
+moment_text version moment =
+    if version == 1 then clock_text moment else clock_text (moment / 60) ++ 58 ∷ two_text (moment % 60)

@@ -39,7 +39,8 @@ train_text plan train = (train_at plan.trains train).name
 
 -- the way that a word names
 abbrev pub way_named : List ℕ → Option Way
-way_named word = if bytes_eq word (codes "up") then Some Up else if bytes_eq word (codes "down") then Some Down else None
+way_named word = if bytes_eq word (codes "up") then Some Up else if bytes_eq word (codes "down") then Some Down
+    else None
 
 -- the position that a word names
 abbrev pub position_named : List ℕ → Option Position

@@ -1,5 +1,6 @@
 -- Replies as they are printed, and which replies a text can spell.
-use Rattle.std.specs.Prelude.{ℕ, ◌^◌, Bool, true, false, ◌&&◌, nat_lt, nat_le, List, [], ◌∷◌, length, Option, Some, None, codes, decimal}
+use Rattle.std.specs.Prelude.{ℕ, ◌^◌, Bool, true, false, ◌&&◌, nat_lt, nat_le, List, [], ◌∷◌, length, Option, Some}
+use Rattle.std.specs.Prelude.{None, codes, decimal}
 use Rattle.std.specs.List.{join_with_byte}
 use Rattle.block_words.specs.declared.WelwynState.{WelwynState}
 use Rattle.block_words.specs.declared.WelwynState.TheVariants as states
@@ -39,7 +40,8 @@ reply_words plan b (replies.Turned v) = codes "turned" ∷ decimal v ∷ []
 reply_words plan b replies.AlreadyThere = codes "already_there" ∷ []
 reply_words plan b replies.NotFromNormal = codes "not_from_normal" ∷ []
 reply_words plan b (replies.HomeReversed lever) = codes "home_reversed" ∷ decimal lever ∷ []
-reply_words plan b (replies.TrackOccupied place train) = codes "track_occupied" ∷ place_text plan b place ∷ train_text plan train ∷ []
+reply_words plan b (replies.TrackOccupied place train) =
+    codes "track_occupied" ∷ place_text plan b place ∷ train_text plan train ∷ []
 reply_words plan b (replies.WelwynHolds state) = codes "welwyn_holds" ∷ state_text state ∷ []
 reply_words plan b (replies.CountFull out) = codes "count_full" ∷ decimal out ∷ []
 reply_words plan b (replies.Seen v) = codes "seen" ∷ decimal v ∷ []
@@ -48,15 +50,18 @@ reply_words plan b replies.Pulled = codes "pulled" ∷ []
 reply_words plan b (replies.PulledUnder v) = codes "pulled_under" ∷ decimal v ∷ []
 reply_words plan b replies.AlreadyReversed = codes "already_reversed" ∷ []
 reply_words plan b replies.Spare = codes "spare" ∷ []
-reply_words plan b (replies.HeldByLever lever row) = codes "held_by_lever" ∷ decimal lever ∷ codes "row" ∷ decimal row ∷ []
-reply_words plan b (replies.HeldByTrack place train) = codes "held_by_track" ∷ place_text plan b place ∷ train_text plan train ∷ []
+reply_words plan b (replies.HeldByLever lever row) =
+    codes "held_by_lever" ∷ decimal lever ∷ codes "row" ∷ decimal row ∷ []
+reply_words plan b (replies.HeldByTrack place train) =
+    codes "held_by_track" ∷ place_text plan b place ∷ train_text plan train ∷ []
 reply_words plan b (replies.HeldByInstrument way v shown spent) =
     codes "held_by_instrument" ∷ way_text way ∷ decimal v ∷ position_text shown ∷ spent_text spent ∷ []
 reply_words plan b replies.Put = codes "put" ∷ []
 reply_words plan b replies.AlreadyNormal = codes "already_normal" ∷ []
 reply_words plan b replies.Brought = codes "brought" ∷ []
 reply_words plan b replies.AlreadyBrought = codes "already_brought" ∷ []
-reply_words plan b (replies.Occupied place train) = codes "occupied" ∷ place_text plan b place ∷ train_text plan train ∷ []
+reply_words plan b (replies.Occupied place train) =
+    codes "occupied" ∷ place_text plan b place ∷ train_text plan train ∷ []
 reply_words plan b (replies.Passed train) = codes "passed" ∷ train_text plan train ∷ []
 reply_words plan b (replies.Entered k train) = codes "entered" ∷ decimal k ∷ train_text plan train ∷ []
 reply_words plan b replies.NoTrain = codes "no_train" ∷ []
@@ -120,7 +125,8 @@ is_holding states.Berthed = true
 abbrev pub is_ready_moment : PlanFields → ℕ → Bool
 is_ready_moment plan moment = nat_lt moment (ready_moments plan.version)
 
--- Some text spells the reply at box b: its codes, places, trains, levers and rows are there, and its numbers and moments in range.
+-- Some text spells the reply at box b: its codes, places, trains, levers and rows are there, and its numbers and
+-- moments in range.
 unfoldable pub is_spelled_reply : PlanFields → ℕ → Reply → Bool
 is_spelled_reply plan b (replies.Rung k) = is_count k
 is_spelled_reply plan b (replies.BellBusy k code) = is_count k && is_code_no plan code

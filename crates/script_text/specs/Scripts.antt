@@ -1,5 +1,6 @@
 -- Which script a text gives, or its first fault; and the one printed spelling.
-use Rattle.std.specs.Prelude.{◌≡◌, ◌≤◌, ℕ, Bool, true, false, nat_le, nat_lt, List, [], ◌∷◌, ◌++◌, length, Result, Ok, Err, if◌then◌else◌, bytes_eq, codes}
+use Rattle.std.specs.Prelude.{◌≡◌, ◌≤◌, ℕ, Bool, true, false, nat_le, nat_lt, List, [], ◌∷◌, ◌++◌, length, Result, Ok}
+use Rattle.std.specs.Prelude.{Err, if◌then◌else◌, bytes_eq, codes}
 use Rattle.std.specs.List.{flat_map}
 use Rattle.rail_text.specs.Gives.{◌>>=◌, Fault}
 use Rattle.rail_text.specs.Texts.{text_onto}
@@ -29,7 +30,8 @@ pub record IsScriptOf (plan : PlanFields) (b : ℕ) (script : Script) : Type 0 w
 unfoldable pub script_onto : DraftFields → List (List ℕ) → Result DraftFields Cause
 script_onto draft words = do
   name ← one_word words
-  if bytes_eq name (box_name draft.plan draft.box_no) then Ok (record draft { stage = stages.Calls }) else Err causes.WrongBox
+  if bytes_eq name (box_name draft.plan draft.box_no) then Ok (record draft { stage = stages.Calls })
+      else Err causes.WrongBox
 
 -- a moment that isn't below the one before
 abbrev pub not_falling : ℕ → ℕ → Result ℕ Cause
@@ -54,8 +56,10 @@ end_onto draft words = do
 
 -- the lines that may stand at each stage: first `script`, then calls up to `end`, then none
 unfoldable pub stage_onto : Stage → DraftFields → List (List ℕ) → Result DraftFields Cause
-stage_onto stages.Script draft words = if bytes_eq (keyword words) (codes "script") then script_onto draft words else Err causes.WrongKeyword
-stage_onto stages.Calls draft words = if bytes_eq (keyword words) (codes "end") then end_onto draft words else call_onto draft words
+stage_onto stages.Script draft words =
+    if bytes_eq (keyword words) (codes "script") then script_onto draft words else Err causes.WrongKeyword
+stage_onto stages.Calls draft words =
+    if bytes_eq (keyword words) (codes "end") then end_onto draft words else call_onto draft words
 stage_onto stages.Ended draft words = Err causes.AfterEnd
 
 -- what the words of a line make of the script so far
@@ -83,4 +87,5 @@ call_line plan call = call_text plan call ++ 10 ∷ []
 -- a script as it is printed: the line of its box, the lines of its calls, and `end`
 unfoldable pub script_text : PlanFields → Script → List ℕ
 script_text plan script =
-    codes "script " ++ box_name plan script.box_no ++ 10 ∷ [] ++ flat_map (λ call. call_line plan call) script.calls ++ codes "end\n"
+    codes "script " ++ box_name plan script.box_no ++ 10 ∷ [] ++ flat_map (λ call. call_line plan call) script.calls
+    ++ codes "end\n"

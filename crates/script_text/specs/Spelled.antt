@@ -29,9 +29,11 @@ pub record SpellsReply (plan : PlanFields) (b : ℕ) (act : Act) (text : List �
 -- the lines of a script
 unfoldable pub script_lines : PlanFields → Script → List (List ℕ)
 script_lines plan script =
-    words_text (codes "script") (box_name plan script.box_no) ∷ (map (λ call. call_text plan call) script.calls ++ codes "end" ∷ [])
+    words_text (codes "script") (box_name plan script.box_no)
+    ∷ (map (λ call. call_text plan call) script.calls ++ codes "end" ∷ [])
 
--- The text of a script of box b: it keeps within its limit, each line has its form, and the lines that aren't skipped are those of the script.
+-- The text of a script of box b: it keeps within its limit, each line has its form, and the lines that aren't skipped
+-- are those of the script.
 pub record SpellsScript (plan : PlanFields) (b : ℕ) (bytes : List ℕ) (script : Script) : Type 0 where
   pub of_box : IsScriptOf plan b script
   pub short : length bytes ≤ most_script_bytes

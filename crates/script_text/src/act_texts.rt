@@ -20,7 +20,8 @@ fn put_position(
     way: Way,
     position: Position,
 ) -> Result<(), AllocError>
-    ensures { OnOk result (string_bytes out.new ≡ string_bytes out.old ++ (word.now ++ 32 ∷ way_text way ++ 32 ∷ position_text position)) }
+    ensures { OnOk result (string_bytes out.new
+        ≡ string_bytes out.old ++ (word.now ++ 32 ∷ way_text way ++ 32 ∷ position_text position)) }
 {
     put_way(out, word, way)?;
     out.push_str(" ")?;
@@ -36,7 +37,8 @@ fn put_side_and_code(
     code: CodeNo,
 ) -> Result<(), AllocError>
     requires { IsTrue (is_code_no plan.now code) }
-    ensures { OnOk result (string_bytes out.new ≡ string_bytes out.old ++ (word.now ++ 32 ∷ way_text side ++ 32 ∷ code_no_text plan.now.codes code)) }
+    ensures { OnOk result (string_bytes out.new
+        ≡ string_bytes out.old ++ (word.now ++ 32 ∷ way_text side ++ 32 ∷ code_no_text plan.now.codes code)) }
 {
     put_way(out, word, side)?;
     out.push_str(" ")?;

@@ -3,8 +3,12 @@
 ghost use Rattle.std.specs.Prelude.{◌≡◌, ◌<◌, length};
 ghost use Rattle.rail_text.specs.Lines.{words_of};
 ghost use Rattle.rail_text.specs.Words.{number_in};
+ghost use Rattle.locking_table.specs.Places.{most_levers};
 ghost use Rattle.script_text.specs.Gives.{GivesCause};
-ghost use Rattle.script_text.specs.Acts.{fixed, side_in, code_in, with_berth, lever_in, arm_in, train_in, two_words, third_word, side_and_code, way_and_position, berth_and_position, outgoing_and_position, one_side, one_berth, one_lever, one_arm, one_train, line_act, lever_act, bell_act, act_of};
+ghost use Rattle.script_text.specs.Acts.{fixed, side_in, code_in, with_berth, lever_in, arm_in, train_in, two_words};
+ghost use Rattle.script_text.specs.Acts.{third_word, side_and_code, way_and_position, berth_and_position};
+ghost use Rattle.script_text.specs.Acts.{outgoing_and_position, one_side, one_berth, one_lever, one_arm, one_train};
+ghost use Rattle.script_text.specs.Acts.{line_act, lever_act, bell_act, act_of};
 ghost use Rattle.script_text.specs.Names.{way_named, position_named};
 
 use crate::names::{position_named, train_named, way_named};
@@ -12,6 +16,7 @@ use bell_codes::{CodeNo, read_code};
 use block_words::{Position, Way};
 use line_law::{Act, knows_arm, knows_berth, knows_lever, knows_outgoing, knows_side, knows_train};
 use line_plan::{Plan, comes_in};
+use locking_table::MOST_LEVERS;
 use rail_text::{Cause, TextLine, read_number};
 
 // `up` or `down`.
@@ -66,13 +71,13 @@ fn with_berth(plan: &Plan, box_no: u32, way: Way) -> Result<Way, Cause>
     }
 }
 
-// A number from 1 to 120.
+// A number that a lever may have.
 fn lever_number(word: &[u8]) -> Result<u32, Cause>
-    ensures { result ≡ number_in 1 120 word.now }
+    ensures { result ≡ number_in 1 most_levers word.now }
 {
     match read_number(word) {
         None => Err(Cause::BadNumber),
-        Some(number) if 1 <= number && number <= 120 => Ok(number as u32),
+        Some(number) if 1 <= number && number <= u64::from(MOST_LEVERS) => Ok(number as u32),
         Some(_) => Err(Cause::OutOfRange),
     }
 }

@@ -4,7 +4,10 @@ ghost use Rattle.std.specs.Prelude.{◌≡◌, ◌↔◌, ◌<◌, IfOk, IsErr, 
 ghost use Rattle.rail_text.specs.Lines.{words_of};
 ghost use Rattle.line_law.specs.declared.call.Reply.{Reply};
 ghost use Rattle.line_plan.specs.Plans.{IsPlan};
-ghost use Rattle.script_text.specs.Answers.{small_number, state_named, spent_named, lone_reply, count_reply, pair_reply, code_reply, stand_reply, train_reply, tells_a_train, bell_shown, shown_reply, triple_reply, lever_reply, instrument_reply, shaped_reply, reply_of};
+ghost use Rattle.script_text.specs.Answers.{small_number, state_named, spent_named, lone_reply, count_reply};
+ghost use Rattle.script_text.specs.Answers.{pair_reply, code_reply, stand_reply, train_reply, tells_a_train};
+ghost use Rattle.script_text.specs.Answers.{bell_shown, shown_reply, triple_reply, lever_reply, instrument_reply};
+ghost use Rattle.script_text.specs.Answers.{shaped_reply, reply_of};
 ghost use Rattle.script_text.specs.Names.{position_named};
 ghost use Rattle.script_text.specs.Spelled.{SpellsReply};
 
@@ -348,8 +351,9 @@ fn reply_of(plan: &Plan, box_no: u32, act: Act, text: &[u8]) -> Result<Reply, Ca
     }
 }
 
-/// The reply that a text spells for a call of a box. Each reply has one spelling; any other text is `BadReply`, and so is
-/// the text of a reply that such a call never has, or that names a place, train, lever, row or code that isn't there.
+/// The reply that a text spells for a call of a box. Each reply has one spelling; any other text is `BadReply`, and so
+/// is the text of a reply that such a call never has, or that names a place, train, lever, row or code that isn't
+/// there.
 #[tactic(auto, using(crate::proofs::ReplyTexts::reading_rules))]
 pub fn read_reply(plan: &Plan, box_no: u32, call: &Call, text: &[u8]) -> Result<Reply, Cause>
     requires { box_no < length plan.now.boxes }

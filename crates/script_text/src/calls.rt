@@ -45,13 +45,13 @@ fn call_of(plan: &Plan, box_no: u32, text: &[u8]) -> Result<Call, Cause>
     Ok(Call { moment, act })
 }
 
-/// The call of a box that a line's text spells: the moment in the form of the plan's version, then the call. Each call has
-/// one spelling, and any other text is refused by its first cause: `BadMoment`; `UnknownWord` for the call's word;
-/// `WordCount`; then the words from left to right. A way or a position is `UnknownWord`; then the line is `NoLine` where
-/// no neighbour is on that side, and `NoBerth` where it has no berth. A side without a neighbour is `NoLine` before a
-/// code is `BadCode` or, off the code table, `UnknownCode`. A lever is `BadNumber`, `OutOfRange` off 1 to 120,
-/// `UnknownLever` off the frame, and `NoArm` where a signal is needed that it doesn't work. A train is `UnknownName`, or
-/// `OtherBox` where it isn't of this box.
+/// The call of a box that a line's text spells: the moment in the form of the plan's version, then the call. Each call
+/// has one spelling, and any other text is refused by its first cause: `BadMoment`; `UnknownWord` for the call's word;
+/// `WordCount`; then the words from left to right. A way or a position is `UnknownWord`; then the line is `NoLine`
+/// where no neighbour is on that side, and `NoBerth` where it has no berth. A side without a neighbour is `NoLine`
+/// before a code is `BadCode` or, off the code table, `UnknownCode`. A lever is `BadNumber`, `OutOfRange` off 1 to 120,
+/// `UnknownLever` off the frame, and `NoArm` where a signal is needed that it doesn't work. A train is `UnknownName`,
+/// or `OtherBox` where it isn't of this box.
 #[tactic(auto, using(crate::proofs::CallTexts::reading_rules))]
 pub fn read_call(plan: &Plan, box_no: u32, text: &[u8]) -> Result<Call, Cause>
     requires { box_no < length plan.now.boxes }

@@ -17,7 +17,8 @@ pub enum Stage {
     Ended,
 }
 
-/// What is read so far: the plan and the box for which it is read, the stage, the moment of the last call, and the calls.
+/// What is read so far: the plan and the box for which it is read, the stage, the moment of the last call, and the
+/// calls.
 #[derive(Drop)]
 pub struct ScriptDraft<'a> {
     plan: &'a Plan,
@@ -32,9 +33,16 @@ impl<'a> Model for ScriptDraft<'a> {
 
     ghost Value = { DraftFields };
 
-    ghost view = { λ d. record { plan = d.plan.now; box_no = d.box_no; stage = d.stage; moment = d.moment; calls = d.calls.items } };
+    ghost view = { λ d. record {
+      plan = d.plan.now;
+      box_no = d.box_no;
+      stage = d.stage;
+      moment = d.moment;
+      calls = d.calls.items;
+    } };
 
-    ghost invariant = { λ d. IsDraft (record { plan = d.plan.now; box_no = d.box_no; stage = d.stage; moment = d.moment; calls = d.calls.items }) };
+    ghost invariant = { λ d. IsDraft
+        (record { plan = d.plan.now; box_no = d.box_no; stage = d.stage; moment = d.moment; calls = d.calls.items }) };
 }
 
 impl<'a> ScriptDraft<'a> {

@@ -6,6 +6,7 @@ mod acts;
 mod answers;
 mod calls;
 mod draft;
+mod entries;
 mod laws;
 mod moments;
 mod names;
@@ -15,10 +16,10 @@ mod replies;
 mod rows;
 mod script;
 mod spelled;
-mod told;
 
 pub use answers::read_reply;
 pub use calls::{print_call, put_call, read_call};
+pub use entries::{is_spelled, put_told};
 pub use laws::{calls_law, moments_law, replies_law, scripts_law};
 pub use moments::{put_moment, read_moment, read_ready};
 pub use names::way_word;
@@ -28,11 +29,3 @@ pub use replies::{print_reply, put_reply};
 pub use rows::may_answer;
 pub use script::{MOST_CALLS, SCRIPT_LIMIT, Script};
 pub use spelled::is_spelled_reply;
-pub use told::{is_spelled, put_told};
-
-#[cfg(test)]
-mod reply_tests;
-#[cfg(test)]
-mod tests;
-#[cfg(test)]
-mod told_tests;

@@ -2,7 +2,8 @@
 
 ghost use Rattle.std.specs.Prelude.{◌≡◌, ◌≤◌, ◌<◌, ◌+◌, ◌*◌, ◌++◌, length, string_bytes, IfSome, OnOk};
 ghost use Rattle.line_law.specs.Known.{moments_of};
-ghost use Rattle.script_text.specs.Moments.{two_digits, two_text, clock_of, time_of, moment_of, ready_of, moment_text, hundred_hours};
+ghost use Rattle.script_text.specs.Moments.{two_digits, two_text, clock_of, time_of, moment_of, ready_of, moment_text};
+ghost use Rattle.script_text.specs.Moments.{hundred_hours};
 
 use std::alloc::AllocError;
 
@@ -69,8 +70,8 @@ pub fn read_moment(version: u8, word: &[u8]) -> Option<u32>
     time_of(version, word, 24)
 }
 
-/// The moment at which a release may come, as a word spells it: one of the day, or of the hour behind it up to `24:59` or
-/// `24:59:59`.
+/// The moment at which a release may come, as a word spells it: one of the day, or of the hour behind it up to `24:59`
+/// or `24:59:59`.
 pub fn read_ready(version: u8, word: &[u8]) -> Option<u32>
     ensures { result ≡ ready_of version word.now }
 {

@@ -1,11 +1,13 @@
 //! The words that name things of a plan and of its boxes.
 
-ghost use Rattle.std.specs.Prelude.{◌≡◌, ◌<◌, ◌++◌, ◌∷◌, decimal, length, position, bytes_eq, true, string_bytes, IsTrue, OnOk};
+ghost use Rattle.std.specs.Prelude.{◌≡◌, ◌<◌, ◌++◌, ◌∷◌, decimal, length, position, bytes_eq, true, string_bytes};
+ghost use Rattle.std.specs.Prelude.{IsTrue, OnOk};
 ghost use Rattle.std.specs.List.{list_all};
 ghost use Rattle.rail_text.specs.Words.{is_name};
 ghost use Rattle.line_law.specs.Known.{is_code_no};
 ghost use Rattle.line_plan.specs.Plans.{is_train};
-ghost use Rattle.script_text.specs.Names.{code_named, code_no_text, place_named, place_text, position_named, position_text, train_named, train_text, way_named, way_text};
+ghost use Rattle.script_text.specs.Names.{code_named, code_no_text, place_named, place_text, position_named};
+ghost use Rattle.script_text.specs.Names.{position_text, train_named, train_text, way_named, way_text};
 ghost use Rattle.script_text.specs.Replies.{is_place};
 
 use bell_codes::{CodeNo, read_code};
@@ -152,7 +154,8 @@ pub fn put_way(out: &mut String, word: &str, way: Way) -> Result<(), AllocError>
 /// Puts a word and a train behind a text.
 pub fn put_train(out: &mut String, plan: &Plan, word: &str, train: u32) -> Result<(), AllocError>
     requires { IsTrue (is_train plan.now.trains train) }
-    ensures { OnOk result (string_bytes out.new ≡ string_bytes out.old ++ (word.now ++ 32 ∷ train_text plan.now train)) }
+    ensures { OnOk result (string_bytes out.new
+        ≡ string_bytes out.old ++ (word.now ++ 32 ∷ train_text plan.now train)) }
 {
     out.push_str(word)?;
     out.push_str(" ")?;

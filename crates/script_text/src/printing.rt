@@ -16,7 +16,8 @@ use std::alloc::{AllocError, Global};
 #[tactic(auto, using(line_plan::proofs::Texts::texts))]
 fn put_calls(out: &mut String, plan: &Plan, box_no: u32, calls: &[Call]) -> Result<(), AllocError>
     requires { All (λ call. KnowsCall plan.now box_no call) calls.now }
-    ensures { OnOk result (string_bytes out.new ≡ string_bytes out.old ++ flat_map (λ call. call_line plan.now call) calls.now) }
+    ensures { OnOk result (string_bytes out.new
+        ≡ string_bytes out.old ++ flat_map (λ call. call_line plan.now call) calls.now) }
 {
     for call in calls {
         put_call(out, plan, box_no, call)?;

@@ -14,7 +14,8 @@ use line_plan::Plan;
 use rail_text::{ReadError, read_text};
 use std::alloc::Global;
 
-// The script of a box that the bytes spell, or the first fault. The plan's version is read for what a plan's type keeps.
+// The script of a box that the bytes spell, or the first fault. The plan's version is read for what a plan's type
+// keeps.
 #[tactic(auto, unfolding(crate::specs::Scripts::script_of))]
 fn script_of(alloc: Global, plan: &Plan, box_no: u32, bytes: &[u8]) -> Result<Script, ReadError>
     requires { box_no < length plan.now.boxes }
@@ -28,7 +29,8 @@ fn script_of(alloc: Global, plan: &Plan, box_no: u32, bytes: &[u8]) -> Result<Sc
 }
 
 /// The script of a box that the bytes spell, or the line and the cause of the first fault: a text longer than
-/// `SCRIPT_LIMIT` is `TooLong` at line 0. The script's calls are ones that the plan knows, and their moments don't fall.
+/// `SCRIPT_LIMIT` is `TooLong` at line 0. The script's calls are ones that the plan knows, and their moments don't
+/// fall.
 #[tactic(auto, using(crate::proofs::ScriptTexts::reading_rules))]
 pub fn read_script(
     alloc: Global,
@@ -40,7 +42,8 @@ pub fn read_script(
     ensures exact { GivesText (λ script. script) result (script_of plan.now box_no bytes.now) }
     ensures script { IfOk result (λ script. IsScriptOf plan.now box_no script) }
     ensures spelled { IfOk result (λ script. SpellsScript plan.now box_no bytes.now script) }
-    ensures refused { (line : ℕ) (cause : Cause) → IsErrOf result (ReadError.Refused line cause) → (script : Script) → ¬ SpellsScript plan.now box_no bytes.now script }
+    ensures refused { (line : ℕ) (cause : Cause) → IsErrOf result (ReadError.Refused line cause) → (script : Script)
+        → ¬ SpellsScript plan.now box_no bytes.now script }
 {
     script_of(alloc, plan, box_no, bytes)
 }

@@ -5,7 +5,8 @@ ghost use Rattle.line_law.specs.Known.{is_code_no};
 ghost use Rattle.line_plan.specs.Plans.{is_train};
 ghost use Rattle.script_text.specs.Moments.{moment_text, hundred_hours};
 ghost use Rattle.script_text.specs.Names.{way_text, position_text, code_no_text, place_text, train_text};
-ghost use Rattle.script_text.specs.Replies.{reply_text, reply_words, is_spelled_reply, shown_text, state_text, spent_text, shows_code, is_stand, is_place, is_ready_moment};
+ghost use Rattle.script_text.specs.Replies.{reply_text, reply_words, is_spelled_reply, shown_text, state_text};
+ghost use Rattle.script_text.specs.Replies.{spent_text, shows_code, is_stand, is_place, is_ready_moment};
 
 use crate::moments::put_moment;
 use crate::names::{
@@ -59,7 +60,8 @@ fn put_counted_train(
     train: u32,
 ) -> Result<(), AllocError>
     requires { IsTrue (is_train plan.now.trains train) }
-    ensures { OnOk result (string_bytes out.new ≡ string_bytes out.old ++ (word.now ++ 32 ∷ decimal number ++ 32 ∷ train_text plan.now train)) }
+    ensures { OnOk result (string_bytes out.new
+        ≡ string_bytes out.old ++ (word.now ++ 32 ∷ decimal number ++ 32 ∷ train_text plan.now train)) }
 {
     put_count(out, word, number)?;
     out.push_str(" ")?;
@@ -84,7 +86,8 @@ fn put_code_told(
     code: CodeNo,
 ) -> Result<(), AllocError>
     requires { IsTrue (is_code_no plan.now code) }
-    ensures { OnOk result (string_bytes out.new ≡ string_bytes out.old ++ (word.now ++ 32 ∷ decimal k ++ 32 ∷ code_no_text plan.now.codes code)) }
+    ensures { OnOk result (string_bytes out.new
+        ≡ string_bytes out.old ++ (word.now ++ 32 ∷ decimal k ++ 32 ∷ code_no_text plan.now.codes code)) }
 {
     put_count(out, word, k)?;
     out.push_str(" ")?;
@@ -93,7 +96,8 @@ fn put_code_told(
 
 // The position that an instrument shows after so many turns.
 fn put_position(out: &mut String, v: u64, shown: Position) -> Result<(), AllocError>
-    ensures { OnOk result (string_bytes out.new ≡ string_bytes out.old ++ (codes "not_yet" ++ 32 ∷ decimal v ++ 32 ∷ position_text shown)) }
+    ensures { OnOk result (string_bytes out.new
+        ≡ string_bytes out.old ++ (codes "not_yet" ++ 32 ∷ decimal v ++ 32 ∷ position_text shown)) }
 {
     write!(out, "not_yet {v} ")?;
     out.push_str(position_word(shown))
@@ -102,7 +106,8 @@ fn put_position(out: &mut String, v: u64, shown: Position) -> Result<(), AllocEr
 // A number, and what a bell then shows: a code, or `none`.
 fn put_shown(out: &mut String, plan: &Plan, k: u64, shown: Option<CodeNo>) -> Result<(), AllocError>
     requires { IsTrue (shows_code plan.now shown) }
-    ensures { OnOk result (string_bytes out.new ≡ string_bytes out.old ++ (codes "not_yet" ++ 32 ∷ decimal k ++ 32 ∷ shown_text plan.now shown)) }
+    ensures { OnOk result (string_bytes out.new
+        ≡ string_bytes out.old ++ (codes "not_yet" ++ 32 ∷ decimal k ++ 32 ∷ shown_text plan.now shown)) }
 {
     match shown {
         Some(code) => put_code_told(out, plan, "not_yet", k, code),
@@ -121,7 +126,9 @@ fn put_stand(
 ) -> Result<(), AllocError>
     requires at { box_no < length plan.now.boxes }
     requires stand { IsTrue (is_stand plan.now box_no place train) }
-    ensures { OnOk result (string_bytes out.new ≡ string_bytes out.old ++ (word.now ++ 32 ∷ place_text plan.now box_no place ++ 32 ∷ train_text plan.now train)) }
+    ensures { OnOk result (string_bytes out.new
+        ≡ string_bytes out.old ++ (word.now ++ 32 ∷ place_text plan.now box_no place
+        ++ 32 ∷ train_text plan.now train)) }
 {
     out.push_str(word)?;
     out.push_str(" ")?;
@@ -130,7 +137,8 @@ fn put_stand(
 
 // A word, and the lever and the row by which a lever is held.
 fn put_row(out: &mut String, word: &str, lever: u32, row: u32) -> Result<(), AllocError>
-    ensures { OnOk result (string_bytes out.new ≡ string_bytes out.old ++ (word.now ++ 32 ∷ (decimal lever ++ 32 ∷ (codes "row" ++ 32 ∷ decimal row)))) }
+    ensures { OnOk result (string_bytes out.new
+        ≡ string_bytes out.old ++ (word.now ++ 32 ∷ (decimal lever ++ 32 ∷ (codes "row" ++ 32 ∷ decimal row)))) }
 {
     out.push_str(word)?;
     write!(out, " {lever} row {row}")
@@ -138,7 +146,8 @@ fn put_row(out: &mut String, word: &str, lever: u32, row: u32) -> Result<(), All
 
 // A position and whether the instrument is spent.
 fn put_sight(out: &mut String, shown: Position, spent: bool) -> Result<(), AllocError>
-    ensures { OnOk result (string_bytes out.new ≡ string_bytes out.old ++ (position_text shown ++ 32 ∷ spent_text spent)) }
+    ensures { OnOk result (string_bytes out.new
+        ≡ string_bytes out.old ++ (position_text shown ++ 32 ∷ spent_text spent)) }
 {
     out.push_str(position_word(shown))?;
     out.push_str(" ")?;
@@ -154,7 +163,9 @@ fn put_instrument(
     shown: Position,
     spent: bool,
 ) -> Result<(), AllocError>
-    ensures { OnOk result (string_bytes out.new ≡ string_bytes out.old ++ (word.now ++ 32 ∷ (way_text way ++ 32 ∷ (decimal v ++ 32 ∷ (position_text shown ++ 32 ∷ spent_text spent))))) }
+    ensures { OnOk result (string_bytes out.new
+        ≡ string_bytes out.old ++ (word.now
+        ++ 32 ∷ (way_text way ++ 32 ∷ (decimal v ++ 32 ∷ (position_text shown ++ 32 ∷ spent_text spent))))) }
 {
     put_way(out, word, way)?;
     write!(out, " {v} ")?;
@@ -164,7 +175,8 @@ fn put_instrument(
 // A word and a moment at which a release may come.
 fn put_ready(out: &mut String, version: u8, word: &str, ready_at: u32) -> Result<(), AllocError>
     requires { ready_at < hundred_hours version }
-    ensures { OnOk result (string_bytes out.new ≡ string_bytes out.old ++ (word.now ++ 32 ∷ moment_text version ready_at)) }
+    ensures { OnOk result (string_bytes out.new
+        ≡ string_bytes out.old ++ (word.now ++ 32 ∷ moment_text version ready_at)) }
 {
     out.push_str(word)?;
     out.push_str(" ")?;

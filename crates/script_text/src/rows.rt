@@ -1,7 +1,11 @@
 //! Which replies a call may have.
 
 ghost use Rattle.std.specs.Prelude.{◌≡◌};
-ghost use Rattle.script_text.specs.Rows.{answers_await_bell, answers_await_block, answers_await_train, answers_berth, answers_berth_part, answers_bring, answers_clear_portion, answers_hear, answers_move, answers_overrun, answers_pass, answers_pull, answers_put, answers_release, answers_ring, answers_turn, answers_wind, may_answer, refuses_berth};
+ghost use Rattle.script_text.specs.Rows.{answers_await_bell, answers_await_block, answers_await_train, answers_berth};
+ghost use Rattle.script_text.specs.Rows.{answers_berth_part, answers_bring, answers_clear_portion, answers_hear};
+ghost use Rattle.script_text.specs.Rows.{answers_move, answers_overrun, answers_pass, answers_pull, answers_put};
+ghost use Rattle.script_text.specs.Rows.{answers_release, answers_ring, answers_turn, answers_wind, may_answer};
+ghost use Rattle.script_text.specs.Rows.{refuses_berth};
 
 use line_law::{Act, Reply};
 

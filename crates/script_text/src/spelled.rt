@@ -1,7 +1,8 @@
 //! Which replies a text can spell.
 
 ghost use Rattle.std.specs.Prelude.{◌≡◌, ◌<◌, length};
-ghost use Rattle.script_text.specs.Replies.{is_count, is_holding, is_place, is_ready_moment, is_row, is_small, is_spelled_reply, is_stand, shows_code};
+ghost use Rattle.script_text.specs.Replies.{is_count, is_holding, is_place, is_ready_moment, is_row, is_small};
+ghost use Rattle.script_text.specs.Replies.{is_spelled_reply, is_stand, shows_code};
 
 use bell_codes::CodeNo;
 use block_words::WelwynState;
@@ -67,8 +68,8 @@ fn is_ready_moment(plan: &Plan, moment: u32) -> bool
     moment < if plan.version == 1 { 1500 } else { 90_000 }
 }
 
-/// Whether some text spells the reply at a box: its codes, places, trains, levers and rows are of the plan and the box, its
-/// numbers have at most ten digits, its moments are up to 24:59 or 24:59:59, and its Welwyn state isn't `Ready`.
+/// Whether some text spells the reply at a box: its codes, places, trains, levers and rows are of the plan and the box,
+/// its numbers have at most ten digits, its moments are up to 24:59 or 24:59:59, and its Welwyn state isn't `Ready`.
 #[tactic(auto, unfolding(crate::specs::Replies::is_spelled_reply))]
 pub fn is_spelled_reply(plan: &Plan, box_no: u32, reply: &Reply) -> bool
     requires { box_no < length plan.now.boxes }

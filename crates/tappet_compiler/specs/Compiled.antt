@@ -29,7 +29,8 @@ cond_dog cond = record { lever = cond.lever; notches = cond_notches cond.end }
 abbrev pub bridle_of : Row → ℕ → Bridle
 bridle_of row number =
     record {
-      dogs = record { lever = row.subject; notches = Normal } ∷ record { lever = row.object; notches = object_notches row.kind } ∷ map cond_dog row.when;
+      dogs = record { lever = row.subject; notches = Normal }
+          ∷ record { lever = row.object; notches = object_notches row.kind } ∷ map cond_dog row.when;
       row = number;
     }
 

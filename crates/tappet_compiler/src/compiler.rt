@@ -82,12 +82,15 @@ fn compile_rows(alloc: Global, rows: &[Row]) -> Result<Vec<Bridle>, NoMemory>
 /// that has each lever that the rows name can be made of the bridles.
 pub fn compile(alloc: Global, table: &Table) -> Result<Vec<Bridle>, NoMemory>
     ensures bridles { IfOk result (λ v. v.items ≡ compiled 1 table.now) }
-    ensures seated { IfOk result (λ v. (places : LeverPlace) → map (seated places) v.items ≡ map (row_holds places) table.now) }
+    ensures seated { IfOk result
+        (λ v. (places : LeverPlace) → map (seated places) v.items ≡ map (row_holds places) table.now) }
 
     // What a frame needs of its bridles.
     ensures few { IfOk result (λ v. length v.items < 2 ^ 32) }
     ensures fits { IfOk result (λ v. (levers : ℕ) → All (RowFits levers) table.now → All (BridleFits levers) v.items) }
-    ensures opening { IfOk result (λ v. (levers : ℕ) → All (RowFits levers) table.now → All (IsSeated (at_ends (replicate levers NormalEnd))) v.items) }
+    ensures opening { IfOk result
+        (λ v. (levers : ℕ) → All (RowFits levers) table.now
+        → All (IsSeated (at_ends (replicate levers NormalEnd))) v.items) }
 {
     compile_rows(alloc, table.rows())
 }

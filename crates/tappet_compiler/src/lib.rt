@@ -6,6 +6,3 @@ mod laws;
 
 pub use compiler::{compile, frame_of};
 pub use laws::{same_holder, seated_where_row_holds};
-
-#[cfg(test)]
-mod tests;

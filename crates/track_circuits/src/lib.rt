@@ -92,6 +92,3 @@ impl Tracks {
         self.occupants[place as usize]
     }
 }
-
-#[cfg(test)]
-mod tests;

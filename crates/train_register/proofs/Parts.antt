@@ -5,7 +5,7 @@ use Rattle.std.proofs.lemmas.List.Elements.{All-filter, All-from_get_or}
 use Rattle.line_plan.specs.Plans.{PlanFields}
 use Rattle.line_law.specs.declared.call.Entry.{Entry}
 use Rattle.line_law.specs.History.{part_of}
-use Rattle.script_text.specs.Told.{IsSpelled}
+use Rattle.script_text.specs.Entries.{IsSpelled}
 use Rattle.train_register.specs.Registers.{AreParts, IsPrintable, RegisterFields, no_register, register_at, register_text, registers_text}
 use Rattle.train_register.specs.Filling.{AreFilling}
 

@@ -11,7 +11,8 @@ counts_of boxes es = map (λ b. length (part_of b es)) (range_with_len 0 boxes)
 
 -- registers with nothing in them, one for each box in order, with so much room in each
 abbrev pub AreOpened : List ℕ → List RegisterFields → Type 0
-AreOpened rooms registers = (b : ℕ) → b < length rooms → register_at registers b ≡ record { box_no = b; entries = []; spare = slice_index rooms b }
+AreOpened rooms registers = (b : ℕ) → b < length rooms
+    → register_at registers b ≡ record { box_no = b; entries = []; spare = slice_index rooms b }
 
 -- the register of box b where some entries of the line are entered, with the room for those that are left
 abbrev pub filling : List Entry → List Entry → ℕ → RegisterFields

@@ -4,7 +4,7 @@ use Rattle.std.specs.List.{flat_map, range_with_len}
 use Rattle.line_plan.specs.Plans.{PlanFields, box_name}
 use Rattle.line_law.specs.declared.call.Entry.{Entry}
 use Rattle.line_law.specs.History.{part_of}
-use Rattle.script_text.specs.Told.{IsSpelled, told_text}
+use Rattle.script_text.specs.Entries.{IsSpelled, told_text}
 
 -- a register: its box, what was done there, in order, and how many more entries it has room for
 pub record RegisterFields : Type 0 where
@@ -25,7 +25,8 @@ no_register = record { box_no = 0; entries = []; spare = 0 }
 abbrev pub register_at : List RegisterFields → ℕ → RegisterFields
 register_at registers b = slice_index_or registers b no_register
 
--- the registers of a plan's boxes, one for each in their order: the register of a box has the entries of that box, in order
+-- the registers of a plan's boxes, one for each in their order: the register of a box has the entries of that box, in
+-- order
 pub record AreParts (plan : PlanFields) (es : List Entry) (registers : List RegisterFields) : Type 0 where
   pub each : length registers ≡ length plan.boxes
   pub boxes : (b : ℕ) → b < length plan.boxes → (register_at registers b).box_no ≡ b

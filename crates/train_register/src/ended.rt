@@ -1,7 +1,7 @@
 //! The registers of a line that has ended.
 
 ghost use Rattle.std.specs.Prelude.{◌≡◌, ◌<◌, ◌≤◌, ◌^◌, [], length, vec_len, All, IfOk};
-ghost use Rattle.script_text.specs.Told.{IsSpelled};
+ghost use Rattle.script_text.specs.Entries.{IsSpelled};
 ghost use Rattle.train_register.specs.Registers.{AreParts, IsPrintable};
 ghost use Rattle.train_register.specs.Filling.{AreFilling, AreOpened, counts_of};
 
@@ -76,7 +76,8 @@ impl Ended {
     pub fn of_journal(alloc: Global, plan: &Plan, journal: &Journal) -> Result<Ended, NoMemory>
         requires boxes { All (λ e. e.box_no < length plan.now.boxes) journal.now.entries }
         ensures parts { IfOk result (λ ended. AreParts plan.now journal.now.entries ended.registers) }
-        ensures printable { All (IsSpelled plan.now) journal.now.entries → IfOk result (λ ended. All (IsPrintable plan.now) ended.registers) }
+        ensures printable { All (IsSpelled plan.now) journal.now.entries
+            → IfOk result (λ ended. All (IsPrintable plan.now) ended.registers) }
     {
         let registers = registers_of(alloc, plan.boxes.len(), journal.entries.as_slice())?;
         Ok(Ended {

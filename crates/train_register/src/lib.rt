@@ -8,6 +8,3 @@ mod register;
 pub use ended::Ended;
 pub use printing::{print_register, put_registers};
 pub use register::Register;
-
-#[cfg(test)]
-mod tests;

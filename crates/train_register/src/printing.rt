@@ -3,8 +3,9 @@
 ghost use Rattle.std.specs.Prelude.{◌≡◌, ◌<◌, ◌++◌, List, All, IfOk, OnOk, length, string_bytes};
 ghost use Rattle.std.specs.List.{flat_map};
 ghost use Rattle.line_law.specs.declared.call.Entry.{Entry};
-ghost use Rattle.script_text.specs.Told.{IsSpelled};
-ghost use Rattle.train_register.specs.Registers.{AreParts, IsPrintable, register_text, registers_text, told_line, told_lines};
+ghost use Rattle.script_text.specs.Entries.{IsSpelled};
+ghost use Rattle.train_register.specs.Registers.{AreParts, IsPrintable, register_text, registers_text, told_line};
+ghost use Rattle.train_register.specs.Registers.{told_lines};
 
 use crate::ended::Ended;
 use crate::register::Register;
@@ -42,7 +43,8 @@ fn put_lines(out: &mut String, plan: &Plan, entries: &[Entry]) -> Result<(), All
 fn put_register(out: &mut String, plan: &Plan, register: &Register) -> Result<(), AllocError>
     requires at { register.now.box_no < length plan.now.boxes }
     requires spelled { All (IsSpelled plan.now) register.now.entries }
-    ensures { OnOk result (string_bytes out.new ≡ string_bytes out.old ++ register_text plan.now register.now.box_no register.now.entries) }
+    ensures { OnOk result (string_bytes out.new
+        ≡ string_bytes out.old ++ register_text plan.now register.now.box_no register.now.entries) }
 {
     let entries = register.entries();
     let count = entries.len();
@@ -53,9 +55,9 @@ fn put_register(out: &mut String, plan: &Plan, register: &Register) -> Result<()
 }
 
 /// A register as it is printed: `register`, its box and the number of its entries, then a line for each entry, numbered
-/// from 1: the moment and the call, `->` and the reply, as in `1 10:00 ring down 1 -> rung 1`. Each entry is one that the
-/// line can spell, as `is_spelled` of `script_text` tells. A moment is printed as `HH:MM` where the plan has version 1, else
-/// as `HH:MM:SS`.
+/// from 1: the moment and the call, `->` and the reply, as in `1 10:00 ring down 1 -> rung 1`. Each entry is one that
+/// the line can spell, as `is_spelled` of `script_text` tells. A moment is printed as `HH:MM` where the plan has
+/// version 1, else as `HH:MM:SS`.
 pub fn print_register(alloc: Global, plan: &Plan, register: &Register) -> Result<Vec<u8>, NoMemory>
     requires at { register.now.box_no < length plan.now.boxes }
     requires spelled { All (IsSpelled plan.now) register.now.entries }
@@ -70,7 +72,9 @@ pub fn print_register(alloc: Global, plan: &Plan, register: &Register) -> Result
 #[tactic(auto, using(line_plan::proofs::Texts::texts))]
 fn put_each(out: &mut String, plan: &Plan, registers: &[Register]) -> Result<(), AllocError>
     requires { All (IsPrintable plan.now) registers.now }
-    ensures { OnOk result (string_bytes out.new ≡ string_bytes out.old ++ flat_map (λ register. register_text plan.now register.box_no register.entries) registers.now) }
+    ensures { OnOk result (string_bytes out.new
+        ≡ string_bytes out.old ++ flat_map (λ register. register_text plan.now register.box_no register.entries)
+        registers.now) }
 {
     for register in registers {
         put_register(out, plan, register)?;
@@ -78,12 +82,15 @@ fn put_each(out: &mut String, plan: &Plan, registers: &[Register]) -> Result<(),
     Ok(())
 }
 
-/// Puts the registers of a line behind a text, in the order of the boxes, each as `print_register` prints it. Where memory
-/// runs out a part may stand behind the text.
+/// Puts the registers of a line behind a text, in the order of the boxes, each as `print_register` prints it. Where
+/// memory runs out a part may stand behind the text.
 pub fn put_registers(out: &mut String, plan: &Plan, ended: &Ended) -> Result<(), AllocError>
     requires { All (IsPrintable plan.now) ended.now.registers }
-    ensures each { OnOk result (string_bytes out.new ≡ string_bytes out.old ++ flat_map (λ register. register_text plan.now register.box_no register.entries) ended.now.registers) }
-    ensures parts { (es : List Entry) → AreParts plan.now es ended.now.registers → OnOk result (string_bytes out.new ≡ string_bytes out.old ++ registers_text plan.now es) }
+    ensures each { OnOk result
+        (string_bytes out.new ≡ string_bytes out.old
+        ++ flat_map (λ register. register_text plan.now register.box_no register.entries) ended.now.registers) }
+    ensures parts { (es : List Entry) → AreParts plan.now es ended.now.registers
+        → OnOk result (string_bytes out.new ≡ string_bytes out.old ++ registers_text plan.now es) }
 {
     put_each(out, plan, ended.registers.as_slice())
 }

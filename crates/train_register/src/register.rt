@@ -7,8 +7,8 @@ use rail_text::NoMemory;
 use std::alloc::Global;
 use std::marker::Model;
 
-/// What one signalman did and was answered, in order. It has room for so many more entries, in memory that was taken when
-/// it was made.
+/// What one signalman did and was answered, in order. It has room for so many more entries, in memory that was taken
+/// when it was made.
 #[derive(Debug, Drop)]
 pub struct Register {
     box_no: u32,
@@ -22,9 +22,11 @@ impl Model for Register {
 
     ghost Value = { RegisterFields };
 
-    ghost view = { λ register. record { box_no = register.box_no; entries = register.entries.items; spare = register.spare } };
+    ghost view = { λ register.
+        record { box_no = register.box_no; entries = register.entries.items; spare = register.spare } };
 
-    ghost invariant = { λ register. IsRegister register.box_no register.entries.items register.spare (vec_len register.entries) (vec_capacity register.entries) };
+    ghost invariant = { λ register. IsRegister register.box_no register.entries.items register.spare
+        (vec_len register.entries) (vec_capacity register.entries) };
 }
 
 impl Register {
@@ -65,7 +67,11 @@ impl Register {
     pub fn push(&mut self, entry: Entry)
         requires spare { 0 < self.old.spare }
         requires own { entry.box_no ≡ self.old.box_no }
-        ensures { self.new ≡ record { box_no = self.old.box_no; entries = self.old.entries ++ entry ∷ []; spare = self.old.spare - 1 } }
+        ensures { self.new ≡ record {
+          box_no = self.old.box_no;
+          entries = self.old.entries ++ entry ∷ [];
+          spare = self.old.spare - 1;
+        } }
     {
         self.entries.push(entry).unwrap();
         self.spare -= 1;

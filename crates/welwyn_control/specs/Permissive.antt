@@ -9,7 +9,8 @@ pub record Permission : Type 0 where
   pub out : ℕ
   pub winding : Option ℕ
 
--- a release that is complete takes back one train, where any is out, and ends the winding; any other reply changes nothing
+-- a release that is complete takes back one train, where any is out, and ends the winding; any other reply changes
+-- nothing
 abbrev pub permission_after : ReleaseReply → Permission → Permission
 permission_after Released old = record old { out = old.out - 1; winding = None }
 permission_after NotWinding old = old

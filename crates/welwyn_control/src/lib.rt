@@ -13,6 +13,3 @@ pub mod releases;
 pub use absolute::Welwyn;
 pub use permissive::Permit;
 pub use releases::ReleaseReply;
-
-#[cfg(test)]
-mod tests;

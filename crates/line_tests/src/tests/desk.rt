@@ -9,34 +9,20 @@ use std::thread::Threads;
 /// The words that run a plan of two boxes.
 pub const RUN_TWO: &[&str] = &["run", "plan", "ash", "beech"];
 
-/// The words that run a plan of three boxes.
-pub const RUN_THREE: &[&str] = &["run", "plan", "ash", "beech", "cedar"];
-
 /// The words that judge a journal.
 pub const JUDGE: &[&str] = &["judge", "plan", "journal"];
-
-/// A worked run: its words, the texts that they name, the entries of its journal, and its output.
-pub type Run = (
-    &'static [&'static str],
-    &'static [&'static [u8]],
-    u32,
-    &'static str,
-);
 
 /// A line of two boxes.
 pub const TWO_BOXES: &[u8] =
     b"plan 1\nboxes 2\ndelay 2\nlooks 1000000000\nbox Ash\nbox Beech\nend\n";
-
-/// A line of three boxes.
-pub const THREE_BOXES: &[u8] =
-    b"plan 1\nboxes 3\ndelay 2\nlooks 1000000000\nbox Ash\nbox Beech\nbox Cedar\nend\n";
 
 /// Scripts without a call.
 pub const ASH_IDLE: &[u8] = b"script Ash\nend\n";
 
 pub const BEECH_IDLE: &[u8] = b"script Beech\nend\n";
 
-pub const CEDAR_IDLE: &[u8] = b"script Cedar\nend\n";
+/// A journal without an entry.
+pub const IDLE_JOURNAL: &[u8] = b"journal 1\nend\n";
 
 /// Which fetch and which put fails, counted from 1, if any, and how many bytes the sink has room for.
 #[derive(Clone, Copy, Debug)]

@@ -1,12 +1,10 @@
 //! Texts that can't be fetched, and output that can't be written.
 
 use crate::tests::desk::{
-    ASH_IDLE, BEECH_IDLE, JUDGE, Outside, RUN_TWO, SOUND, TWO_BOXES, work_behind,
+    ASH_IDLE, BEECH_IDLE, IDLE_JOURNAL, JUDGE, Outside, RUN_TWO, SOUND, TWO_BOXES, work_behind,
 };
 use box_top::{OpenGate, Status};
 use std::test::Fail;
-
-const IDLE_JOURNAL: &[u8] = b"journal 1\nend\n";
 
 // The output of a run without a call.
 const IDLE: &[u8] = b"journal 1\nend\nregister Ash 0\nregister Beech 0\nrefusals 0\n\
@@ -20,7 +18,7 @@ type Fetch = (
     Status,
 );
 
-const FETCHES: [Fetch; 19] = [
+const FETCHES: [Fetch; 14] = [
     (
         Some(1),
         RUN_TWO,
@@ -46,10 +44,6 @@ const FETCHES: [Fetch; 19] = [
         &[TWO_BOXES, ASH_IDLE, BEECH_IDLE],
         Status::Done,
     ),
-    // A text is missing.
-    (None, RUN_TWO, &[], Status::ShelfFault),
-    (None, RUN_TWO, &[TWO_BOXES], Status::ShelfFault),
-    (None, RUN_TWO, &[TWO_BOXES, ASH_IDLE], Status::ShelfFault),
     // A later text is wrong, but isn't reached.
     (Some(1), RUN_TWO, &[b"plan", b"", b""], Status::ShelfFault),
     (
@@ -76,7 +70,6 @@ const FETCHES: [Fetch; 19] = [
         &[TWO_BOXES, IDLE_JOURNAL],
         Status::ShelfFault,
     ),
-    (None, JUDGE, &[TWO_BOXES], Status::ShelfFault),
     // A plan that is refused is refused before the journal is fetched.
     (Some(2), JUDGE, &[b"", IDLE_JOURNAL], Status::Refused),
     (
@@ -85,7 +78,6 @@ const FETCHES: [Fetch; 19] = [
         &[TWO_BOXES],
         Status::ShelfFault,
     ),
-    (None, &["check", "plan"], &[], Status::ShelfFault),
     (
         Some(1),
         &["tables", "plan", "Ash"],

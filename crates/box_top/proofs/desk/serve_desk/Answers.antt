@@ -1,5 +1,5 @@
 use Rattle.std.proofs.Common.{refl}
-use Rattle.box_top.specs.Commands.{desk_shown}
+use Rattle.command_words.specs.Commands.{desk_shown}
 use Rattle.box_top.proofs.DeskDone.{desk_done}
 use Rattle.box_top.proofs.Outcomes.{outcome_printed}
 use Rattle.box_top.proofs.desk.serve_desk.Goals as goal

@@ -1,7 +1,8 @@
 use Rattle.std.proofs.Common.{◌≡◌, Option, Some, sym, subst}
-use Rattle.box_top.specs.Commands.{Command, bytes_of, command_of, named}
+use Rattle.command_words.specs.Commands.{Command, bytes_of, command_of}
+use Rattle.text_fetch.specs.FromTexts.{named}
 use Rattle.box_top.specs.Top.{Printed}
-use Rattle.box_top.proofs.StressWords.{stress_is_few}
+use Rattle.command_words.proofs.StressWords.{stress_is_few}
 use Rattle.box_top.proofs.top.serve.Goals as goal
 
 pub serve_stress-requires-clause-low : goal.serve_stress-requires-clause-low

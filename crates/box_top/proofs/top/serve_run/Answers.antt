@@ -1,5 +1,6 @@
 use Rattle.std.proofs.Common.{refl}
-use Rattle.box_top.specs.Commands.{Command, named}
+use Rattle.command_words.specs.Commands.{Command}
+use Rattle.text_fetch.specs.FromTexts.{named}
 use Rattle.box_top.proofs.Headlines.{run_done}
 use Rattle.box_top.proofs.Outcomes.{outcome_printed}
 use Rattle.box_top.proofs.top.serve_run.Goals as goal

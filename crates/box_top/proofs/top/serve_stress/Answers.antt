@@ -1,5 +1,5 @@
 use Rattle.std.proofs.Common.{refl}
-use Rattle.box_top.specs.Commands.{Command}
+use Rattle.command_words.specs.Commands.{Command}
 use Rattle.box_top.proofs.Headlines.{stress_done}
 use Rattle.box_top.proofs.Outcomes.{outcome_printed}
 use Rattle.box_top.proofs.top.serve_stress.Goals as goal

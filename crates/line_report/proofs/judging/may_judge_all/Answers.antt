@@ -1,4 +1,4 @@
-use Rattle.std.proofs.Common.{◌≡◌, ℕ, ◌+◌, sym, ap, subst, ◌∙◌}
+use Rattle.std.proofs.Common.{◌≡◌, ℕ, ◌+◌, sym, ap, ◌∙◌}
 use Rattle.line_plan.specs.Plans.{IsPlan}
 use Rattle.line_law.specs.Law.{Done}
 use Rattle.line_law.specs.Lines.{PlainState}
@@ -15,7 +15,7 @@ loop-entry-init c = record {
 
 pub loop-entry-preserved : goal.loop-entry-preserved
 loop-entry-preserved c =
-    let is : IsPlan c.args.plan.now = subst IsPlan c.plan.view_is c.plan.invariant.0 in
+    let is : IsPlan c.args.plan.now = c.meets_conditions.ensures in
     record {
       line = c.perform.ensures.line;
       calls = c.perform.ensures.calls ∙ ap (λ (n : ℕ). n + 1) c.loop-entry.invariant.calls;

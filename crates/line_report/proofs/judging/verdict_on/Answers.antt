@@ -23,7 +23,7 @@ perform-law-requires-clause-call c = asked_at c.args.plan.now c.loop-place.plain
 
 pub loop-place-preserved : goal.loop-place-preserved
 loop-place-preserved c =
-    let is : IsPlan c.args.plan.now = subst IsPlan c.plan.view_is c.plan.invariant.0 in
+    let is : IsPlan c.args.plan.now = c.meets_conditions.ensures in
     let told = c.perform-law.ensures.told in
     record {
       line = c.perform-law.ensures.line;

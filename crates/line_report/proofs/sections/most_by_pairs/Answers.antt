@@ -22,7 +22,7 @@ loop-entry-init c =
 
 pub loop-entry-preserved : goal.loop-entry-preserved
 loop-entry-preserved c =
-    let is : IsPlan c.args.plan.now = subst IsPlan c.plan.view_is c.plan.invariant.0 in
+    let is : IsPlan c.args.plan.now = c.meets_conditions.ensures in
     let same : after_entry c.args.plan.now c.loop-entry.plain.line (get_or c.args.entries.now c.loop-entry.entry-index no_entry) ≡ c.perform.new.self.line = ap (λ (d : Done). d.after) c.perform.ensures.told in
     record {
       line = c.perform.ensures.line;

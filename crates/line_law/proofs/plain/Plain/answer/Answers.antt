@@ -1,5 +1,4 @@
-use Rattle.std.proofs.Common.{subst}
-use Rattle.line_plan.specs.Plans.{IsPlan, PlanFields}
+use Rattle.line_plan.specs.Plans.{IsPlan}
 use Rattle.line_law.proofs.Keeping.{is_ready}
 use Rattle.line_law.proofs.Lines.{box_fits, pair_fits}
 use Rattle.line_law.proofs.Sides.{known_box}
@@ -13,10 +12,10 @@ answer_here-requires-clause-here c = box_fits _ _ _ _ c.requires.line c.requires
 
 pub answer_here-requires-clause-pair : goal.answer_here-requires-clause-pair
 answer_here-requires-clause-pair c =
-    let is : IsPlan c.args.plan.now = subst (λ (p : PlanFields). IsPlan p) c.plan.view_is c.plan.invariant.0 in
+    let is : IsPlan c.args.plan.now = c.meets_conditions.ensures in
     pair_fits _ _ _ _ is c.requires.line c.requires.call.known
 
 pub answer_here-requires-clause-ready : goal.answer_here-requires-clause-ready
 answer_here-requires-clause-ready c =
-    let is : IsPlan c.args.plan.now = subst (λ (p : PlanFields). IsPlan p) c.plan.view_is c.plan.invariant.0 in
+    let is : IsPlan c.args.plan.now = c.meets_conditions.ensures in
     is_ready _ _ _ _ is c.requires.line c.requires.call.known c.requires.few

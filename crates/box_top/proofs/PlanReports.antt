@@ -1,9 +1,0 @@
--- What is made of a plan that is told.
-use Rattle.std.proofs.Common.{Result, Ok, Err}
-use Rattle.box_top.specs.declared.stop.Stop.{Stop}
-use Rattle.box_top.specs.Told.{Told, IsGiven, Makes, told_then}
-use Rattle.box_top.proofs.Gathering.{given_then, stops_then}
-
-pub plan_makes : {X A B : Type 0} (outcome : Result X Stop) (view : X → B) (plan : A) (t : Told A) (told : A → Told B) → IsGiven plan t → Makes view outcome (told plan) → Makes view outcome (told_then t told)
-plan_makes (Ok x) view plan t told h made = given_then plan (view x) t told h made
-plan_makes (Err stop) view plan t told h made = stops_then plan stop t told h made

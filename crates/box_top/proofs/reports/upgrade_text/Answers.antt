@@ -1,7 +1,0 @@
-use Rattle.std.proofs.Common.{◌∙◌, ap}
-use Rattle.std.proofs.lemmas.Result.{IfOk-weaker}
-use Rattle.line_plan.specs.Printing.{plan_text}
-use Rattle.box_top.proofs.reports.upgrade_text.Goals as goal
-
-pub returns : goal.returns
-returns c = IfOk-weaker c.print_plan.result _ _ (λ text e. e ∙ ap plan_text c.in_ok-newer.ensures) c.print_plan.ensures

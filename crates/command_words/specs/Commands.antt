@@ -1,0 +1,128 @@
+-- The command table.
+use Rattle.std.specs.Prelude.{ℕ, Bool, false, not, ◌&&◌, ◌==◌, nat_le, List, [], ◌∷◌, Option, Some, None, if◌then◌else◌}
+use Rattle.std.specs.Prelude.{bytes_eq, codes, map, option_and_then, String, string_bytes}
+use Rattle.std.specs.Global.{Global}
+use Rattle.std.specs.List.{list_all}
+use Rattle.rail_text.specs.Number.{number_of}
+use Rattle.command_words.specs.declared.command.CommandLine.{CommandLine}
+use Rattle.command_words.specs.declared.command.CommandLine.TheVariants as lines
+use Rattle.command_words.specs.declared.command.DeskCommand.{DeskCommand}
+use Rattle.command_words.specs.declared.command.DeskCommand.TheVariants as desk
+
+-- What the words of a command line ask for, with the names of the texts. Run: a plan's line is worked by the scripts of
+-- its boxes; Stress: the made line of so many trains is worked by its own scripts; Check: a plan is checked; Tables:
+-- the frame of a plan's box is shown, the box by its name; Judge: a journal of a plan's line is judged; Upgrade: a plan
+-- is put into version 2.
+pub data Command : Type 0 where
+  Run : List ℕ → List (List ℕ) → Command
+  Stress : ℕ → Command
+  Check : List ℕ → Command
+  Tables : List ℕ → List ℕ → Command
+  Judge : List ℕ → List ℕ → Command
+  Upgrade : List ℕ → Command
+
+-- the names of a command's texts, in the order in which they are fetched: text 1, text 2 and so on
+abbrev pub texts_of : Command → List (List ℕ)
+texts_of (Command.Run plan scripts) = plan ∷ scripts
+texts_of (Command.Stress n) = []
+texts_of (Command.Check plan) = plan ∷ []
+texts_of (Command.Tables plan name) = plan ∷ []
+texts_of (Command.Judge plan journal) = plan ∷ journal ∷ []
+texts_of (Command.Upgrade plan) = plan ∷ []
+
+-- ---- which words are a command
+
+-- words as their bytes
+abbrev pub bytes_of : List (String Global) → List (List ℕ)
+bytes_of words = map (λ word. string_bytes word) words
+
+-- a word that the table may have: not empty, and without a hyphen in front
+abbrev pub is_plain_word : List ℕ → Bool
+is_plain_word [] = false
+is_plain_word (b ∷ bs) = not (b == 45)
+
+-- `run PLAN SCRIPT..`, with one script or more
+abbrev pub run_in : List (List ℕ) → Option Command
+run_in [] = None
+run_in (plan ∷ []) = None
+run_in (plan ∷ script ∷ scripts) = Some (Command.Run plan (script ∷ scripts))
+
+-- the most trains of a made line
+abbrev pub most_made_trains : ℕ
+most_made_trains = 200
+
+-- a made line has 1 train to that many
+abbrev pub stress_of : ℕ → Option Command
+stress_of n = if nat_le 1 n && nat_le n most_made_trains then Some (Command.Stress n) else None
+
+-- `stress N`, where N is written as numbers are printed
+abbrev pub stress_in : List (List ℕ) → Option Command
+stress_in (n ∷ []) = option_and_then stress_of (number_of n)
+stress_in words = None
+
+-- `check PLAN`
+abbrev pub check_in : List (List ℕ) → Option Command
+check_in (plan ∷ []) = Some (Command.Check plan)
+check_in words = None
+
+-- `tables PLAN BOX`
+abbrev pub tables_in : List (List ℕ) → Option Command
+tables_in (plan ∷ name ∷ []) = Some (Command.Tables plan name)
+tables_in words = None
+
+-- `judge PLAN JOURNAL`
+abbrev pub judge_in : List (List ℕ) → Option Command
+judge_in (plan ∷ journal ∷ []) = Some (Command.Judge plan journal)
+judge_in words = None
+
+-- `upgrade PLAN`
+abbrev pub upgrade_in : List (List ℕ) → Option Command
+upgrade_in (plan ∷ []) = Some (Command.Upgrade plan)
+upgrade_in words = None
+
+-- the command of a first word and the words behind it
+abbrev pub command_in : List ℕ → List (List ℕ) → Option Command
+command_in first words =
+    if bytes_eq first (codes "run") then run_in words
+    else if bytes_eq first (codes "stress") then stress_in words
+    else if bytes_eq first (codes "check") then check_in words
+    else if bytes_eq first (codes "tables") then tables_in words
+    else if bytes_eq first (codes "judge") then judge_in words
+    else if bytes_eq first (codes "upgrade") then upgrade_in words
+    else None
+
+-- the command of these words, if they are of the table
+unfoldable pub command_of : List (List ℕ) → Option Command
+command_of [] = None
+command_of (first ∷ words) = if list_all is_plain_word (first ∷ words) then command_in first words else None
+
+-- ---- the desk, which works no line
+
+-- a command, if the desk serves it: every one but `run` and `stress`
+abbrev pub at_desk : Option Command → Option Command
+at_desk None = None
+at_desk (Some (Command.Run plan scripts)) = None
+at_desk (Some (Command.Stress n)) = None
+at_desk (Some (Command.Check plan)) = Some (Command.Check plan)
+at_desk (Some (Command.Tables plan name)) = Some (Command.Tables plan name)
+at_desk (Some (Command.Judge plan journal)) = Some (Command.Judge plan journal)
+at_desk (Some (Command.Upgrade plan)) = Some (Command.Upgrade plan)
+
+-- the command of these words, if the desk serves it
+unfoldable pub desk_command_of : List (List ℕ) → Option Command
+desk_command_of words = at_desk (command_of words)
+
+-- ---- as the program holds them
+
+-- a command of the desk
+abbrev pub desk_shown : DeskCommand → Command
+desk_shown (desk.Check plan) = Command.Check plan.now
+desk_shown (desk.Tables plan name) = Command.Tables plan.now name.now
+desk_shown (desk.Judge plan journal) = Command.Judge plan.now journal.now
+desk_shown (desk.Upgrade plan) = Command.Upgrade plan.now
+
+-- any command
+abbrev pub shown : CommandLine → Command
+shown (lines.Run plan scripts) = Command.Run plan.now (map (λ name. name.now) scripts.items)
+shown (lines.Stress trains) = Command.Stress trains
+shown (lines.Desk command) = desk_shown command

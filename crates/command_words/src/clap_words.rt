@@ -1,0 +1,118 @@
+//! The commands as clap knows them, and what clap finds in the words.
+
+ghost use Rattle.std.specs.Prelude.{◌≡◌, true, false, IfOk};
+ghost use Rattle.clap.specs.Words.{app_of, rule_of, subcommand_rows_of};
+ghost use Rattle.clap.specs.declared.builder.command.Command.TheViews.{out-Command};
+ghost use Rattle.command_words.specs.Commands.{bytes_of, command_of};
+ghost use Rattle.command_words.specs.ClapTable.{all_commands, has_command_form, one_argument_command, program};
+ghost use Rattle.command_words.specs.ClapTable.{repeated_argument, required_argument, run_command};
+ghost use Rattle.command_words.specs.ClapTable.{two_argument_command, with_desk_commands, with_line_commands};
+ghost use Rattle.command_words.specs.ClapReads.{command_read};
+
+use clap::error::ErrorKind;
+use clap::{Arg, ArgMatches, Command};
+use rail_text::NoMemory;
+use std::alloc::{AllocError, Global};
+
+// An argument that is required.
+fn required_argument<'a>(alloc: Global, name: &'a str) -> Arg<'a>
+    ensures rule { rule_of result ≡ required_argument name.entry.now }
+    ensures own { result.global ≡ false }
+{
+    Arg::new(alloc, name).required(true)
+}
+
+// An argument that takes one word or more.
+fn repeated_argument<'a>(alloc: Global, name: &'a str) -> Arg<'a>
+    ensures rule { rule_of result ≡ repeated_argument name.entry.now }
+    ensures own { result.global ≡ false }
+{
+    required_argument(alloc, name).num_args(1..)
+}
+
+// A command with one argument.
+fn one_argument_command<'a>(
+    alloc: Global,
+    name: &'a str,
+    first: &'a str,
+) -> Result<Command<'a>, AllocError>
+    ensures shape { IfOk result (λ c. app_of c ≡ one_argument_command name.entry.now first.entry.now) }
+    ensures own { IfOk result (λ c. (out-Command c).has_globals ≡ false) }
+{
+    Command::new(alloc, name).arg(required_argument(alloc, first))
+}
+
+// A command with two arguments.
+fn two_argument_command<'a>(
+    alloc: Global,
+    name: &'a str,
+    first: &'a str,
+    second: &'a str,
+) -> Result<Command<'a>, AllocError>
+    ensures shape { IfOk result (λ c. app_of c ≡ two_argument_command name.entry.now first.entry.now second.entry.now) }
+    ensures own { IfOk result (λ c. (out-Command c).has_globals ≡ false) }
+{
+    one_argument_command(alloc, name, first)?.arg(required_argument(alloc, second))
+}
+
+// `run PLAN SCRIPT..`
+fn run_command<'a>(alloc: Global) -> Result<Command<'a>, AllocError>
+    ensures shape { IfOk result (λ c. app_of c ≡ run_command) }
+    ensures own { IfOk result (λ c. (out-Command c).has_globals ≡ false) }
+{
+    one_argument_command(alloc, "run", "plan")?.arg(repeated_argument(alloc, "script"))
+}
+
+// The program. clap is given its words without its own name in front.
+fn program<'a>(alloc: Global) -> Command<'a>
+    ensures { app_of result ≡ program }
+{
+    Command::new(alloc, "box_main").no_binary_name(true)
+}
+
+// The program with the commands that work a line.
+fn with_line_commands<'a>(alloc: Global, program: Command<'a>) -> Result<Command<'a>, AllocError>
+    ensures { IfOk result (λ c. app_of c ≡ with_line_commands (app_of program.entry)) }
+{
+    let run = run_command(alloc)?;
+    let stress = one_argument_command(alloc, "stress", "trains")?;
+    program.subcommand(run)?.subcommand(stress)
+}
+
+// The program with the commands of the desk.
+fn with_desk_commands<'a>(alloc: Global, program: Command<'a>) -> Result<Command<'a>, AllocError>
+    ensures { IfOk result (λ c. app_of c ≡ with_desk_commands (app_of program.entry)) }
+{
+    let check = one_argument_command(alloc, "check", "plan")?;
+    let tables = two_argument_command(alloc, "tables", "plan", "box")?;
+    let judge = two_argument_command(alloc, "judge", "plan", "journal")?;
+    let upgrade = one_argument_command(alloc, "upgrade", "plan")?;
+    program
+        .subcommand(check)?
+        .subcommand(tables)?
+        .subcommand(judge)?
+        .subcommand(upgrade)
+}
+
+// The program with all its commands.
+fn all_commands<'a>(alloc: Global) -> Result<Command<'a>, AllocError>
+    ensures { IfOk result (λ c. app_of c ≡ all_commands) }
+{
+    let program = with_line_commands(alloc, program(alloc))?;
+    with_desk_commands(alloc, program)
+}
+
+/// What clap finds in words that have the form of a command.
+pub(crate) fn matches_of<'a>(alloc: Global, words: &'a [String]) -> Result<ArgMatches<'a>, NoMemory>
+    requires { has_command_form (bytes_of words.now) ≡ true }
+    ensures { IfOk result (λ m. command_read (subcommand_rows_of m) ≡ command_of (bytes_of words.now)) }
+{
+    let commands = all_commands(alloc)?;
+    match commands.try_get_matches_from(words) {
+        Ok(matches) => Ok(matches),
+        Err(error) => match error.kind() {
+            ErrorKind::OutOfMemory => Err(NoMemory),
+            _ => unreachable!(),
+        },
+    }
+}

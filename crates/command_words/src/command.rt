@@ -1,0 +1,194 @@
+//! The words of a command line.
+
+ghost use Rattle.std.specs.Prelude.{◌≡◌, IfOk, string_bytes};
+ghost use Rattle.std.specs.List.{list_all};
+ghost use Rattle.std.specs.Option.{option_map};
+ghost use Rattle.clap.specs.Words.{found_of, rows_of, subcommand_rows_of};
+ghost use Rattle.command_words.specs.Commands.{bytes_of, command_of, desk_command_of, desk_shown, is_plain_word, shown};
+ghost use Rattle.command_words.specs.ClapTable.{has_word_count, has_command_form};
+ghost use Rattle.command_words.specs.ClapReads.{command_read, desk_read, command_line_read, run_read, stress_read};
+
+use crate::clap_words::matches_of;
+use clap::ArgMatches;
+use rail_text::{NoMemory, read_number};
+use std::alloc::Global;
+
+/// The most trains of a made line.
+pub const MOST_MADE_TRAINS: u32 = 200;
+
+/// A command that the desk serves: it works no line.
+#[derive(Clone, Copy, Debug)]
+pub enum DeskCommand<'a> {
+    /// `check PLAN`: a plan is checked.
+    Check { plan: &'a str },
+    /// `tables PLAN BOX`: the frame of a plan's box is shown.
+    Tables { plan: &'a str, box_name: &'a str },
+    /// `judge PLAN JOURNAL`: a journal of the plan's line is judged.
+    Judge { plan: &'a str, journal: &'a str },
+    /// `upgrade PLAN`: a plan is put into version 2.
+    Upgrade { plan: &'a str },
+}
+
+/// What the words of a command line ask for, with the names of the texts.
+#[derive(Debug, Drop)]
+pub enum CommandLine<'a> {
+    /// `run PLAN SCRIPT..`: the plan's line is worked by one script or more.
+    Run {
+        plan: &'a str,
+        scripts: Vec<&'a str>,
+    },
+    /// `stress N`: the made line of so many trains, 1 to 200, is worked by its own scripts.
+    Stress {
+        trains: u32,
+    },
+    /// A command of the desk.
+    Desk(DeskCommand<'a>),
+}
+
+// A word that may stand in a command line: not empty, and without a hyphen in front.
+fn is_plain_word(word: &str) -> bool
+    ensures { result ≡ is_plain_word word.now }
+{
+    match word.as_bytes() {
+        [] => false,
+        [first, ..] => *first != b'-',
+    }
+}
+
+fn are_plain_words(words: &[String]) -> bool
+    ensures { result ≡ list_all (λ word. is_plain_word (string_bytes word)) words.now }
+{
+    words.iter().all(|word| is_plain_word(word.as_str()))
+}
+
+// Whether so many words may stand behind the first word of a command.
+fn has_word_count(first: &str, count: usize) -> bool
+    ensures { result ≡ has_word_count first.now count }
+{
+    if first == "run" {
+        count >= 2
+    } else if first == "tables" || first == "judge" {
+        count == 2
+    } else if first == "stress" || first == "check" || first == "upgrade" {
+        count == 1
+    } else {
+        false
+    }
+}
+
+// Whether words have the form of a command: plain, and as many as the command has.
+fn has_command_form(words: &[String]) -> bool
+    ensures { result ≡ has_command_form (bytes_of words.now) }
+{
+    match words {
+        [] => false,
+        [first, rest @ ..] => are_plain_words(words) && has_word_count(first.as_str(), rest.len()),
+    }
+}
+
+// The plan and the scripts of `run`.
+#[tactic(auto, using(crate::proofs::MatchRules::match_rules))]
+fn read_run<'a>(alloc: Global, found: &ArgMatches<'a>) -> Result<Option<CommandLine<'a>>, NoMemory>
+    ensures { IfOk result (λ command. option_map shown command ≡ run_read (rows_of (found_of found.now))) }
+{
+    let (Some(plan), Some(scripts)) = (found.get_str("plan"), found.get_strs("script")) else {
+        return Ok(None);
+    };
+    let scripts = Vec::from_slice(alloc, scripts)?;
+    Ok(Some(CommandLine::Run { plan, scripts }))
+}
+
+// The number of trains of `stress`.
+#[tactic(auto, using(crate::proofs::MatchRules::stress_rules))]
+fn read_stress<'a>(found: &ArgMatches<'a>) -> Option<CommandLine<'a>>
+    ensures { option_map shown result ≡ stress_read (rows_of (found_of found.now)) }
+{
+    let trains = read_number(found.get_str("trains")?.as_bytes())?;
+    if (1..=u64::from(MOST_MADE_TRAINS)).contains(&trains) {
+        Some(CommandLine::Stress {
+            trains: trains as u32,
+        })
+    } else {
+        None
+    }
+}
+
+// A command of the desk, by its name and what clap found.
+#[tactic(auto, using(crate::proofs::MatchRules::match_rules))]
+fn read_desk<'a>(name: &str, found: &ArgMatches<'a>) -> Option<DeskCommand<'a>>
+    ensures { option_map desk_shown result ≡ desk_read name.now (rows_of (found_of found.now)) }
+{
+    if name == "check" {
+        let plan = found.get_str("plan")?;
+        Some(DeskCommand::Check { plan })
+    } else if name == "tables" {
+        let plan = found.get_str("plan")?;
+        let box_name = found.get_str("box")?;
+        Some(DeskCommand::Tables { plan, box_name })
+    } else if name == "judge" {
+        let plan = found.get_str("plan")?;
+        let journal = found.get_str("journal")?;
+        Some(DeskCommand::Judge { plan, journal })
+    } else if name == "upgrade" {
+        let plan = found.get_str("plan")?;
+        Some(DeskCommand::Upgrade { plan })
+    } else {
+        None
+    }
+}
+
+// Any command, by its name and what clap found.
+fn read_command_line<'a>(
+    alloc: Global,
+    name: &str,
+    found: &ArgMatches<'a>,
+) -> Result<Option<CommandLine<'a>>, NoMemory>
+    ensures { IfOk result
+        (λ command. option_map shown command ≡ command_line_read name.now (rows_of (found_of found.now))) }
+{
+    if name == "run" {
+        read_run(alloc, found)
+    } else if name == "stress" {
+        Ok(read_stress(found))
+    } else {
+        Ok(read_desk(name, found).map(CommandLine::Desk))
+    }
+}
+
+/// The command of these words, if they are of the table: `run PLAN SCRIPT..`, with one script or
+/// more, `stress N`, with N from 1 to 200, `check PLAN`, `tables PLAN BOX`, `judge PLAN JOURNAL` or
+/// `upgrade PLAN`. No word is empty or begins with `-`.
+#[tactic(auto, using(crate::proofs::FoundCommands::command_rules))]
+pub fn command_of<'a>(
+    alloc: Global,
+    words: &'a [String],
+) -> Result<Option<CommandLine<'a>>, NoMemory>
+    ensures { IfOk result (λ found. option_map shown found ≡ command_of (bytes_of words.now)) }
+{
+    if !has_command_form(words) {
+        return Ok(None);
+    }
+    let matches = matches_of(alloc, words)?;
+    match matches.subcommand() {
+        Some((name, found)) => read_command_line(alloc, name, found),
+        None => Ok(None),
+    }
+}
+
+/// The command of these words, if the desk serves it: every command but `run` and `stress`.
+#[tactic(auto, using(crate::proofs::FoundCommands::desk_rules), unfolding(crate::specs::Commands::desk_command_of))]
+pub fn desk_command_of<'a>(
+    alloc: Global,
+    words: &'a [String],
+) -> Result<Option<DeskCommand<'a>>, NoMemory>
+    ensures { IfOk result (λ found. option_map desk_shown found ≡ desk_command_of (bytes_of words.now)) }
+{
+    if !has_command_form(words) {
+        return Ok(None);
+    }
+    let matches = matches_of(alloc, words)?;
+    match matches.subcommand() {
+        Some((name, found)) => Ok(read_desk(name, found)),
+        None => Ok(None),
+    }
+}

@@ -1,0 +1,7 @@
+//! The words of a command line, and the command that they ask for.
+#![tactic(auto)]
+
+mod clap_words;
+mod command;
+
+pub use command::{CommandLine, DeskCommand, MOST_MADE_TRAINS, command_of, desk_command_of};

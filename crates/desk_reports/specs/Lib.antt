@@ -1,0 +1,3 @@
+pub mod Frames
+pub mod Judgements
+pub mod Reports

@@ -1,0 +1,10 @@
+//! The reports of the desk: what is printed of a plan, of a box's frame and of a journal, built whole.
+#![tactic(auto)]
+
+mod frames;
+mod judging;
+mod reports;
+
+pub use frames::frame_outcome;
+pub use judging::judge_outcome;
+pub use reports::{check_outcome, upgrade_outcome};

@@ -1,0 +1,96 @@
+//! The made line by its tables: its plan, its scripts and its range.
+
+ghost use Rattle.line_maker.specs.MadeCalls.{AreLineScripts};
+
+use line_maker::{MakeError, make_line};
+use line_plan::{Plan, print_plan};
+use script_text::{Script, print_script};
+use std::alloc::Global;
+use std::test::Fail;
+
+const PLAN_OF_ONE: &str = "plan 1\nboxes 3\ndelay 2\nlooks 1000000000\n\
+box Ash\nplace DP\nplace UB\nplace UP\n\
+lever 1 spare\nlever 2 signal\nlever 3 signal\nlever 4 signal\nlever 5 points\n\
+signal 3 UB UP\nsignal 4 UP away\nstarter down 2 DP\nberth up UB\nclear up UP\n\
+row 2 locks 5 normal\nrow 3 locks 5 normal\n\
+box Beech\nplace DB\nplace DP\nplace UB\nplace UP\n\
+lever 1 signal\nlever 2 signal\nlever 3 signal\nlever 4 signal\nlever 5 points\n\
+signal 1 DB DP\nsignal 3 UB UP\nstarter down 2 DP\nstarter up 4 UP\nberth up UB\nberth down DB\n\
+clear up UP\nclear down DP\ntrack 5 DP\nrow 1 locks 5 normal\nrow 3 locks 5 normal\n\
+box Cedar\nplace DB\nplace DP\nplace UP\n\
+lever 1 signal\nlever 2 signal\nlever 3 spare\nlever 4 signal\nlever 5 points\n\
+signal 1 DB DP\nsignal 2 DP away\nstarter up 4 UP\nberth down DB\nclear down DP\n\
+row 1 locks 5 normal\nrow 4 locks 5 normal\n\
+train t1 ordinary Ash DP\nend\n";
+
+const SCRIPTS_OF_ONE: [&str; 3] = [
+    "script Ash\n06:00 bring t1\n\
+06:00 ring down 1\n06:00 await_bell down 1\n06:00 ring down 3-1\n06:00 await_bell down 3-1\n\
+06:00 await_block down line_clear\n06:00 pull 2\n06:00 ring down 2\n06:00 await_bell down 2\n\
+06:00 pass 2\n06:00 put 2\n06:00 await_bell down 2-1\n06:00 ring down 2-1\nend\n",
+    "script Beech\n\
+06:00 await_bell up 1\n06:00 ring up 1\n06:00 await_bell up 3-1\n06:00 ring up 3-1\n\
+06:00 turn down line_clear\n06:00 await_bell up 2\n06:00 ring up 2\n06:00 turn down train_on_line\n\
+06:00 await_train down\n06:00 berth down\n06:00 pull 1\n06:00 pass 1\n06:00 put 1\n\
+06:00 ring up 2-1\n06:00 turn down normal\n06:00 await_bell up 2-1\n\
+06:00 ring down 1\n06:00 await_bell down 1\n06:00 ring down 3-1\n06:00 await_bell down 3-1\n\
+06:00 await_block down line_clear\n06:00 pull 2\n06:00 ring down 2\n06:00 await_bell down 2\n\
+06:00 pass 2\n06:00 put 2\n06:00 await_bell down 2-1\n06:00 ring down 2-1\nend\n",
+    "script Cedar\n\
+06:00 await_bell up 1\n06:00 ring up 1\n06:00 await_bell up 3-1\n06:00 ring up 3-1\n\
+06:00 turn down line_clear\n06:00 await_bell up 2\n06:00 ring up 2\n06:00 turn down train_on_line\n\
+06:00 await_train down\n06:00 berth down\n06:00 pull 1\n06:00 pass 1\n06:00 put 1\n\
+06:00 ring up 2-1\n06:00 turn down normal\n06:00 await_bell up 2-1\n\
+06:00 pull 2\n06:00 pass 2\n06:00 put 2\nend\n",
+];
+
+#[test]
+fn plan_of_one_train(rt: HostRuntime) -> Result<(), Fail> {
+    let alloc = rt.alloc();
+    let (plan, _) = make_line(alloc, 1)?;
+    let text = print_plan(alloc, &plan)?;
+    assert_eq!(rt; text.as_slice(), PLAN_OF_ONE.as_bytes());
+    Ok(())
+}
+
+// The script of a box as it is printed.
+fn printed(alloc: Global, plan: &Plan, scripts: &[Script], box_no: usize) -> Result<Vec<u8>, Fail>
+    requires { AreLineScripts plan.now scripts.now }
+{
+    match scripts.get(box_no) {
+        Some(script) => Ok(print_script(alloc, plan, script)?),
+        None => Ok(Vec::new(alloc)),
+    }
+}
+
+#[test]
+fn scripts_of_one_train(rt: HostRuntime) -> Result<(), Fail> {
+    let alloc = rt.alloc();
+    let (plan, scripts) = make_line(alloc, 1)?;
+    for (box_no, wanted) in SCRIPTS_OF_ONE.iter().enumerate() {
+        let text = printed(alloc, &plan, &scripts, box_no)?;
+        assert_eq!(rt; text.as_slice(), wanted.as_bytes());
+    }
+    Ok(())
+}
+
+#[test]
+fn two_hundred_trains(rt: HostRuntime) -> Result<(), Fail> {
+    let (plan, scripts) = make_line(rt.alloc(), 200)?;
+    assert!(rt; plan.trains.len() == 200);
+    let mut counts = Vec::new(rt.alloc());
+    for script in &scripts {
+        counts.push(script.calls.len())?;
+    }
+    assert_eq!(rt; counts.as_slice(), [3200, 5600, 3200].as_slice());
+    Ok(())
+}
+
+#[test]
+fn trains_out_of_range(rt: HostRuntime) -> Result<(), Fail> {
+    for n in [0, 201, u32::MAX] {
+        let error = make_line(rt.alloc(), n).err();
+        assert_eq!(rt; error, Some(MakeError::OutOfRange { n }));
+    }
+    Ok(())
+}

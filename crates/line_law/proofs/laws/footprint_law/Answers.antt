@@ -1,8 +1,0 @@
-use Rattle.line_law.proofs.Footprints.{ends_alike, keeps_others}
-use Rattle.line_law.proofs.laws.footprint_law.Goals as goal
-
-pub returns-clause-function : goal.returns-clause-function
-returns-clause-function c = ends_alike
-
-pub returns-clause-others : goal.returns-clause-others
-returns-clause-others c = keeps_others

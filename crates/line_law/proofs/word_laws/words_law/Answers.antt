@@ -1,8 +1,0 @@
-use Rattle.line_law.proofs.WordHistory.{kind_of_entry, moves_word}
-use Rattle.line_law.proofs.word_laws.words_law.Goals as goal
-
-pub returns-clause-kind : goal.returns-clause-kind
-returns-clause-kind c = kind_of_entry
-
-pub returns-clause-moves : goal.returns-clause-moves
-returns-clause-moves c = moves_word

@@ -1,0 +1,5 @@
+pub mod LeftOf
+pub mod NextBox
+pub mod Turning
+pub mod SerialTurns
+pub mod MadeLine

@@ -1,0 +1,5 @@
+pub mod Rosters
+pub mod Looks
+pub mod Serial
+pub mod Outputs
+pub mod Made

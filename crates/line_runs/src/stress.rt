@@ -1,0 +1,96 @@
+//! The summary of the made line, built whole.
+
+ghost use Rattle.std.specs.Prelude.{◌≡◌, ◌≤◌, ◌++◌, IfOk, IsErrOf, OnOk, length, string_bytes};
+ghost use Rattle.line_law.specs.History.{IsLegal};
+ghost use Rattle.line_report.specs.Asked.{AreFewEntries};
+ghost use Rattle.line_runs.specs.Made.{IsMade, count_line, made_run, summary_of, summary_text};
+ghost use Rattle.line_runs.specs.Outputs.{run_journal};
+ghost use Rattle.text_fetch.specs.Runs.{AreScriptsOf};
+ghost use Rattle.text_fetch.specs.FromTexts.{Gives, Makes};
+
+use crate::gate::Gate;
+use crate::run::worked_journal;
+use line_law::Journal;
+use line_maker::{MakeError, make_line};
+use line_plan::Plan;
+use line_report::{put_sections, refused_count};
+use rail_text::NoMemory;
+use std::alloc::{AllocError, Global};
+use std::fmt::Write;
+use text_fetch::{Inputs, Stop};
+
+// A line with one number.
+fn put_count(out: &mut String, word: &str, count: usize) -> Result<(), AllocError>
+    ensures { OnOk result (string_bytes out.new ≡ string_bytes out.old ++ count_line word.now count) }
+{
+    out.push_str(word)?;
+    write!(out, " {count}\n")
+}
+
+// Puts the summary of a journal of the made line behind a text.
+#[tactic(auto, unfolding(crate::specs::Made::summary_text))]
+fn put_summary(
+    out: &mut String,
+    alloc: Global,
+    trains: u32,
+    plan: &Plan,
+    journal: &Journal,
+) -> Result<(), NoMemory>
+    requires legal { IsLegal plan.now journal.now.entries }
+    requires few { AreFewEntries journal.now.entries }
+    ensures { OnOk result (string_bytes out.new
+        ≡ string_bytes out.old ++ summary_text trains plan.now journal.now.entries) }
+{
+    let entries = journal.entries.as_slice();
+    put_count(out, "stress", trains as usize)?;
+    put_count(out, "boxes", plan.boxes.len())?;
+    put_count(out, "trains", plan.trains.len())?;
+    put_count(out, "calls", entries.len())?;
+    put_count(out, "refused", refused_count(entries))?;
+    put_sections(out, alloc, plan, journal)
+}
+
+// The made line of so many trains.
+fn made_inputs(alloc: Global, trains: u32) -> Result<Inputs, NoMemory>
+    requires low { 1 ≤ trains }
+    requires high { trains ≤ 200 }
+    ensures made { IfOk result
+        (λ inputs. record { plan = inputs.plan; scripts = inputs.scripts.items } ≡ made_run trains) }
+    ensures sound { OnOk result (IsMade trains) }
+{
+    match make_line(alloc, trains) {
+        Ok((plan, scripts)) => Ok(Inputs { plan, scripts }),
+        Err(MakeError::NoMemory) => Err(NoMemory),
+        Err(MakeError::OutOfRange { .. }) => unreachable!(),
+    }
+}
+
+// The summary of a line that is worked by its scripts.
+fn summary_text<G: Gate>(
+    alloc: Global,
+    trains: u32,
+    inputs: &Inputs,
+    gate: &G,
+) -> Result<Vec<u8>, NoMemory>
+    requires { AreScriptsOf inputs.now.plan inputs.now.scripts.items }
+    ensures { IfOk result (λ text. text.items
+        ≡ summary_text trains inputs.now.plan
+        (run_journal (record { plan = inputs.now.plan; scripts = inputs.now.scripts.items }))) }
+{
+    let journal = worked_journal(alloc, inputs, gate)?;
+    let mut out = String::new(alloc);
+    put_summary(&mut out, alloc, trains, &inputs.plan, &journal)?;
+    Ok(out.into_bytes())
+}
+
+/// The summary of the made line of so many trains, worked by its own scripts; or that memory ran out.
+pub fn stress_outcome<G: Gate>(alloc: Global, trains: u32, gate: &G) -> Result<Vec<u8>, Stop>
+    requires low { 1 ≤ trains }
+    requires high { trains ≤ 200 }
+    ensures told { Makes (λ text. text.items) result (Gives (summary_of trains)) }
+    ensures sound { OnOk result (IsMade trains) }
+    ensures no_fault { IsErrOf result Stop.ShelfFault → ⊥ }
+{
+    let inputs = made_inputs(alloc, trains)?;
+    Ok(summary_text(alloc, trains, &inputs, gate)?)
+}

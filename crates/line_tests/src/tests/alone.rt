@@ -1,0 +1,75 @@
+//! The desk alone: it works no line.
+
+use crate::tests::desk::{
+    ASH_IDLE, BEECH_IDLE, IDLE_JOURNAL, JUDGE, RUN_TWO, TWO_BOXES, serve_at_desk,
+};
+use box_top::Status;
+use std::test::Fail;
+
+// The words, the texts that they name, the status, and what is printed.
+type Row = (
+    &'static [&'static str],
+    &'static [&'static [u8]],
+    Status,
+    &'static str,
+);
+
+const ROWS: [Row; 8] = [
+    (JUDGE, &[TWO_BOXES, IDLE_JOURNAL], Status::Done, "legal 0\n"),
+    (
+        &["check", "plan"],
+        &[TWO_BOXES],
+        Status::Done,
+        "findings 0\n",
+    ),
+    (
+        &["tables", "plan", "Ash"],
+        &[TWO_BOXES],
+        Status::Done,
+        "frame Ash\nrows 0\n",
+    ),
+    (
+        &["tables", "plan", "Elm"],
+        &[TWO_BOXES],
+        Status::Refused,
+        "refused text 1 line 0: unknown name\n",
+    ),
+    (
+        &["upgrade", "plan"],
+        &[TWO_BOXES],
+        Status::Done,
+        "plan 2\nboxes 2\ndelay 120\nlooks 1000000000\nbox Ash\nbox Beech\nend\n",
+    ),
+    (
+        &["check", "plan"],
+        &[b"plan 1"],
+        Status::Refused,
+        "refused text 1 line 1: cut\n",
+    ),
+    (
+        RUN_TWO,
+        &[TWO_BOXES, ASH_IDLE, BEECH_IDLE],
+        Status::Words,
+        "words not understood\n",
+    ),
+    (
+        &["stress", "1"],
+        &[TWO_BOXES],
+        Status::Words,
+        "words not understood\n",
+    ),
+];
+
+#[test]
+fn desk_reports_and_works_no_line(rt: HostRuntime) -> Result<(), Fail> {
+    for (words, texts, status, printed) in ROWS {
+        let answer = serve_at_desk(rt.alloc(), words, texts)?;
+        assert_eq!(rt; answer.status, status, "for {words:?}");
+        assert_eq!(rt;
+            answer.taken.as_slice(),
+            printed.as_bytes(),
+            "for {words:?}"
+        );
+    }
+    Ok(())
+}

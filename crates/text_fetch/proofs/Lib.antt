@@ -1,0 +1,3 @@
+pub mod Fetched
+pub mod Gathering
+pub mod RunInputs

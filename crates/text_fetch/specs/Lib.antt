@@ -1,0 +1,3 @@
+pub mod FromTexts
+pub mod Fetches
+pub mod Runs

@@ -1,0 +1,9 @@
+pub mod GuardedSections
+pub mod InSeconds
+pub mod OnePull
+pub mod OneTrain
+pub mod OneTrainAdvance
+pub mod OneTrainRear
+pub mod SectionReplies
+pub mod StarterFacts
+pub mod Upgrading

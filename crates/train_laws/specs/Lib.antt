@@ -1,0 +1,3 @@
+pub mod Authorities
+pub mod Pulls
+pub mod Upgrades

@@ -1,0 +1,14 @@
+pub mod Footprints
+pub mod Commuting
+pub mod Exchange
+pub mod RingLaws
+pub mod TellsKind
+pub mod TellsCount
+pub mod Rises
+pub mod Lanes
+pub mod WordCalls
+pub mod OperationLaws
+pub mod Agreements
+pub mod WordEndsLaws
+pub mod WordHistory
+pub mod WordsInPlace

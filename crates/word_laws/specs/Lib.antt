@@ -1,0 +1,7 @@
+pub mod Footprint
+pub mod Rings
+pub mod TellsWord
+pub mod WordNumbers
+pub mod Operations
+pub mod WordEnds
+pub mod WordPlaces

@@ -1,0 +1,102 @@
+//! What the lines of a text spell.
+
+ghost use Rattle.std.specs.Prelude.{◌<◌, length, IfOk};
+
+use crate::line_fault::LineFault;
+use std::alloc::{AllocError, Global};
+
+// How many lines are put behind a text at a time, where many are the same.
+const BLOCK: u64 = 1024;
+
+fn hex_digit(digit: u8) -> Result<u8, LineFault>
+    ensures { IfOk result (λ n. n < 16) }
+{
+    match digit {
+        b'0'..=b'9' => Ok(digit - b'0'),
+        b'A'..=b'F' => Ok(digit - b'A' + 10),
+        b'a'..=b'f' => Ok(digit - b'a' + 10),
+        _ => Err(LineFault::Backslash),
+    }
+}
+
+// The byte for which a backslash and what stands behind it stand, and what comes after that.
+fn escaped(behind: &[u8]) -> Result<(u8, &[u8]), LineFault>
+    ensures { IfOk result (λ found. length found.1.now < length behind.now) }
+{
+    match behind {
+        [b't', rest @ ..] => Ok((b'\t', rest)),
+        [b'r', rest @ ..] => Ok((b'\r', rest)),
+        [b'\\', rest @ ..] => Ok((b'\\', rest)),
+        [b'x', high, low, rest @ ..] => Ok((hex_digit(*high)? * 16 + hex_digit(*low)?, rest)),
+        _ => Err(LineFault::Backslash),
+    }
+}
+
+/// Puts what a line spells behind a text: its bytes and its end, or where a backslash stands last, no end.
+pub fn spell(text: &mut Vec<u8>, line: &str) -> Result<(), LineFault> {
+    let mut rest = line.as_bytes();
+    while let Some((first, behind)) = rest.split_first() {
+        if *first != b'\\' {
+            text.push(*first)?;
+            rest = behind;
+        } else if behind.is_empty() {
+            return Ok(());
+        } else {
+            let (byte, after) = escaped(behind)?;
+            text.push(byte)?;
+            rest = after;
+        }
+    }
+    text.push(b'\n')?;
+    Ok(())
+}
+
+// The line with the number in the place of each `#`.
+fn numbered(alloc: Global, line: &str, number: u64) -> Result<String, LineFault> {
+    let mut out = String::new(alloc);
+    for (before, piece) in line.split('#').enumerate() {
+        if before > 0 {
+            write!(out, "{number}")?;
+        }
+        out.push_str(piece)?;
+    }
+    Ok(out)
+}
+
+fn put_times(text: &mut Vec<u8>, piece: &[u8], times: u64) -> Result<(), AllocError> {
+    for _ in 0..times {
+        text.extend_from_slice(piece)?;
+    }
+    Ok(())
+}
+
+// The same line so many times, a block at a time.
+fn put_copies(
+    alloc: Global,
+    text: &mut Vec<u8>,
+    line: &[u8],
+    times: u64,
+) -> Result<(), AllocError> {
+    let mut block = Vec::new(alloc);
+    put_times(&mut block, line, BLOCK)?;
+    put_times(text, &block, times / BLOCK)?;
+    put_times(text, line, times % BLOCK)
+}
+
+/// Puts so many lines behind a text, each with its number from 1 in the place of each `#`.
+pub fn spell_times(
+    alloc: Global,
+    text: &mut Vec<u8>,
+    line: &str,
+    times: u64,
+) -> Result<(), LineFault> {
+    if !line.contains('#') {
+        let mut spelled = Vec::new(alloc);
+        spell(&mut spelled, line)?;
+        return Ok(put_copies(alloc, text, &spelled, times)?);
+    }
+    for number in 1..=times {
+        spell(text, numbered(alloc, line, number)?.as_str())?;
+    }
+    Ok(())
+}
