@@ -4,7 +4,7 @@ use Rattle.std.proofs.lemmas.List.Elements.{All-head, All-tail}
 use Rattle.rail_text.specs.Gives.{Fault}
 use Rattle.rail_text.specs.declared.cause.Cause.TheVariants as causes
 use Rattle.line_plan.specs.Plans.{PlanFields}
-use Rattle.line_plan.specs.Reading.{plan_of}
+use Rattle.plan_draft.specs.Reading.{plan_of}
 use Rattle.line_report.specs.Reading.{journal_of}
 use Rattle.script_text.specs.Scripts.{script_of}
 use Rattle.script_text.specs.declared.script.Script.{Script}

@@ -4,12 +4,12 @@ use Rattle.std.proofs.lemmas.List.{length-map}
 use Rattle.rail_text.specs.Bytes.{appended}
 use Rattle.rail_text.specs.Gives.{Fault}
 use Rattle.line_plan.specs.Plans.{IsPlan, PlanFields, names_of}
-use Rattle.line_plan.specs.Printing.{plan_text}
-use Rattle.line_plan.specs.Reading.{plan_of}
+use Rattle.plan_text.specs.Printing.{plan_text}
+use Rattle.plan_draft.specs.Reading.{plan_of}
 use Rattle.line_plan.specs.Upgrades.{upgraded}
-use Rattle.line_plan.proofs.Drafted.{plan_of_is_plan}
-use Rattle.line_plan.proofs.SpelledPlans.{printed_is_read}
-use Rattle.line_plan.proofs.Upgraded.{upgraded_is}
+use Rattle.plan_text.proofs.Drafted.{plan_of_is_plan}
+use Rattle.plan_text.proofs.SpelledPlans.{printed_is_read}
+use Rattle.plan_text.proofs.Upgraded.{upgraded_is}
 use Rattle.line_law.specs.declared.call.Entry.{Entry}
 use Rattle.line_law.specs.History.{IsLegal}
 use Rattle.line_report.specs.declared.judging.Verdict.{Verdict}

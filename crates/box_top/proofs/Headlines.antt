@@ -3,8 +3,8 @@ use Rattle.std.proofs.Common.{◌≡◌, ℕ, List, [], ◌∷◌, Option, Some,
 use Rattle.rail_text.specs.Bytes.{appended}
 use Rattle.rail_text.specs.Gives.{Fault}
 use Rattle.line_plan.specs.Plans.{IsPlan, PlanFields}
-use Rattle.line_plan.specs.Reading.{plan_of}
-use Rattle.line_plan.proofs.Drafted.{plan_of_is_plan}
+use Rattle.plan_draft.specs.Reading.{plan_of}
+use Rattle.plan_text.proofs.Drafted.{plan_of_is_plan}
 use Rattle.line_law.specs.declared.call.Entry.{Entry}
 use Rattle.line_law.specs.History.{IsLegal}
 use Rattle.train_laws.proofs.OneTrain.{held_few_before}

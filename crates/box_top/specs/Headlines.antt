@@ -3,8 +3,8 @@ use Rattle.std.specs.Prelude.{◌≡◌, ◌↔◌, ◌<◌, ◌≤◌, ℕ, Lis
 use Rattle.rail_text.specs.Bytes.{appended}
 use Rattle.line_plan.specs.Limits.{most_bytes}
 use Rattle.line_plan.specs.Plans.{PlanFields, box_at, box_name}
-use Rattle.line_plan.specs.Printing.{plan_text}
-use Rattle.line_plan.specs.Reading.{plan_of}
+use Rattle.plan_text.specs.Printing.{plan_text}
+use Rattle.plan_draft.specs.Reading.{plan_of}
 use Rattle.line_plan.specs.Sections.{IsSection, limit_of}
 use Rattle.line_plan.specs.Upgrades.{upgraded}
 use Rattle.line_plan.specs.declared.section.Section.{Section}

@@ -1,10 +1,12 @@
 -- The command table as clap sees it.
 use Rattle.std.specs.Prelude.{ℕ, Bool, true, false, nat_le, ◌==◌, ◌&&◌, List, [], ◌∷◌, length, Some, if◌then◌else◌}
 use Rattle.std.specs.Prelude.{bytes_eq, codes}
-use Rattle.std.specs.List.{list_all}
+use Rattle.std.specs.List.{fold, list_all}
 use Rattle.clap.specs.Lexer.{usize_max}
 use Rattle.clap.specs.Words.{App, Rule, Text, new_app, new_rule, with_rule, with_subcommand}
 use Rattle.command_words.specs.Commands.{is_plain_word}
+use Rattle.command_words.specs.declared.clap_words.CommandName.{CommandName}
+use Rattle.command_words.specs.declared.clap_words.CommandName.TheVariants as names
 
 -- how many words stand behind the first word of a command
 abbrev pub has_word_count : Text → ℕ → Bool
@@ -44,26 +46,29 @@ two_argument_command name first second = with_rule (one_argument_command name fi
 abbrev pub run_command : App
 run_command = with_rule (one_argument_command (codes "run") (codes "plan")) (repeated_argument (codes "script"))
 
+-- the command of a name
+abbrev pub command_named : CommandName → App
+command_named names.Run = run_command
+command_named names.Stress = one_argument_command (codes "stress") (codes "trains")
+command_named names.Check = one_argument_command (codes "check") (codes "plan")
+command_named names.Tables = two_argument_command (codes "tables") (codes "plan") (codes "box")
+command_named names.Judge = two_argument_command (codes "judge") (codes "plan") (codes "journal")
+command_named names.Upgrade = one_argument_command (codes "upgrade") (codes "plan")
+
 -- the program; clap is given its words without its own name in front
 abbrev pub program : App
 program = record (new_app (codes "box_main")) {
   top = record (new_app (codes "box_main")).top { no_binary_name = true };
 }
 
--- the program with the commands that work a line
-abbrev pub with_line_commands : App → App
-with_line_commands app =
-    with_subcommand (with_subcommand app run_command.top) (one_argument_command (codes "stress") (codes "trains")).top
+-- the program with one more command
+abbrev pub with_command : App → CommandName → App
+with_command app name = with_subcommand app (command_named name).top
 
--- the program with the commands of the desk
-abbrev pub with_desk_commands : App → App
-with_desk_commands app =
-    with_subcommand (with_subcommand (with_subcommand (with_subcommand app
-    (one_argument_command (codes "check") (codes "plan")).top)
-    (two_argument_command (codes "tables") (codes "plan") (codes "box")).top)
-    (two_argument_command (codes "judge") (codes "plan") (codes "journal")).top)
-    (one_argument_command (codes "upgrade") (codes "plan")).top
+-- the names of all commands
+abbrev pub all_names : List CommandName
+all_names = names.Run ∷ names.Stress ∷ names.Check ∷ names.Tables ∷ names.Judge ∷ names.Upgrade ∷ []
 
 -- the program with all its commands
 abbrev pub all_commands : App
-all_commands = with_desk_commands (with_line_commands program)
+all_commands = fold with_command program all_names

@@ -4,15 +4,36 @@ ghost use Rattle.std.specs.Prelude.{◌≡◌, true, false, IfOk};
 ghost use Rattle.clap.specs.Words.{app_of, rule_of, subcommand_rows_of};
 ghost use Rattle.clap.specs.declared.builder.command.Command.TheViews.{out-Command};
 ghost use Rattle.command_words.specs.Commands.{bytes_of, command_of};
-ghost use Rattle.command_words.specs.ClapTable.{all_commands, has_command_form, one_argument_command, program};
-ghost use Rattle.command_words.specs.ClapTable.{repeated_argument, required_argument, run_command};
-ghost use Rattle.command_words.specs.ClapTable.{two_argument_command, with_desk_commands, with_line_commands};
+ghost use Rattle.command_words.specs.ClapTable.{all_commands, command_named, has_command_form, one_argument_command};
+ghost use Rattle.command_words.specs.ClapTable.{program, repeated_argument, required_argument, run_command};
+ghost use Rattle.command_words.specs.ClapTable.{two_argument_command, with_command};
 ghost use Rattle.command_words.specs.ClapReads.{command_read};
 
 use clap::error::ErrorKind;
 use clap::{Arg, ArgMatches, Command};
 use rail_text::NoMemory;
 use std::alloc::{AllocError, Global};
+
+// The commands, by the first word of each.
+#[derive(Clone, Copy)]
+enum CommandName {
+    Run,
+    Stress,
+    Check,
+    Tables,
+    Judge,
+    Upgrade,
+}
+
+// The names of all commands.
+const ALL_NAMES: [CommandName; 6] = [
+    CommandName::Run,
+    CommandName::Stress,
+    CommandName::Check,
+    CommandName::Tables,
+    CommandName::Judge,
+    CommandName::Upgrade,
+];
 
 // An argument that is required.
 fn required_argument<'a>(alloc: Global, name: &'a str) -> Arg<'a>
@@ -70,36 +91,42 @@ fn program<'a>(alloc: Global) -> Command<'a>
     Command::new(alloc, "box_main").no_binary_name(true)
 }
 
-// The program with the commands that work a line.
-fn with_line_commands<'a>(alloc: Global, program: Command<'a>) -> Result<Command<'a>, AllocError>
-    ensures { IfOk result (λ c. app_of c ≡ with_line_commands (app_of program.entry)) }
+// The command of this name.
+fn command_named<'a>(alloc: Global, name: CommandName) -> Result<Command<'a>, AllocError>
+    ensures shape { IfOk result (λ c. app_of c ≡ command_named name) }
+    ensures own { IfOk result (λ c. (out-Command c).has_globals ≡ false) }
 {
-    let run = run_command(alloc)?;
-    let stress = one_argument_command(alloc, "stress", "trains")?;
-    program.subcommand(run)?.subcommand(stress)
+    match name {
+        CommandName::Run => run_command(alloc),
+        CommandName::Stress => one_argument_command(alloc, "stress", "trains"),
+        CommandName::Check => one_argument_command(alloc, "check", "plan"),
+        CommandName::Tables => two_argument_command(alloc, "tables", "plan", "box"),
+        CommandName::Judge => two_argument_command(alloc, "judge", "plan", "journal"),
+        CommandName::Upgrade => one_argument_command(alloc, "upgrade", "plan"),
+    }
 }
 
-// The program with the commands of the desk.
-fn with_desk_commands<'a>(alloc: Global, program: Command<'a>) -> Result<Command<'a>, AllocError>
-    ensures { IfOk result (λ c. app_of c ≡ with_desk_commands (app_of program.entry)) }
+// The program with one more command.
+fn with_command<'a>(
+    alloc: Global,
+    program: Command<'a>,
+    name: CommandName,
+) -> Result<Command<'a>, AllocError>
+    ensures { IfOk result (λ c. app_of c ≡ with_command (app_of program.entry) name) }
 {
-    let check = one_argument_command(alloc, "check", "plan")?;
-    let tables = two_argument_command(alloc, "tables", "plan", "box")?;
-    let judge = two_argument_command(alloc, "judge", "plan", "journal")?;
-    let upgrade = one_argument_command(alloc, "upgrade", "plan")?;
-    program
-        .subcommand(check)?
-        .subcommand(tables)?
-        .subcommand(judge)?
-        .subcommand(upgrade)
+    let command = command_named(alloc, name)?;
+    program.subcommand(command)
 }
 
 // The program with all its commands.
 fn all_commands<'a>(alloc: Global) -> Result<Command<'a>, AllocError>
     ensures { IfOk result (λ c. app_of c ≡ all_commands) }
 {
-    let program = with_line_commands(alloc, program(alloc))?;
-    with_desk_commands(alloc, program)
+    let mut commands = program(alloc);
+    for name in &ALL_NAMES {
+        commands = with_command(alloc, commands, *name)?;
+    }
+    Ok(commands)
 }
 
 /// What clap finds in words that have the form of a command.

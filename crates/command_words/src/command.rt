@@ -65,14 +65,11 @@ fn are_plain_words(words: &[String]) -> bool
 fn has_word_count(first: &str, count: usize) -> bool
     ensures { result ≡ has_word_count first.now count }
 {
-    if first == "run" {
-        count >= 2
-    } else if first == "tables" || first == "judge" {
-        count == 2
-    } else if first == "stress" || first == "check" || first == "upgrade" {
-        count == 1
-    } else {
-        false
+    match first {
+        "run" => count >= 2,
+        "tables" | "judge" => count == 2,
+        "stress" | "check" | "upgrade" => count == 1,
+        _ => false,
     }
 }
 
@@ -118,22 +115,19 @@ fn read_stress<'a>(found: &ArgMatches<'a>) -> Option<CommandLine<'a>>
 fn read_desk<'a>(name: &str, found: &ArgMatches<'a>) -> Option<DeskCommand<'a>>
     ensures { option_map desk_shown result ≡ desk_read name.now (rows_of (found_of found.now)) }
 {
-    if name == "check" {
-        let plan = found.get_str("plan")?;
-        Some(DeskCommand::Check { plan })
-    } else if name == "tables" {
-        let plan = found.get_str("plan")?;
-        let box_name = found.get_str("box")?;
-        Some(DeskCommand::Tables { plan, box_name })
-    } else if name == "judge" {
-        let plan = found.get_str("plan")?;
-        let journal = found.get_str("journal")?;
-        Some(DeskCommand::Judge { plan, journal })
-    } else if name == "upgrade" {
-        let plan = found.get_str("plan")?;
-        Some(DeskCommand::Upgrade { plan })
-    } else {
-        None
+    let plan = found.get_str("plan")?;
+    match name {
+        "check" => Some(DeskCommand::Check { plan }),
+        "tables" => {
+            let box_name = found.get_str("box")?;
+            Some(DeskCommand::Tables { plan, box_name })
+        }
+        "judge" => {
+            let journal = found.get_str("journal")?;
+            Some(DeskCommand::Judge { plan, journal })
+        }
+        "upgrade" => Some(DeskCommand::Upgrade { plan }),
+        _ => None,
     }
 }
 
@@ -146,12 +140,10 @@ fn read_command_line<'a>(
     ensures { IfOk result
         (λ command. option_map shown command ≡ command_line_read name.now (rows_of (found_of found.now))) }
 {
-    if name == "run" {
-        read_run(alloc, found)
-    } else if name == "stress" {
-        Ok(read_stress(found))
-    } else {
-        Ok(read_desk(name, found).map(CommandLine::Desk))
+    match name {
+        "run" => read_run(alloc, found),
+        "stress" => Ok(read_stress(found)),
+        _ => Ok(read_desk(name, found).map(CommandLine::Desk)),
     }
 }
 

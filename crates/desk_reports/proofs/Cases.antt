@@ -2,7 +2,7 @@
 use Rattle.std.proofs.Common.{◌≡◌, ℕ, ◌<◌, ◌≤◌, ◌^◌, ◌==◌, Bool, true, false, cond, List, [], ◌∷◌, refl, subst, arith}
 use Rattle.rail_text.specs.Causes.{Rose}
 use Rattle.line_plan.specs.Plans.{PlanFields}
-use Rattle.line_plan.specs.Reading.{plan_of}
+use Rattle.plan_draft.specs.Reading.{plan_of}
 use Rattle.line_law.specs.declared.call.Entry.{Entry}
 use Rattle.line_report.specs.Reading.{journal_of, most_journal_bytes}
 use Rattle.text_fetch.specs.declared.stop.Stop.{Stop}

@@ -6,7 +6,7 @@ use Rattle.locking_table.specs.Printing.{row_text}
 use Rattle.locking_table.specs.declared.row.Row.{Row}
 use Rattle.line_plan.specs.Frames.{BoxFields}
 use Rattle.line_plan.specs.Plans.{PlanFields, box_at, names_of}
-use Rattle.line_plan.specs.Printing.{kind_word}
+use Rattle.line_plan.specs.Frames.{kind_word}
 use Rattle.line_plan.specs.declared.frame.Kind.{Kind}
 use Rattle.line_plan.specs.declared.frame.Kind.TheVariants as kinds
 use Rattle.line_plan.specs.declared.frame.Lever.{Lever}

@@ -1,6 +1,6 @@
 -- What is printed of a plan alone.
 use Rattle.std.specs.Prelude.{ℕ, List}
-use Rattle.line_plan.specs.Printing.{plan_text}
+use Rattle.plan_text.specs.Printing.{plan_text}
 use Rattle.line_plan.specs.Upgrades.{upgraded}
 use Rattle.plan_check.specs.Found.{findings_of}
 use Rattle.plan_check.specs.Texts.{findings_text}

@@ -70,20 +70,27 @@ fn put_rows(out: &mut String, rows: &[Row]) -> Result<(), AllocError>
     Ok(())
 }
 
-// The frame of a box as it is printed.
+// Puts the frame of a box behind a text.
 #[tactic(auto, unfolding(crate::specs::Frames::frame_text))]
+fn put_frame(out: &mut String, box_plan: &BoxPlan) -> Result<(), AllocError>
+    ensures { OnOk result (string_bytes out.new ≡ string_bytes out.old ++ frame_text box_plan.now) }
+{
+    out.push_str("frame ")?;
+    out.push_str(box_plan.name.as_str())?;
+    out.push_str("\n")?;
+    put_levers(out, box_plan.levers.as_slice())?;
+    let rows = box_plan.table.rows();
+    let count = rows.len();
+    write!(out, "rows {count}\n")?;
+    put_rows(out, rows)
+}
+
+// The frame of a box as it is printed.
 fn frame_text(alloc: Global, box_plan: &BoxPlan) -> Result<Vec<u8>, AllocError>
     ensures { IfOk result (λ text. text.items ≡ frame_text box_plan.now) }
 {
     let mut out = String::new(alloc);
-    out.push_str("frame ")?;
-    out.push_str(box_plan.name.as_str())?;
-    out.push_str("\n")?;
-    put_levers(&mut out, box_plan.levers.as_slice())?;
-    let rows = box_plan.table.rows();
-    let count = rows.len();
-    write!(out, "rows {count}\n")?;
-    put_rows(&mut out, rows)?;
+    put_frame(&mut out, box_plan)?;
     Ok(out.into_bytes())
 }
 
@@ -116,5 +123,7 @@ pub fn frame_outcome<S: Shelf>(
     ensures same { (n : List ℕ) → S.held shelf.new n ≡ S.held shelf.old n }
 {
     let plan = fetch_plan(alloc, shelf, plan_name)?;
-    named_frame(alloc, &plan, name)
+    let text = named_frame(alloc, &plan, name);
+    drop(plan);
+    text
 }

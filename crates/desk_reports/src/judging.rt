@@ -67,9 +67,19 @@ pub fn judge_outcome<S: Shelf>(
     ensures same { (n : List ℕ) → S.held shelf.new n ≡ S.held shelf.old n }
 {
     let plan = fetch_plan(alloc, shelf, plan_name)?;
-    let journal = fetch_journal(alloc, shelf, &plan, journal_name)?;
-    match judgement_text(alloc, &plan, &journal) {
-        Ok(text) => Ok(text),
-        Err(NoMemory) => Err(Stop::NoMemory),
+    match fetch_journal(alloc, shelf, &plan, journal_name) {
+        Ok(journal) => {
+            let text = judgement_text(alloc, &plan, &journal);
+            drop(journal);
+            drop(plan);
+            match text {
+                Ok(text) => Ok(text),
+                Err(NoMemory) => Err(Stop::NoMemory),
+            }
+        }
+        Err(stop) => {
+            drop(plan);
+            Err(stop)
+        }
     }
 }

@@ -2,15 +2,16 @@
 
 ghost use Rattle.std.specs.Prelude.{◌≡◌, ℕ, List, IfOk, IsErrOf};
 ghost use Rattle.rail_text.specs.Causes.{Rose};
-ghost use Rattle.line_plan.specs.Printing.{plan_text};
+ghost use Rattle.plan_text.specs.Printing.{plan_text};
 ghost use Rattle.line_plan.specs.Upgrades.{upgraded};
 ghost use Rattle.plan_check.specs.Found.{findings_of};
 ghost use Rattle.plan_check.specs.Texts.{findings_text};
 ghost use Rattle.desk_reports.specs.Reports.{findings_told, upgrade_told};
 ghost use Rattle.text_fetch.specs.FromTexts.{Makes};
 
-use line_plan::{Plan, print_plan, upgrade};
+use line_plan::Plan;
 use plan_check::{check_plan, print_findings};
+use plan_text::{print_plan, upgrade};
 use rail_text::{NoMemory, Shelf};
 use std::alloc::Global;
 use text_fetch::{Stop, fetch_plan};
@@ -28,7 +29,9 @@ fn upgrade_text(alloc: Global, plan: &Plan) -> Result<Vec<u8>, NoMemory>
     ensures { IfOk result (λ text. text.items ≡ plan_text (upgraded plan.now)) }
 {
     let newer = upgrade(alloc, plan)?;
-    print_plan(alloc, &newer)
+    let text = print_plan(alloc, &newer);
+    drop(newer);
+    text
 }
 
 /// The findings on the named plan; or why there are none.
@@ -43,7 +46,9 @@ pub fn check_outcome<S: Shelf>(
     ensures same { (n : List ℕ) → S.held shelf.new n ≡ S.held shelf.old n }
 {
     let plan = fetch_plan(alloc, shelf, plan_name)?;
-    match findings_text(alloc, &plan) {
+    let text = findings_text(alloc, &plan);
+    drop(plan);
+    match text {
         Ok(text) => Ok(text),
         Err(NoMemory) => Err(Stop::NoMemory),
     }
@@ -61,7 +66,9 @@ pub fn upgrade_outcome<S: Shelf>(
     ensures same { (n : List ℕ) → S.held shelf.new n ≡ S.held shelf.old n }
 {
     let plan = fetch_plan(alloc, shelf, plan_name)?;
-    match upgrade_text(alloc, &plan) {
+    let text = upgrade_text(alloc, &plan);
+    drop(plan);
+    match text {
         Ok(text) => Ok(text),
         Err(NoMemory) => Err(Stop::NoMemory),
     }

@@ -1,46 +1,65 @@
 //! The findings on a plan as they are told, and behind a text.
 
-use crate::lines::{NAMES, absolute};
-use line_plan::{Plan, read_plan};
+ghost use Rattle.std.specs.Prelude.{All};
+ghost use Rattle.plan_check.specs.Found.{IsOfPlan};
+
+use crate::facts::{holds, is_text};
+use crate::lines::absolute;
+use line_plan::Plan;
 use plan_check::{Finding, check_plan, clash_law, findings_law, print_findings, put_findings};
-use std::alloc::Global;
-use std::process::Abort;
+use rail_text::NoMemory;
+use std::alloc::{AllocError, Global};
 use std::test::Fail;
 
 // Two levers of a plan have no row.
-fn are_without_a_row(rt: &impl Abort, alloc: Global, plan: &Plan) -> Result<(), Fail> {
-    let findings = check_plan(alloc, plan)?;
-    let wanted = [
-        Finding::LeverWithoutRow {
-            box_no: 0,
-            lever: 8,
-        },
-        Finding::LeverWithoutRow {
-            box_no: 1,
-            lever: 1,
-        },
-    ];
-    assert_eq!(rt; findings.as_slice(), wanted.as_slice());
-    let printed = print_findings(alloc, plan, &findings)?;
+const WITHOUT_ROWS: [Finding; 2] = [
+    Finding::LeverWithoutRow {
+        box_no: 0,
+        lever: 8,
+    },
+    Finding::LeverWithoutRow {
+        box_no: 1,
+        lever: 1,
+    },
+];
+
+// Are the two levers told as they are printed?
+fn are_printed(alloc: Global, plan: &Plan, findings: &[Finding]) -> Result<bool, NoMemory>
+    requires { All (IsOfPlan plan.now) findings.now }
+{
+    let printed = print_findings(alloc, plan, findings)?;
     let text = "findings 2\nbox Ash lever 8 has no row\nbox Beech lever 1 has no row\n";
-    assert_eq!(rt; printed.as_slice(), text.as_bytes());
-    Ok(())
+    Ok(is_text(printed, text))
+}
+
+// Are the two levers found and printed?
+fn are_found(alloc: Global, plan: &Plan) -> Result<bool, NoMemory> {
+    let findings = check_plan(alloc, plan)?;
+    let are_told = findings.as_slice() == WITHOUT_ROWS.as_slice();
+    let are_printed = are_printed(alloc, plan, &findings);
+    drop(findings);
+    Ok(are_told & are_printed?)
+}
+
+// Do no findings stand behind a text?
+fn stand_behind(alloc: Global, plan: &Plan) -> Result<bool, AllocError> {
+    let mut text = String::from_str(alloc, "check\n")?;
+    let put = put_findings(&mut text, plan, &[]);
+    let are_behind = text.as_str() == "check\nfindings 0\n";
+    drop(text);
+    put?;
+    Ok(are_behind)
 }
 
 #[test]
-fn levers_without_a_row(rt: HostRuntime) -> Result<(), Fail> {
-    let plan = absolute(rt.alloc())?;
+fn findings_are_told(rt: HostRuntime) -> Result<(), Fail> {
     clash_law();
     findings_law();
-    are_without_a_row(&rt, rt.alloc(), &plan)
-}
-
-#[test]
-fn findings_stand_behind_a_text(rt: HostRuntime) -> Result<(), Fail> {
-    let plan = read_plan(rt.alloc(), NAMES.as_bytes())?;
-    let mut text = String::new(rt.alloc());
-    text.push_str("check\n")?;
-    put_findings(&mut text, &plan, &[])?;
-    assert_eq!(rt; text.as_str(), "check\nfindings 0\n");
+    let plan = absolute(rt.alloc())?;
+    let are_found = are_found(rt.alloc(), &plan);
+    let stand_behind = stand_behind(rt.alloc(), &plan);
+    drop(plan);
+    holds(&rt, "levers without a row", are_found?);
+    holds(&rt, "findings behind a text", stand_behind?);
     Ok(())
 }

@@ -2,9 +2,9 @@
 #![tactic(auto)]
 
 #[cfg(test)]
-mod findings;
+mod facts;
 #[cfg(test)]
-mod judged;
+mod findings;
 #[cfg(test)]
 mod laws;
 #[cfg(test)]
@@ -13,3 +13,5 @@ mod lines;
 mod made;
 #[cfg(test)]
 mod registers;
+#[cfg(test)]
+mod worked;

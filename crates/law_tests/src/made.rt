@@ -2,10 +2,14 @@
 
 ghost use Rattle.line_maker.specs.MadeCalls.{AreLineScripts};
 
-use line_maker::{MakeError, make_line};
-use line_plan::{Plan, print_plan};
+use crate::facts::{holds, is_text};
+use line_maker::make_line;
+use line_plan::Plan;
+use plan_text::print_plan;
+use rail_text::NoMemory;
 use script_text::{Script, print_script};
 use std::alloc::Global;
+use std::process::Abort;
 use std::test::Fail;
 
 const PLAN_OF_ONE: &str = "plan 1\nboxes 3\ndelay 2\nlooks 1000000000\n\
@@ -44,53 +48,66 @@ const SCRIPTS_OF_ONE: [&str; 3] = [
 06:00 pull 2\n06:00 pass 2\n06:00 put 2\nend\n",
 ];
 
-#[test]
-fn plan_of_one_train(rt: HostRuntime) -> Result<(), Fail> {
-    let alloc = rt.alloc();
-    let (plan, _) = make_line(alloc, 1)?;
-    let text = print_plan(alloc, &plan)?;
-    assert_eq!(rt; text.as_slice(), PLAN_OF_ONE.as_bytes());
-    Ok(())
-}
-
-// The script of a box as it is printed.
-fn printed(alloc: Global, plan: &Plan, scripts: &[Script], box_no: usize) -> Result<Vec<u8>, Fail>
+// Is the script of a box printed as this text?
+fn is_printed(
+    alloc: Global,
+    plan: &Plan,
+    scripts: &[Script],
+    box_no: usize,
+    text: &str,
+) -> Result<bool, NoMemory>
     requires { AreLineScripts plan.now scripts.now }
 {
     match scripts.get(box_no) {
-        Some(script) => Ok(print_script(alloc, plan, script)?),
-        None => Ok(Vec::new(alloc)),
+        Some(script) => Ok(is_text(print_script(alloc, plan, script)?, text)),
+        None => Ok(false),
     }
 }
 
-#[test]
-fn scripts_of_one_train(rt: HostRuntime) -> Result<(), Fail> {
-    let alloc = rt.alloc();
-    let (plan, scripts) = make_line(alloc, 1)?;
-    for (box_no, wanted) in SCRIPTS_OF_ONE.iter().enumerate() {
-        let text = printed(alloc, &plan, &scripts, box_no)?;
-        assert_eq!(rt; text.as_slice(), wanted.as_bytes());
+// Compares what is printed of a plan and its scripts with the texts of one train.
+fn are_of_one(
+    rt: &impl Abort,
+    alloc: Global,
+    plan: &Plan,
+    scripts: &[Script],
+) -> Result<(), NoMemory>
+    requires { AreLineScripts plan.now scripts.now }
+{
+    let printed = print_plan(alloc, plan)?;
+    holds(rt, "the plan of one train", is_text(printed, PLAN_OF_ONE));
+    for (box_no, text) in SCRIPTS_OF_ONE.iter().enumerate() {
+        holds(rt, text, is_printed(alloc, plan, scripts, box_no, text)?);
     }
     Ok(())
+}
+
+#[test]
+fn one_train(rt: HostRuntime) -> Result<(), Fail> {
+    let alloc = rt.alloc();
+    let (plan, scripts) = make_line(alloc, 1)?;
+    let compared = are_of_one(&rt, alloc, &plan, &scripts);
+    drop(scripts);
+    drop(plan);
+    compared?;
+    Ok(())
+}
+
+// Have the scripts of the boxes so many calls?
+fn have_calls(scripts: &[Script], counts: [usize; 3]) -> bool {
+    match scripts {
+        [ash, beech, cedar] => [ash.calls.len(), beech.calls.len(), cedar.calls.len()] == counts,
+        _ => false,
+    }
 }
 
 #[test]
 fn two_hundred_trains(rt: HostRuntime) -> Result<(), Fail> {
     let (plan, scripts) = make_line(rt.alloc(), 200)?;
-    assert!(rt; plan.trains.len() == 200);
-    let mut counts = Vec::new(rt.alloc());
-    for script in &scripts {
-        counts.push(script.calls.len())?;
-    }
-    assert_eq!(rt; counts.as_slice(), [3200, 5600, 3200].as_slice());
-    Ok(())
-}
-
-#[test]
-fn trains_out_of_range(rt: HostRuntime) -> Result<(), Fail> {
-    for n in [0, 201, u32::MAX] {
-        let error = make_line(rt.alloc(), n).err();
-        assert_eq!(rt; error, Some(MakeError::OutOfRange { n }));
-    }
+    let are_trains = plan.trains.len() == 200;
+    let have_calls = have_calls(&scripts, [3200, 5600, 3200]);
+    drop(scripts);
+    drop(plan);
+    holds(&rt, "two hundred trains", are_trains);
+    holds(&rt, "their calls", have_calls);
     Ok(())
 }

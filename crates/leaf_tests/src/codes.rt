@@ -1,181 +1,251 @@
 //! Words that are codes and words that aren't, and the code table in use.
 
+use crate::facts::{all_hold, are_equal, hold, is_debugged, is_shown};
 use bell_codes::{
     AddFault, BadCode, CALL_ATTENTION, CANCELLING, Code, CodeNo, CodeTable, EMPTY, EXPRESS, LIGHT,
     NoMemory, OBSTRUCTION_DANGER, ORDINARY, TESTING, TRAIN_ENTERING_SECTION, TRAIN_OUT_OF_SECTION,
     opening_numbers, print_code, printed_is_read, read_code, read_is_spelled, text_is_a_word,
 };
+use std::alloc::Global;
 use std::collections::HashSet;
 use std::process::Abort;
 use std::test::Fail;
 
 // The opening table, in order.
-const OPENING: [(CodeNo, &[u8]); 10] = [
-    (CALL_ATTENTION, b"1"),
-    (EXPRESS, b"4"),
-    (ORDINARY, b"3-1"),
-    (EMPTY, b"2-2-1"),
-    (LIGHT, b"2-3"),
-    (TRAIN_ENTERING_SECTION, b"2"),
-    (TRAIN_OUT_OF_SECTION, b"2-1"),
-    (CANCELLING, b"3-5"),
-    (OBSTRUCTION_DANGER, b"6"),
-    (TESTING, b"16"),
+const OPENING: [(CodeNo, &str); 10] = [
+    (CALL_ATTENTION, "1"),
+    (EXPRESS, "4"),
+    (ORDINARY, "3-1"),
+    (EMPTY, "2-2-1"),
+    (LIGHT, "2-3"),
+    (TRAIN_ENTERING_SECTION, "2"),
+    (TRAIN_OUT_OF_SECTION, "2-1"),
+    (CANCELLING, "3-5"),
+    (OBSTRUCTION_DANGER, "6"),
+    (TESTING, "16"),
 ];
 
+fn code_of(rt: &impl Abort, word: &str) -> Code {
+    read_code(word.as_bytes()).expect(rt, "a code")
+}
+
+const GOOD: [(&str, &[u8]); 9] = [
+    ("1", &[1]),
+    ("9", &[9]),
+    ("10", &[10]),
+    ("16", &[16]),
+    ("3-1", &[3, 1]),
+    ("2-2-1", &[2, 2, 1]),
+    ("16-1-16", &[16, 1, 16]),
+    ("1-1-1-1-1", &[1, 1, 1, 1, 1]),
+    ("16-15-14-13-12", &[16, 15, 14, 13, 12]),
+];
+
+const BAD: [&str; 21] = [
+    "",
+    "0",
+    "17",
+    "20",
+    "100",
+    "0-1",
+    "1-0",
+    "01",
+    "1-",
+    "-1",
+    "-",
+    "1--1",
+    "1-17",
+    "1-1-1-1-1-1",
+    "1-1-1-1-1-",
+    "a",
+    "1a",
+    "3 1",
+    "3_1",
+    " 1",
+    "1\n",
+];
+
+// The word is read as a code of these groups, and that is printed as the word.
+fn is_read_and_printed(rt: &impl Abort, alloc: Global, word: &str, groups: &[u8]) -> bool {
+    let code = code_of(rt, word);
+    let text = print_code(alloc, code).expect(rt, "memory");
+    code.groups() == groups && text.as_slice() == word.as_bytes()
+}
+
 #[test]
-fn reads_codes(rt: HostRuntime) -> Result<(), Fail> {
-    let good: [(&[u8], &[u8]); 9] = [
-        (b"1", &[1]),
-        (b"9", &[9]),
-        (b"10", &[10]),
-        (b"16", &[16]),
-        (b"3-1", &[3, 1]),
-        (b"2-2-1", &[2, 2, 1]),
-        (b"16-1-16", &[16, 1, 16]),
-        (b"1-1-1-1-1", &[1, 1, 1, 1, 1]),
-        (b"16-15-14-13-12", &[16, 15, 14, 13, 12]),
-    ];
-    for (word, groups) in good {
-        let code = read_code(word)?;
-        assert_eq!(rt; code.groups(), groups);
-        let text = print_code(rt.alloc(), code)?;
-        assert_eq!(rt; text.as_slice(), word);
+fn reads_codes_and_no_other_words(rt: HostRuntime) {
+    for (word, groups) in GOOD.iter() {
+        hold(
+            &rt,
+            word,
+            is_read_and_printed(&rt, rt.alloc(), word, groups),
+        );
     }
-    Ok(())
-}
-
-#[test]
-fn refuses_other_words(rt: HostRuntime) {
-    let bad: [&[u8]; 21] = [
-        b"",
-        b"0",
-        b"17",
-        b"20",
-        b"100",
-        b"0-1",
-        b"1-0",
-        b"01",
-        b"1-",
-        b"-1",
-        b"-",
-        b"1--1",
-        b"1-17",
-        b"1-1-1-1-1-1",
-        b"1-1-1-1-1-",
-        b"a",
-        b"1a",
-        b"3 1",
-        b"3_1",
-        b" 1",
-        b"1\n",
-    ];
-    for word in bad {
-        assert_eq!(rt; read_code(word), Err(BadCode), "{word:?}");
+    for word in BAD.iter() {
+        hold(&rt, word, read_code(word.as_bytes()) == Err(BadCode));
     }
 }
 
-// The table has the code of this word under this number.
-fn has_code(rt: &impl Abort, table: &CodeTable, no: CodeNo, word: &[u8]) -> Result<(), Fail> {
-    assert!(rt; 1 <= no && no as usize <= table.len());
-    let code = read_code(word)?;
-    assert_eq!(rt; table.number_of(code), Some(no));
-    assert_eq!(rt; table.code(no), code);
-    Ok(())
+fn number_of(rt: &impl Abort, table: &CodeTable, word: &str) -> Option<CodeNo> {
+    table.number_of(code_of(rt, word))
 }
 
-#[test]
-fn opens_with_ten_codes(rt: HostRuntime) -> Result<(), Fail> {
-    let table = CodeTable::opening(rt.alloc())?;
+fn add(rt: &impl Abort, table: &mut CodeTable, word: &str) -> Result<CodeNo, AddFault> {
+    table.add(code_of(rt, word))
+}
+
+fn is_opening(rt: &impl Abort, table: &CodeTable, copy: &CodeTable) {
     let mut next = 1;
     for (no, word) in OPENING.iter() {
-        assert_eq!(rt; *no, next);
-        has_code(&rt, &table, *no, word)?;
+        hold(
+            rt,
+            word,
+            *no == next && number_of(rt, table, word) == Some(*no),
+        );
         next = no.saturating_add(1);
     }
-    Ok(())
+    assert!(rt; table.len() == 10);
+    all_hold(
+        rt,
+        &[
+            ("the code of a number", table.code(10) == code_of(rt, "16")),
+            ("some codes", !table.is_empty()),
+            ("room", !table.is_full()),
+            ("no five", number_of(rt, table, "5").is_none()),
+            ("a clone is the same", *copy == *table),
+        ],
+    );
 }
 
 #[test]
-fn an_opening_table_has_room(rt: HostRuntime) -> Result<(), Fail> {
+fn a_table_opens_with_ten_codes(rt: HostRuntime) -> Result<(), Fail> {
     let table = CodeTable::opening(rt.alloc())?;
-    assert_eq!(rt; table.len(), 10);
-    assert!(rt; !table.is_empty() && !table.is_full());
-    assert_eq!(rt; table.number_of(read_code(b"5")?), None);
-    assert_eq!(rt; table.clone()?, table);
+    let copy = table.clone()?;
+    is_opening(&rt, &table, &copy);
     Ok(())
+}
+
+fn is_added(rt: &impl Abort, table: &mut CodeTable, opening: &CodeTable) {
+    let known = add(rt, table, "3-1");
+    let is_kept = *table == *opening;
+    let added = add(rt, table, "5");
+    let last = table.codes().last().copied();
+    all_hold(
+        rt,
+        &[
+            ("a known code", known == Err(AddFault::Known { no: 3 })),
+            ("a known code adds nothing", is_kept),
+            ("a new code", added == Ok(11)),
+            ("a new code is added", *table != *opening),
+            ("it stands last", last == Some(code_of(rt, "5"))),
+        ],
+    );
 }
 
 #[test]
 fn adds_new_codes(rt: HostRuntime) -> Result<(), Fail> {
-    let (known, new) = (read_code(b"3-1")?, read_code(b"5")?);
     let opening = CodeTable::opening(rt.alloc())?;
     let mut table = CodeTable::opening(rt.alloc())?;
-    assert_eq!(rt; table.add(known), Err(AddFault::Known { no: 3 }));
-    assert_eq!(rt; table, opening);
-    assert_eq!(rt; table.add(new), Ok(11));
-    assert_ne!(rt; table, opening);
-    assert_eq!(rt; table.codes().last().copied(), Some(new));
+    is_added(&rt, &mut table, &opening);
     Ok(())
 }
 
-// Offers all codes of two groups to the opening table, which has four of them.
-#[test]
-fn holds_two_hundred_codes(rt: HostRuntime) -> Result<(), Fail> {
-    let mut table = CodeTable::opening(rt.alloc())?;
+fn add_groups(rt: &impl Abort, table: &mut CodeTable, groups: [u8; 3]) -> Result<CodeNo, AddFault> {
+    let [first, second, third] = groups;
+    let word = [first, b'-', second, b'-', third];
+    table.add(read_code(&word).expect(rt, "a code"))
+}
+
+// Offers 243 codes of three groups to the opening table, which has one of them. How many found it full.
+fn fill(rt: &impl Abort, table: &mut CodeTable) -> u32 {
     let mut full = 0u32;
-    for first in 1..17u8 {
-        for second in 1..17u8 {
-            let word = format!(in rt.alloc(); "{first}-{second}")?;
-            if table.add(read_code(word.as_bytes())?) == Err(AddFault::Full) {
-                full = full.saturating_add(1);
+    for first in b'1'..=b'9' {
+        for second in b'1'..=b'9' {
+            for third in b'1'..=b'3' {
+                if add_groups(rt, table, [first, second, third]) == Err(AddFault::Full) {
+                    full = full.saturating_add(1);
+                }
             }
         }
     }
-    assert_eq!(rt; full, 62);
-    assert_eq!(rt; table.len(), 200);
-    assert!(rt; table.is_full());
-    assert_eq!(rt; table.number_of(read_code(b"13-2")?), Some(200));
-    assert_eq!(rt; table.add(read_code(b"13-3")?), Err(AddFault::Full));
-    assert_eq!(rt;
-        table.add(read_code(b"1-1")?),
-        Err(AddFault::Known { no: 11 })
-    );
-    Ok(())
+    full
 }
 
-fn are_equal<T: Eq>(one: &T, other: &T) -> bool {
-    one == other
+fn is_filled(rt: &impl Abort, table: &mut CodeTable) {
+    let full = fill(rt, table);
+    let last = number_of(rt, table, "8-1-2");
+    let refused = add(rt, table, "8-1-3");
+    let known = add(rt, table, "1-1-1");
+    all_hold(
+        rt,
+        &[
+            ("as many as have no room", full == 52),
+            ("two hundred codes", table.len() == 200),
+            ("no room", table.is_full()),
+            ("the last of them", last == Some(200)),
+            ("one more", refused == Err(AddFault::Full)),
+            ("a known one", known == Err(AddFault::Known { no: 11 })),
+        ],
+    );
 }
 
 #[test]
-fn codes_compare(rt: HostRuntime) -> Result<(), Fail> {
-    let (one, other) = (read_code(b"3-1")?, read_code(b"3-5")?);
-    assert!(rt; are_equal(&one, &read_code(b"3-1")?));
-    assert!(rt; !are_equal(&one, &other));
+fn holds_two_hundred_codes(rt: HostRuntime) -> Result<(), Fail> {
+    let mut table = CodeTable::opening(rt.alloc())?;
+    is_filled(&rt, &mut table);
+    Ok(())
+}
+
+fn is_new(rt: &impl Abort, codes: &mut HashSet<Code>, word: &str) -> bool {
+    codes.insert(code_of(rt, word)).expect(rt, "memory")
+}
+
+fn compare(rt: &impl Abort, codes: &mut HashSet<Code>) {
+    let one = code_of(rt, "3-1");
+    all_hold(
+        rt,
+        &[
+            ("codes are equal", are_equal(&one, &code_of(rt, "3-1"))),
+            ("codes differ", !are_equal(&one, &code_of(rt, "3-5"))),
+            ("new to a set", is_new(rt, codes, "3-1")),
+            ("another is new", is_new(rt, codes, "3-5")),
+            ("known to it", !is_new(rt, codes, "3-1")),
+        ],
+    );
+}
+
+#[test]
+fn codes_compare(rt: HostRuntime) {
     let mut codes: HashSet<Code> = HashSet::new(rt.alloc());
-    assert!(rt; codes.insert(one)?);
-    assert!(rt; codes.insert(other)?);
-    assert!(rt; !codes.insert(one)?);
-    Ok(())
+    compare(&rt, &mut codes);
 }
 
 #[test]
-fn codes_and_faults_show(rt: HostRuntime) -> Result<(), Fail> {
-    let (one, other) = (read_code(b"3-1")?, read_code(b"3-5")?);
-    let shown = format!(in rt.alloc(); "{one} {other:?}")?;
-    assert_eq!(rt;
-        shown.as_str(),
-        "3-1 Code { groups: 2, beats: [3, 5, 0, 0, 0] }"
+fn codes_and_faults_show(rt: HostRuntime) {
+    let alloc = rt.alloc();
+    let known = AddFault::Known { no: 3 };
+    let code = code_of(&rt, "3-5");
+    let debugged = "Code { groups: 2, beats: [3, 5, 0, 0, 0] }";
+    let known_text = "the code table has this code as number 3";
+    let full_text = "the code table is full";
+    all_hold(
+        &rt,
+        &[
+            ("a code", is_shown(&rt, alloc, &code, "3-5")),
+            ("its parts", is_debugged(&rt, alloc, &code, debugged)),
+            ("known", is_shown(&rt, alloc, &known, known_text)),
+            ("full", is_shown(&rt, alloc, &AddFault::Full, full_text)),
+            (
+                "no room",
+                is_shown(&rt, alloc, &AddFault::NoMemory, "out of memory"),
+            ),
+            (
+                "no memory",
+                is_shown(&rt, alloc, &NoMemory, "out of memory"),
+            ),
+            ("no code", is_shown(&rt, alloc, &BadCode, "bad code")),
+        ],
     );
-    let faults = format!(in rt.alloc(); "{}, {}", AddFault::Known { no: 3 }, AddFault::Full)?;
-    assert_eq!(rt;
-        faults.as_str(),
-        "the code table has this code as number 3, the code table is full"
-    );
-    let others = format!(in rt.alloc(); "{}, {}, {}", AddFault::NoMemory, NoMemory, BadCode)?;
-    assert_eq!(rt; others.as_str(), "out of memory, out of memory, bad code");
-    Ok(())
 }
 
 #[test]

@@ -1,12 +1,15 @@
 //! Bridles: those that a frame can have, and where they are seated.
 
+use crate::facts::{all_hold, are_equal, hold};
 use bridle_frame::{Bridle, Dog, Dogs, Frame, Notches, Shift};
 use locking_table::{End, Stand};
 use std::alloc::{AllocError, Global};
-use std::fmt::Debug;
+use std::process::Abort;
+use std::slice;
 use std::test::Fail;
 
-fn bridle(alloc: Global, row: u32, dogs: &[(u32, Notches)]) -> Result<Bridle, AllocError> {
+/// A bridle of this row, with these dogs.
+pub fn bridle(alloc: Global, row: u32, dogs: &[(u32, Notches)]) -> Result<Bridle, AllocError> {
     let mut made = Vec::new(alloc);
     for (lever, notches) in dogs {
         made.push(Dog {
@@ -20,50 +23,70 @@ fn bridle(alloc: Global, row: u32, dogs: &[(u32, Notches)]) -> Result<Bridle, Al
     })
 }
 
+fn is_accepted(rt: &impl Abort, alloc: Global, dogs: &[(u32, Notches)]) -> bool {
+    let bar = bridle(alloc, 1, dogs).expect(rt, "memory");
+    Frame::accepts(8, slice::from_ref(&bar))
+}
+
+const UNFIT: [(&str, &[(u32, Notches)]); 6] = [
+    (
+        "a lever past the last",
+        &[(1, Notches::Normal), (9, Notches::Normal)],
+    ),
+    ("lever 0", &[(0, Notches::Normal), (2, Notches::Normal)]),
+    ("a lever twice", &[(3, Notches::Normal), (3, Notches::Both)]),
+    (
+        "not seated at first",
+        &[(3, Notches::Reversed), (4, Notches::Reversed)],
+    ),
+    ("one dog", &[(3, Notches::Normal)]),
+    (
+        "five dogs",
+        &[
+            (1, Notches::Normal),
+            (2, Notches::Normal),
+            (3, Notches::Normal),
+            (4, Notches::Normal),
+            (5, Notches::Normal),
+        ],
+    ),
+];
+
 #[test]
-fn bridles_that_no_frame_can_have(rt: HostRuntime) -> Result<(), Fail> {
-    let alloc = rt.alloc();
-    let reversed = Notches::Reversed;
-    let normal = Notches::Normal;
-    for dogs in [
-        [(1, normal), (9, normal)].as_slice(),
-        [(0, normal), (2, normal)].as_slice(),
-        [(3, normal), (3, Notches::Both)].as_slice(),
-        [(3, reversed), (4, reversed)].as_slice(),
-        [(3, normal)].as_slice(),
-        [
-            (1, normal),
-            (2, normal),
-            (3, normal),
-            (4, normal),
-            (5, normal),
-        ]
-        .as_slice(),
-    ] {
-        let mut bridles = Vec::new(alloc);
-        bridles.push(bridle(alloc, 1, dogs)?)?;
-        assert!(rt; !Frame::accepts(8, bridles.as_slice()));
+fn bridles_that_no_frame_can_have(rt: HostRuntime) {
+    for (fault, dogs) in UNFIT.iter() {
+        hold(&rt, fault, !is_accepted(&rt, rt.alloc(), dogs));
     }
-    Ok(())
 }
 
-fn is_itself<T: PartialEq + Debug>(x: &T) -> bool {
-    *x == *x
+fn compare(rt: &impl Abort, bar: &Bridle, other: &Bridle) {
+    let ends = [End::Normal, End::Reversed];
+    assert!(rt; bar.fits(2) && other.fits(2));
+    all_hold(
+        rt,
+        &[
+            ("a bridle is itself", are_equal(bar, bar)),
+            ("dogs differ", !are_equal(&bar.dogs, &other.dogs)),
+            (
+                "a shift is itself",
+                are_equal(&Shift::Shifted, &Shift::Shifted),
+            ),
+            ("lever 2 lies past the last", !bar.fits(1)),
+            ("not seated", !bar.is_seated(&ends, 1, Stand::AtMid)),
+            ("seated", other.is_seated(&ends, 1, Stand::AtMid)),
+            ("what holds lever 1", other.holding_lever(1) == 2),
+            ("what holds lever 2", other.holding_lever(2) == 1),
+        ],
+    );
 }
 
 #[test]
-fn values_compare(rt: HostRuntime) -> Result<(), Fail> {
+fn bridles_compare(rt: HostRuntime) -> Result<(), Fail> {
     let alloc = rt.alloc();
     let bar = bridle(alloc, 4, &[(1, Notches::Reversed), (2, Notches::Normal)])?;
     let other = bridle(alloc, 4, &[(1, Notches::Reversed), (2, Notches::Both)])?;
-    assert!(rt; is_itself(&bar) && is_itself(&bar.dogs) && is_itself(&Shift::Shifted));
-    assert!(rt; bar != other);
-    assert!(rt; bar.fits(2) && !bar.fits(1));
-    let ends = [End::Normal, End::Reversed];
-    assert!(rt; !bar.is_seated(&ends, 1, Stand::AtMid));
-    assert!(rt; other.fits(2) && other.is_seated(&ends, 1, Stand::AtMid));
-    assert_eq!(rt; other.holding_lever(1), 2);
-    assert_eq!(rt; other.holding_lever(2), 1);
-    assert_eq!(rt; bar.dogs.into_vec().len(), 2);
+    compare(&rt, &bar, &other);
+    let count = bar.dogs.into_vec().len();
+    assert!(rt; count == 2);
     Ok(())
 }

@@ -9,6 +9,8 @@ mod compiled;
 #[cfg(test)]
 mod controls;
 #[cfg(test)]
+mod facts;
+#[cfg(test)]
 mod frames;
 #[cfg(test)]
 mod places;

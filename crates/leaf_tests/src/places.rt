@@ -1,32 +1,42 @@
 //! Trains enter and leave the places of a box.
 ghost use Rattle.std.specs.Prelude.{◌≡◌, length};
 
+use crate::facts::all_hold;
+use std::process::Abort;
 use std::test::Fail;
 use track_circuits::{Occupied, Tracks};
 
-fn occupants(tracks: &Tracks) -> [Option<u32>; 3]
-    requires { length tracks.now ≡ 3 }
+fn are_entered_and_left(rt: &impl Abort, tracks: &mut Tracks)
+    requires { length tracks.old ≡ 3 }
 {
-    [tracks.occupant(0), tracks.occupant(1), tracks.occupant(2)]
+    let is_empty = tracks.occupant(1).is_none() && tracks.occupant(2).is_none();
+    let entered = tracks.enter(1, 7);
+    let occupied = tracks.enter(1, 8);
+    let beside = tracks.enter(2, 8);
+    let stand = tracks.occupant(1) == Some(7) && tracks.occupant(2) == Some(8);
+    let left = tracks.leave(1);
+    let again = tracks.leave(1);
+    all_hold(
+        rt,
+        &[
+            ("no train at first", is_empty),
+            ("a train enters", entered == Ok(())),
+            (
+                "one train at each place",
+                occupied == Err(Occupied { train: 7 }),
+            ),
+            ("another enters beside it", beside == Ok(())),
+            ("both stand", stand),
+            ("the first leaves", left == Some(7)),
+            ("its place is empty", again.is_none()),
+            ("the other stays", tracks.occupant(2) == Some(8)),
+        ],
+    );
 }
 
 #[test]
-fn holds_one_train_at_each_place(rt: HostRuntime) -> Result<(), Fail> {
+fn a_place_holds_one_train_until_it_leaves(rt: HostRuntime) -> Result<(), Fail> {
     let mut tracks = Tracks::new(rt.alloc(), 3)?;
-    assert_eq!(rt; occupants(&tracks), [None, None, None]);
-    assert_eq!(rt; tracks.enter(1, 7), Ok(()));
-    assert_eq!(rt; tracks.enter(1, 8), Err(Occupied { train: 7 }));
-    assert_eq!(rt; tracks.enter(2, 8), Ok(()));
-    assert_eq!(rt; occupants(&tracks), [None, Some(7), Some(8)]);
-    Ok(())
-}
-
-#[test]
-fn a_train_leaves_its_place(rt: HostRuntime) -> Result<(), Fail> {
-    let mut tracks = Tracks::new(rt.alloc(), 3)?;
-    assert_eq!(rt; tracks.leave(1), None);
-    assert_eq!(rt; tracks.enter(1, 7), Ok(()));
-    assert_eq!(rt; tracks.leave(1), Some(7));
-    assert_eq!(rt; occupants(&tracks), [None, None, None]);
+    are_entered_and_left(&rt, &mut tracks);
     Ok(())
 }

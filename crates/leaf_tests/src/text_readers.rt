@@ -1,11 +1,12 @@
 //! Texts by the formats: the causes as they are printed, numbers, names, lines and words; shelves and sinks.
 
+use crate::facts::{all_hold, hold};
 use rail_text::{
     Cause, FetchFault, FileShelf, LineFault, LineForm, Lines, MemShelf, MemSink, Names, NoMemory,
     OutSink, ReadError, Shelf, Sink, SinkFault, TextLine, cause_text, has_keyword, is_name,
     name_in, no_word, number_in, one_word, put_all, read_number, text_error,
 };
-use std::alloc::{AllocError, Global};
+use std::alloc::Global;
 use std::io::Write;
 use std::process::Abort;
 use std::test::Fail;
@@ -14,55 +15,70 @@ use std::{fs, io};
 // The words of the other causes stand in the case files of refused texts.
 #[test]
 fn causes_are_printed(rt: HostRuntime) {
-    assert_eq!(rt; cause_text(Cause::WrongKeyword), "unexpected line");
-    assert_eq!(rt; ReadError::from(NoMemory), ReadError::NoMemory);
     let line = 5;
     let cause = Cause::Cut;
-    assert_eq!(rt; text_error(line, cause), ReadError::Refused { line, cause });
+    let refused = ReadError::Refused { line, cause };
+    all_hold(
+        &rt,
+        &[
+            (
+                "words",
+                cause_text(Cause::WrongKeyword) == "unexpected line",
+            ),
+            ("memory", ReadError::from(NoMemory) == ReadError::NoMemory),
+            ("at its line", text_error(line, cause) == refused),
+        ],
+    );
 }
+
+const NUMBERS: [(&str, Option<u64>); 13] = [
+    ("0", Some(0)),
+    ("7", Some(7)),
+    ("120", Some(120)),
+    ("4294967296", Some(4_294_967_296)),
+    ("9999999999", Some(9_999_999_999)),
+    ("10000000000", None),
+    ("00", None),
+    ("01", None),
+    ("", None),
+    ("-1", None),
+    ("+1", None),
+    ("1 ", None),
+    ("1a", None),
+];
 
 #[test]
 fn numbers_are_read(rt: HostRuntime) {
-    let table = [
-        ("0", Some(0)),
-        ("7", Some(7)),
-        ("120", Some(120)),
-        ("4294967296", Some(4_294_967_296)),
-        ("9999999999", Some(9_999_999_999)),
-        ("10000000000", None),
-        ("00", None),
-        ("01", None),
-        ("", None),
-        ("-1", None),
-        ("+1", None),
-        ("1 ", None),
-        ("1a", None),
-    ];
-    for (word, number) in table {
-        assert_eq!(rt; read_number(word.as_bytes()), number, "at {word}");
+    for (word, number) in NUMBERS.iter() {
+        hold(&rt, word, read_number(word.as_bytes()) == *number);
+    }
+}
+
+fn is_next(lines: &mut Lines<'_>, number: u32, text: &[u8], ended: bool) -> bool {
+    match lines.next() {
+        Some(line) => line.number == number && line.text == text && line.ended == ended,
+        None => false,
     }
 }
 
 #[test]
 fn lines_are_cut_at_their_ends(rt: HostRuntime) {
     let mut lines = Lines::new(b"plan 1\n\nend");
-    let table = [
-        (1, b"plan 1".as_slice(), true),
-        (2, b"".as_slice(), true),
-        (3, b"end".as_slice(), false),
-    ];
-    for (number, text, ended) in table {
-        match lines.next() {
-            Some(line) => {
-                assert_eq!(rt; line.number, number);
-                assert_eq!(rt; line.text, text);
-                assert_eq!(rt; line.ended, ended);
-            }
-            None => assert!(rt; false, "line {number} is missing"),
-        }
-    }
-    assert!(rt; lines.next().is_none());
-    assert!(rt; Lines::new(b"").next().is_none());
+    let first = is_next(&mut lines, 1, b"plan 1", true);
+    let second = is_next(&mut lines, 2, b"", true);
+    let last = is_next(&mut lines, 3, b"end", false);
+    let is_end = lines.next().is_none();
+    let is_empty = Lines::new(b"").next().is_none();
+    all_hold(
+        &rt,
+        &[
+            ("the first line", first),
+            ("an empty line", second),
+            ("a line with no end", last),
+            ("the end", is_end),
+            ("no line in an empty text", is_empty),
+        ],
+    );
 }
 
 fn line_of(text: &[u8], ended: bool) -> TextLine<'_> {
@@ -73,232 +89,351 @@ fn line_of(text: &[u8], ended: bool) -> TextLine<'_> {
     }
 }
 
+fn is_word(line: &TextLine<'_>, i: usize, word: &[u8]) -> bool {
+    match line.word(i) {
+        Some(found) => found == word,
+        None => false,
+    }
+}
+
+fn is_behind(line: &TextLine<'_>, i: usize, rest: &[u8]) -> bool {
+    match line.behind(i) {
+        Some(found) => found == rest,
+        None => false,
+    }
+}
+
 #[test]
 fn words_stand_between_spaces(rt: HostRuntime) {
     let line = line_of(b"over P  Q", true);
-    let words = [
-        (0, b"over".as_slice()),
-        (1, b"P".as_slice()),
-        (2, b"".as_slice()),
-        (3, b"Q".as_slice()),
-    ];
-    for (i, word) in words {
-        match line.word(i) {
-            Some(found) => assert_eq!(rt; found, word, "word {i}"),
-            None => assert!(rt; false, "word {i} is missing"),
-        }
-    }
-    assert!(rt; line.word(4).is_none());
-    assert_eq!(rt; line.word_count(), 4);
-    assert_eq!(rt; line_of(b"", true).word_count(), 1);
-    match line.behind(0) {
-        Some(rest) => assert_eq!(rt; rest, b"P  Q".as_slice()),
-        None => assert!(rt; false, "nothing behind the first word"),
-    }
-    assert!(rt; line.behind(3).is_none());
+    all_hold(
+        &rt,
+        &[
+            ("word 0", is_word(&line, 0, b"over")),
+            ("word 1", is_word(&line, 1, b"P")),
+            ("word 2 is empty", is_word(&line, 2, b"")),
+            ("word 3", is_word(&line, 3, b"Q")),
+            ("no word 4", line.word(4).is_none()),
+            ("four words", line.word_count() == 4),
+            ("one empty word", line_of(b"", true).word_count() == 1),
+            ("behind the first word", is_behind(&line, 0, b"P  Q")),
+            ("nothing behind the last word", line.behind(3).is_none()),
+        ],
+    );
 }
+
+const LONG: [u8; 201] = [b'a'; 201];
+
+// The text of a line, whether it is ended, whether lines are skipped, and the line's form.
+const FORMS: [(&str, &[u8], bool, bool, Result<LineForm, Cause>); 12] = [
+    ("a cut line", b"box \x07Ash", false, true, Err(Cause::Cut)),
+    (
+        "a bad byte in a note",
+        b"#\x7f",
+        true,
+        true,
+        Err(Cause::BadByte),
+    ),
+    ("a bad byte alone", b"\x1f", true, true, Err(Cause::BadByte)),
+    ("201 bytes", &LONG, true, true, Err(Cause::LongLine)),
+    ("an empty line", b"", true, true, Ok(LineForm::Skipped)),
+    ("a note", b"# a  note", true, true, Ok(LineForm::Skipped)),
+    (
+        "an empty line where none is skipped",
+        b"",
+        true,
+        false,
+        Err(Cause::Spacing),
+    ),
+    (
+        "a note where none is skipped",
+        b"#",
+        true,
+        false,
+        Ok(LineForm::Words),
+    ),
+    (
+        "a space before",
+        b" box Ash",
+        true,
+        true,
+        Err(Cause::Spacing),
+    ),
+    ("two spaces", b"box  Ash", true, true, Err(Cause::Spacing)),
+    (
+        "a space behind",
+        b"box Ash ",
+        true,
+        true,
+        Err(Cause::Spacing),
+    ),
+    ("words", b"box Ash ~", true, true, Ok(LineForm::Words)),
+];
 
 #[test]
 fn first_fault_of_a_line_decides(rt: HostRuntime) {
-    let long = [b'a'; 201];
-    let table = [
-        (line_of(b"box \x07Ash", false), true, Err(Cause::Cut)),
-        (line_of(b"#\x7f", true), true, Err(Cause::BadByte)),
-        (line_of(b"\x1f", true), true, Err(Cause::BadByte)),
-        (line_of(&long, true), true, Err(Cause::LongLine)),
-        (line_of(&long[..200], true), true, Ok(LineForm::Words)),
-        (line_of(b"", true), true, Ok(LineForm::Skipped)),
-        (line_of(b"# a  note", true), true, Ok(LineForm::Skipped)),
-        (line_of(b"", true), false, Err(Cause::Spacing)),
-        (line_of(b"#", true), false, Ok(LineForm::Words)),
-        (line_of(b" box Ash", true), true, Err(Cause::Spacing)),
-        (line_of(b"box  Ash", true), true, Err(Cause::Spacing)),
-        (line_of(b"box Ash ", true), true, Err(Cause::Spacing)),
-        (line_of(b"box Ash ~", true), true, Ok(LineForm::Words)),
-    ];
-    for (line, skips, form) in table {
-        assert_eq!(rt; line.form(skips), form);
+    for (name, text, ended, skips, form) in FORMS.iter() {
+        hold(&rt, name, line_of(text, *ended).form(*skips) == *form);
+    }
+    let longest = line_of(&LONG[..200], true).form(true);
+    hold(&rt, "200 bytes", longest == Ok(LineForm::Words));
+}
+
+// Does this word alone stand behind a line's keyword?
+fn is_one_word(text: &[u8], word: &[u8]) -> bool {
+    match one_word(&line_of(text, true)) {
+        Ok(found) => found == word,
+        Err(_) => false,
     }
 }
 
 #[test]
-fn words_of_a_line_are_counted(rt: HostRuntime) {
+fn words_behind_a_keyword_are_counted(rt: HostRuntime) {
     let delay = line_of(b"delay 60", true);
-    assert!(rt; has_keyword(&delay, b"delay"));
-    assert!(rt; !has_keyword(&delay, b"looks"));
-    assert_eq!(rt; no_word(&delay), Err(LineFault::Cause(Cause::WordCount)));
-    assert_eq!(rt; no_word(&line_of(b"end", true)), Ok(()));
+    let fault = LineFault::Cause(Cause::WordCount);
+    let missing = one_word(&line_of(b"delay", true)).err();
+    let crowded = one_word(&line_of(b"delay 6 0", true)).err();
+    all_hold(
+        &rt,
+        &[
+            ("the keyword", has_keyword(&delay, b"delay")),
+            ("another keyword", !has_keyword(&delay, b"looks")),
+            ("a word for none", no_word(&delay) == Err(fault)),
+            ("no word", no_word(&line_of(b"end", true)) == Ok(())),
+            ("one word", is_one_word(b"delay 60", b"60")),
+            ("no word for one", missing == Some(fault)),
+            ("two words for one", crowded == Some(fault)),
+        ],
+    );
 }
 
-// The one word behind a line's keyword, if there is one alone.
-fn one_word_of(text: &[u8]) -> Option<&[u8]> {
-    one_word(&line_of(text, true)).ok()
-}
+const OUTSIDE: LineFault = LineFault::Cause(Cause::OutOfRange);
 
-#[test]
-fn one_word_stands_behind_a_keyword(rt: HostRuntime) {
-    assert_eq!(rt; one_word_of(b"delay 60"), Some(b"60".as_slice()));
-    assert_eq!(rt; one_word_of(b"delay"), None);
-    assert_eq!(rt; one_word_of(b"delay 6 0"), None);
-    let fault = one_word(&line_of(b"delay", true)).err();
-    assert_eq!(rt; fault, Some(LineFault::Cause(Cause::WordCount)));
-}
+const IN_RANGE: [(&str, Result<u32, LineFault>); 6] = [
+    ("2", Ok(2)),
+    ("32", Ok(32)),
+    ("1", Err(OUTSIDE)),
+    ("33", Err(OUTSIDE)),
+    ("9999999999", Err(OUTSIDE)),
+    ("02", Err(LineFault::Cause(Cause::BadNumber))),
+];
 
 #[test]
 fn numbers_are_read_in_their_range(rt: HostRuntime) {
-    for (word, number) in [("2", 2), ("32", 32)] {
-        assert_eq!(rt; number_in(word.as_bytes(), 2, 32), Ok(number), "at {word}");
+    for (word, number) in IN_RANGE.iter() {
+        hold(&rt, word, number_in(word.as_bytes(), 2, 32) == *number);
     }
-    for word in ["1", "33", "9999999999"] {
-        let fault = number_in(word.as_bytes(), 2, 32).err();
-        assert_eq!(rt;
-            fault,
-            Some(LineFault::Cause(Cause::OutOfRange)),
-            "at {word}"
-        );
-    }
-    let fault = number_in(b"02", 2, 32).err();
-    assert_eq!(rt; fault, Some(LineFault::Cause(Cause::BadNumber)));
-    let taken = LineFault::from(Cause::Taken);
-    assert_eq!(rt; taken, LineFault::Cause(Cause::Taken));
-    assert_eq!(rt; LineFault::from(NoMemory), LineFault::NoMemory);
+    let taken = LineFault::from(Cause::Taken) == LineFault::Cause(Cause::Taken);
+    let memory = LineFault::from(NoMemory) == LineFault::NoMemory;
+    all_hold(
+        &rt,
+        &[("from a cause", taken), ("from want of memory", memory)],
+    );
 }
+
+fn is_read_as_name(word: &str) -> bool {
+    match name_in(word.as_bytes()) {
+        Ok(name) => name == word,
+        Err(_) => false,
+    }
+}
+
+fn is_refused_as_name(word: &str) -> bool {
+    match name_in(word.as_bytes()) {
+        Ok(_) => false,
+        Err(fault) => fault == LineFault::Cause(Cause::BadName),
+    }
+}
+
+const NAMES: [&str; 4] = ["a", "Ash", "t1-b_C", "abcdefghijklmnop"];
+
+const OTHER_WORDS: [&str; 5] = ["abcdefghijklmnopq", "", "1a", "_a", "a.b"];
 
 #[test]
 fn names_begin_with_a_letter(rt: HostRuntime) {
-    for word in ["a", "Ash", "t1-b_C", "abcdefghijklmnop"] {
-        assert!(rt; is_name(word.as_bytes()), "at {word}");
-        match name_in(word.as_bytes()) {
-            Ok(name) => assert_eq!(rt; name, word),
-            Err(_) => assert!(rt; false, "{word} is a name"),
-        }
+    for word in NAMES.iter() {
+        hold(&rt, word, is_name(word.as_bytes()) && is_read_as_name(word));
     }
-    for word in ["abcdefghijklmnopq", "", "1a", "_a", "a.b"] {
-        assert!(rt; !is_name(word.as_bytes()), "at {word}");
-        match name_in(word.as_bytes()) {
-            Ok(_) => assert!(rt; false, "{word} is no name"),
-            Err(fault) => assert_eq!(rt; fault, LineFault::Cause(Cause::BadName)),
-        }
+    for word in OTHER_WORDS.iter() {
+        hold(
+            &rt,
+            word,
+            !is_name(word.as_bytes()) && is_refused_as_name(word),
+        );
     }
 }
 
-// The names of a text, as they come.
-fn names_of(rt: &impl Abort, alloc: Global, text: &str) -> Result<Names, Fail> {
-    let mut names = Names::new(alloc);
-    assert!(rt; names.is_empty());
-    for name in text.split(' ') {
-        assert!(rt; names.len() < 5);
-        let _ = names.add(name)?;
+fn add(rt: &impl Abort, names: &mut Names, name: &str) -> Option<u32> {
+    assert!(rt; names.len() < 5);
+    names.add(name).expect(rt, "memory")
+}
+
+// Names in turn, and the number that each has if it is new.
+const ADDED: [(&str, Option<u32>); 6] = [
+    ("Ash", Some(0)),
+    ("Beech", Some(1)),
+    ("Ash", None),
+    ("ash", Some(2)),
+    ("Beech", None),
+    ("Cedar", Some(3)),
+];
+
+fn are_numbered(rt: &impl Abort, names: &mut Names) {
+    hold(rt, "no name at first", names.is_empty());
+    for (name, number) in ADDED.iter() {
+        hold(rt, name, add(rt, names, name) == *number);
     }
-    Ok(names)
+    assert!(rt; names.len() == 4);
+    all_hold(
+        rt,
+        &[
+            ("the third name", names.name_of(2) == "ash"),
+            ("a name's number", names.number_of("Beech") == Some(1)),
+            ("no number", names.number_of("Dale").is_none()),
+            ("a name is there", names.contains("ash")),
+            ("another isn't", !names.contains("Dale")),
+        ],
+    );
 }
 
 #[test]
-fn names_are_numbered_as_they_come(rt: HostRuntime) -> Result<(), Fail> {
-    let mut names = names_of(&rt, rt.alloc(), "Ash Beech Ash ash Beech")?;
-    assert!(rt; names.len() == 3);
-    assert_eq!(rt; names.name_of(2), "ash");
-    assert_eq!(rt; names.number_of("Beech"), Some(1));
-    assert_eq!(rt; names.number_of("Cedar"), None);
-    assert!(rt; names.contains("ash") && !names.contains("Cedar"));
-    assert_eq!(rt; names.add("Ash")?, None);
-    assert!(rt; names.len() == 3);
-    assert_eq!(rt; names.add("Cedar")?, Some(3));
-    Ok(())
+fn names_are_numbered_as_they_come(rt: HostRuntime) {
+    let mut names = Names::new(rt.alloc());
+    are_numbered(&rt, &mut names);
 }
 
-// Through the bound, as a program fetches.
-fn fetch<S: Shelf>(
+// Fetches a text through the bound, as a program does. Are these bytes given, or with none the failure?
+fn gives<S: Shelf>(
     shelf: &mut S,
     alloc: Global,
     name: &str,
     limit: u32,
-) -> Result<Vec<u8>, FetchFault> {
-    shelf.fetch(alloc, name, limit as usize)
+    wanted: Option<&[u8]>,
+) -> bool {
+    match shelf.fetch(alloc, name, limit as usize) {
+        Ok(bytes) => Some(bytes.as_slice()) == wanted,
+        Err(fault) => wanted.is_none() && fault == FetchFault::Failed,
+    }
 }
 
-fn two_texts(alloc: Global) -> Result<Vec<(String, Vec<u8>)>, AllocError> {
+fn text(rt: &impl Abort, alloc: Global, name: &str, bytes: &[u8]) -> (String, Vec<u8>) {
+    let name = String::from_str(alloc, name).expect(rt, "memory");
+    (name, bytes.to_vec(alloc).expect(rt, "memory"))
+}
+
+fn two_texts(rt: &impl Abort, alloc: Global) -> Vec<(String, Vec<u8>)> {
     let mut texts = Vec::new(alloc);
-    texts.push((String::from_str(alloc, "plan")?, b"plan 1\n".to_vec(alloc)?))?;
-    texts.push((String::from_str(alloc, "ash")?, b"end\n".to_vec(alloc)?))?;
-    Ok(texts)
+    texts
+        .push(text(rt, alloc, "plan", b"plan 1\n"))
+        .expect(rt, "memory");
+    texts
+        .push(text(rt, alloc, "ash", b"end\n"))
+        .expect(rt, "memory");
+    texts
+}
+
+// What is fetched from memory in turn: a name, the limit, and what is given. The second fetch and the fourth fail.
+const FETCHES: [(&str, &str, u32, Option<&[u8]>); 7] = [
+    ("the whole text", "plan", 100, Some(b"plan 1\n")),
+    ("the second fetch", "plan", 100, None),
+    ("one byte past the limit", "plan", 4, Some(b"plan ")),
+    ("the fourth fetch", "ash", 100, None),
+    ("up to the limit", "ash", 3, Some(b"end\n")),
+    ("no such text", "beech", 100, None),
+    ("at limit 0", "ash", 0, Some(b"e")),
+];
+
+fn fetch_all(rt: &impl Abort, shelf: &mut MemShelf, alloc: Global) {
+    for (fact, name, limit, wanted) in FETCHES.iter() {
+        hold(rt, fact, gives(shelf, alloc, name, *limit, *wanted));
+    }
 }
 
 #[test]
 fn memory_gives_its_texts(rt: HostRuntime) -> Result<(), Fail> {
     let alloc = rt.alloc();
-    let mut shelf = MemShelf::new(two_texts(alloc)?, vec![in alloc; 2, 4]?);
-    let table = [
-        ("plan", 100, Some(b"plan 1\n".as_slice())),
-        ("plan", 100, None),
-        ("plan", 4, Some(b"plan ".as_slice())),
-        ("ash", 100, None),
-        ("ash", 3, Some(b"end\n".as_slice())),
-        ("beech", 100, None),
-        ("ash", 0, Some(b"e".as_slice())),
-    ];
-    for (name, limit, given) in table {
-        match fetch(&mut shelf, alloc, name, limit) {
-            Ok(bytes) => assert_eq!(rt; Some(bytes.as_slice()), given, "{name}"),
-            Err(fault) => {
-                assert_eq!(rt; fault, FetchFault::Failed);
-                assert!(rt; given.is_none(), "{name}");
-            }
-        }
-    }
+    let mut shelf = MemShelf::new(two_texts(&rt, alloc), vec![in alloc; 2, 4]?);
+    fetch_all(&rt, &mut shelf, alloc);
     Ok(())
+}
+
+const PIECE: &[u8] = b"0123456789abcdefghij";
+
+// What is put to memory in turn, and the answers. The second put fails.
+const PUTS: [(&str, &[u8], Result<usize, SinkFault>); 8] = [
+    ("the first bytes", PIECE, Ok(10)),
+    ("the second put", PIECE, Err(SinkFault::Failed)),
+    ("a short piece", b"xyz", Ok(3)),
+    ("an empty piece", b"", Ok(0)),
+    ("bytes behind it", PIECE, Ok(10)),
+    ("up to the room", PIECE, Ok(2)),
+    ("no room", PIECE, Err(SinkFault::Failed)),
+    ("an empty piece and no room", b"", Ok(0)),
+];
+
+fn put_in_turn(rt: &impl Abort, sink: &mut MemSink) {
+    for (name, bytes, answer) in PUTS.iter() {
+        hold(rt, name, sink.put(bytes) == *answer);
+    }
+    hold(
+        rt,
+        "all is taken",
+        sink.taken() == b"0123456789xyz012345678901".as_slice(),
+    );
 }
 
 #[test]
 fn memory_takes_up_to_its_room(rt: HostRuntime) -> Result<(), Fail> {
     let alloc = rt.alloc();
     let mut sink = MemSink::new(alloc, 25, 10, vec![in alloc; 2]?)?;
-    let piece = b"0123456789abcdefghij";
-    let table = [
-        (piece.as_slice(), Ok(10)),
-        (piece.as_slice(), Err(SinkFault::Failed)),
-        (b"xyz".as_slice(), Ok(3)),
-        (b"".as_slice(), Ok(0)),
-        (piece.as_slice(), Ok(10)),
-        (piece.as_slice(), Ok(2)),
-        (piece.as_slice(), Err(SinkFault::Failed)),
-        (b"".as_slice(), Ok(0)),
-    ];
-    for (bytes, answer) in table {
-        assert_eq!(rt; sink.put(bytes), answer);
-    }
-    assert_eq!(rt; sink.taken(), b"0123456789xyz012345678901".as_slice());
+    put_in_turn(&rt, &mut sink);
     Ok(())
+}
+
+fn put_whole(rt: &impl Abort, sink: &mut MemSink) {
+    let piece = b"0123456789abcdefghijk".as_slice();
+    let nothing = put_all(sink, b"");
+    let whole = put_all(sink, piece);
+    let is_taken = sink.taken() == piece;
+    let part = put_all(sink, piece);
+    all_hold(
+        rt,
+        &[
+            ("nothing is put", nothing == Ok(())),
+            ("all is put", whole == Ok(())),
+            ("all is taken", is_taken),
+            ("a fault", part == Err(SinkFault::Failed)),
+            ("a proper prefix is taken", sink.taken().len() == 41),
+        ],
+    );
 }
 
 #[test]
 fn all_is_put_or_a_proper_prefix(rt: HostRuntime) -> Result<(), Fail> {
     let alloc = rt.alloc();
-    let piece = b"0123456789abcdefghijk";
     let mut sink = MemSink::new(alloc, 100, 10, vec![in alloc; 6]?)?;
-    assert_eq!(rt; put_all(&mut sink, b""), Ok(()));
-    assert_eq!(rt; put_all(&mut sink, piece), Ok(()));
-    assert_eq!(rt; sink.taken(), piece.as_slice());
-    assert_eq!(rt; put_all(&mut sink, piece), Err(SinkFault::Failed));
-    assert_eq!(rt; sink.taken().len(), 41);
+    put_whole(&rt, &mut sink);
     Ok(())
 }
 
 #[test]
-fn files_are_a_shelf(rt: HostRuntime) -> Result<(), Fail> {
+fn files_are_a_shelf(rt: HostRuntime) {
     let alloc = rt.alloc();
-    fs::write(&rt, "rail_text_test.txt", "plan 1\nend\n")?;
+    let name = "rail_text_test.txt";
+    fs::write(&rt, name, "plan 1\nend\n").expect(&rt, "a file");
     let mut shelf = FileShelf::new(&rt);
-    let whole = fetch(&mut shelf, alloc, "rail_text_test.txt", 100)?;
-    assert_eq!(rt; whole.as_slice(), b"plan 1\nend\n".as_slice());
-    let first = fetch(&mut shelf, alloc, "rail_text_test.txt", 5)?;
-    assert_eq!(rt; first.as_slice(), b"plan 1".as_slice());
-    fs::remove_file(&rt, "rail_text_test.txt")?;
-    match fetch(&mut shelf, alloc, "rail_text_test.txt", 5) {
-        Ok(_) => assert!(rt; false, "the file is gone"),
-        Err(fault) => assert_eq!(rt; fault, FetchFault::Failed),
-    }
-    Ok(())
+    let whole = gives(&mut shelf, alloc, name, 100, Some(b"plan 1\nend\n"));
+    let first = gives(&mut shelf, alloc, name, 5, Some(b"plan 1"));
+    fs::remove_file(&rt, name).expect(&rt, "a file");
+    let gone = gives(&mut shelf, alloc, name, 5, None);
+    all_hold(
+        &rt,
+        &[
+            ("the whole file is given", whole),
+            ("its first bytes are given", first),
+            ("a file that is gone fails", gone),
+        ],
+    );
 }
 
 // Takes nothing, or refuses.
@@ -320,15 +455,26 @@ impl Write for FullWriter {
     }
 }
 
+// A sink over such a writer takes nothing but the empty piece.
+fn is_full(refuses: bool) -> bool {
+    let mut full = OutSink::new(FullWriter { refuses });
+    full.put(b"a") == Err(SinkFault::Failed)
+        && full.put(b"") == Ok(0)
+        && put_all(&mut full, b"a") == Err(SinkFault::Failed)
+}
+
 #[test]
 fn writers_are_a_sink(rt: HostRuntime) {
     let mut out = OutSink::new(io::writer(&rt));
-    assert_eq!(rt; out.put(b""), Ok(0));
-    assert_eq!(rt; put_all(&mut out, b""), Ok(()));
-    for refuses in [false, true] {
-        let mut full = OutSink::new(FullWriter { refuses });
-        assert_eq!(rt; full.put(b"a"), Err(SinkFault::Failed));
-        assert_eq!(rt; full.put(b""), Ok(0));
-        assert_eq!(rt; put_all(&mut full, b"a"), Err(SinkFault::Failed));
-    }
+    let empty = out.put(b"");
+    let nothing = put_all(&mut out, b"");
+    all_hold(
+        &rt,
+        &[
+            ("an empty piece is put", empty == Ok(0)),
+            ("nothing is put", nothing == Ok(())),
+            ("a writer that takes nothing", is_full(false)),
+            ("a writer that refuses", is_full(true)),
+        ],
+    );
 }

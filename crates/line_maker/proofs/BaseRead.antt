@@ -5,12 +5,12 @@ use Rattle.rail_text.specs.Gives.{Fault}
 use Rattle.rail_text.specs.Forms.{form_of}
 use Rattle.rail_text.specs.Texts.{line_onto, lines_onto}
 use Rattle.line_plan.specs.Plans.{no_box}
-use Rattle.line_plan.specs.Drafts.{DraftFields, start}
-use Rattle.line_plan.specs.Reading.{words_onto, has_ended, line_kind, may_follow, kind_onto, plan_onto, boxes_onto, delay_onto, looks_onto, box_onto, here_onto, box_with}
-use Rattle.line_plan.specs.LineWords.{new_name, number_in_names, places_onto, way_in, kind_in, end_in, lever_in, working_in}
-use Rattle.line_plan.specs.BoxLines.{new_place, place_onto, next_number, lever_onto, arm_in, over_in, with_signal, signal_onto, leaving_in, starter_onto, coming_in, berth_at, berth_onto, clearing_in, clear_onto, track_in, track_onto, all_worked, row_onto}
+use Rattle.plan_draft.specs.Drafts.{DraftFields, start}
+use Rattle.plan_draft.specs.Reading.{words_onto, has_ended, line_kind, may_follow, kind_onto, plan_onto, boxes_onto, delay_onto, looks_onto, box_onto, here_onto, box_with}
+use Rattle.plan_draft.specs.LineWords.{new_name, number_in_names, places_onto, way_in, kind_in, end_in, lever_in, working_in}
+use Rattle.plan_draft.specs.BoxLines.{new_place, place_onto, next_number, lever_onto, arm_in, over_in, with_signal, signal_onto, leaving_in, starter_onto, coming_in, berth_at, berth_onto, clearing_in, clear_onto, track_in, track_onto, all_worked, row_onto}
 use Rattle.locking_table.specs.Reading.{row_of, grammar_of, row_from, lever_from, asked_from, verb_from, asked_by, locked_from, bound_from, locked_by, conds_from}
-use Rattle.line_plan.specs.declared.draft.Stage.TheVariants as stages
+use Rattle.plan_draft.specs.declared.draft.Stage.TheVariants as stages
 use Rattle.line_maker.specs.MadeTexts.{head_text, ash_text, beech_text, cedar_text}
 use Rattle.line_maker.proofs.MadeLine.{ash, beech, cedar, draft_with}
 

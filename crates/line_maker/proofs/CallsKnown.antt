@@ -11,7 +11,7 @@ use Rattle.rail_text.proofs.PrintedLines.{both}
 use Rattle.bell_codes.specs.Table.{opening_codes}
 use Rattle.block_words.specs.declared.Way.TheVariants.{Up, Down}
 use Rattle.line_plan.specs.Plans.{PlanFields, no_train, is_train, train_at}
-use Rattle.line_plan.specs.Reading.{plan_of}
+use Rattle.plan_draft.specs.Reading.{plan_of}
 use Rattle.line_law.specs.Known.{knows_act, knows_call}
 use Rattle.line_law.specs.Serial.{AreCalls}
 use Rattle.line_law.specs.declared.call.Act.{Act}

@@ -13,11 +13,11 @@ use Rattle.line_plan.specs.declared.signal.To.TheVariants as ends
 use Rattle.line_plan.specs.declared.signal.Signal.{Signal}
 use Rattle.line_plan.specs.declared.berth.Berth.{Berth}
 use Rattle.line_plan.specs.declared.plan.TrainPlan.{TrainPlan}
-use Rattle.line_plan.specs.declared.draft.Stage.{Stage}
-use Rattle.line_plan.specs.declared.draft.Stage.TheVariants as stages
+use Rattle.plan_draft.specs.declared.draft.Stage.{Stage}
+use Rattle.plan_draft.specs.declared.draft.Stage.TheVariants as stages
 use Rattle.line_plan.specs.Frames.{BoxFields}
 use Rattle.line_plan.specs.Plans.{PlanFields, no_box}
-use Rattle.line_plan.specs.Drafts.{DraftFields, opening_classes}
+use Rattle.plan_draft.specs.Drafts.{DraftFields, opening_classes}
 
 abbrev spare : ℕ → Lever
 spare n = record { number = n; kind = kinds.Spare }

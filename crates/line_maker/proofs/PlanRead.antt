@@ -10,10 +10,10 @@ use Rattle.rail_text.specs.declared.cause.ReadError.TheVariants as errors
 use Rattle.rail_text.proofs.PrintedWords.{length-decimal_word}
 use Rattle.line_plan.specs.Limits.{most_bytes}
 use Rattle.line_plan.specs.Plans.{PlanFields, no_box, opening_names}
-use Rattle.line_plan.specs.Drafts.{start}
-use Rattle.line_plan.specs.Reading.{words_onto, line_kind, may_follow, kind_onto, end_onto, plan_of}
+use Rattle.plan_draft.specs.Drafts.{start}
+use Rattle.plan_draft.specs.Reading.{words_onto, line_kind, may_follow, kind_onto, end_onto, plan_of}
 use Rattle.line_plan.specs.declared.plan.TrainPlan.{TrainPlan}
-use Rattle.line_plan.specs.declared.draft.Stage.TheVariants as stages
+use Rattle.plan_draft.specs.declared.draft.Stage.TheVariants as stages
 use Rattle.line_maker.specs.MadeTrains.{runs_down}
 use Rattle.line_maker.specs.MadeTexts.{head_text, ash_text, beech_text, cedar_text, class_name, brought_text, train_text, trains_text, made_plan_text}
 use Rattle.line_maker.proofs.MadeLine.{ash, beech, cedar, made_trains, made_boxes, made_plan, draft_at, draft_with}

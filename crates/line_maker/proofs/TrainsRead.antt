@@ -9,12 +9,12 @@ use Rattle.rail_text.specs.Words.{is_name}
 use Rattle.rail_text.proofs.PrintedLines.{lines_of-printed_line}
 use Rattle.rail_text.proofs.PrintedWords.{form_of-words, words_of-words, joined_lacks_line_end}
 use Rattle.line_plan.specs.Plans.{names_of_trains, opening_names}
-use Rattle.line_plan.specs.Drafts.{DraftFields}
-use Rattle.line_plan.specs.LineWords.{number_in_names}
-use Rattle.line_plan.specs.Reading.{words_onto, line_kind, may_follow, kind_onto, train_onto, train_in, brought_in, with_train}
+use Rattle.plan_draft.specs.Drafts.{DraftFields}
+use Rattle.plan_draft.specs.LineWords.{number_in_names}
+use Rattle.plan_draft.specs.Reading.{words_onto, line_kind, may_follow, kind_onto, train_onto, train_in, brought_in, with_train}
 use Rattle.line_plan.specs.declared.plan.TrainPlan.{TrainPlan}
-use Rattle.line_plan.proofs.LineReads.{IsLine}
-use Rattle.line_plan.proofs.WordReads.{fits, fitting_line, name_fits, new_reads}
+use Rattle.plan_text.proofs.LineReads.{IsLine}
+use Rattle.plan_text.proofs.WordReads.{fits, fitting_line, name_fits, new_reads}
 use Rattle.line_maker.specs.MadeTrains.{class_of, runs_down}
 use Rattle.line_maker.specs.MadeTexts.{train_text, trains_text}
 use Rattle.line_maker.proofs.MadeLine.{ash, beech, cedar, name_of, made_train, made_trains, draft_at}

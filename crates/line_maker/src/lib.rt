@@ -2,8 +2,8 @@
 #![tactic(auto)]
 
 mod error;
+mod made_text;
 mod making;
-mod plan_text;
 mod scripts;
 mod working;
 

@@ -1,17 +1,18 @@
 //! The made line.
 
 ghost use Rattle.std.specs.Prelude.{◌≡◌, ◌↔◌, ◌⊎◌, ℕ, ◌<◌, ◌≤◌, IfOk, IsErrOf, Ok};
-ghost use Rattle.line_plan.specs.Reading.{plan_of};
+ghost use Rattle.plan_draft.specs.Reading.{plan_of};
 ghost use Rattle.line_maker.specs.MadeCalls.{AreLineScripts, made_scripts};
 ghost use Rattle.line_maker.specs.MadeTexts.{made_plan_text};
 
 use crate::error::MakeError;
-use crate::plan_text::made_plan_text;
+use crate::made_text::made_plan_text;
 use crate::scripts::made_scripts;
-use line_plan::{Plan, read_plan};
+use line_plan::Plan;
+use plan_text::read_plan;
 use rail_text::ReadError;
 use script_text::Script;
-use std::alloc::Global;
+use std::alloc::{AllocError, Global};
 
 /// The most trains of a made line.
 pub const MOST_MADE_TRAINS: u32 = 200;
@@ -48,6 +49,11 @@ pub fn make_line(alloc: Global, n: u32) -> Result<(Plan, Vec<Script>), MakeError
         return Err(MakeError::OutOfRange { n });
     }
     let plan = made_plan(alloc, n)?;
-    let scripts = made_scripts(alloc, n)?;
-    Ok((plan, scripts))
+    match made_scripts(alloc, n) {
+        Ok(scripts) => Ok((plan, scripts)),
+        Err(AllocError) => {
+            drop(plan);
+            Err(MakeError::NoMemory)
+        }
+    }
 }

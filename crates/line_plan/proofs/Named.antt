@@ -1,5 +1,7 @@
--- The name of a box of a list.
-use Rattle.std.proofs.Common.{◌≡◌, ℕ, zero, suc, ◌<◌, List, [], ◌∷◌, length, get_or, refl, arith}
+-- What stands at a number of a list.
+use Rattle.std.proofs.Common.{◌≡◌, ℕ, zero, suc, ◌<◌, List, [], ◌∷◌, length, get_or, slice_get, Option, None, refl, sym, ap, ◌∙◌, arith}
+use Rattle.std.specs.Option.{unwrap_or}
+use Rattle.std.proofs.lemmas.Option.{unwrap_or-slice_get}
 use Rattle.line_plan.specs.Frames.{BoxFields}
 use Rattle.line_plan.specs.Plans.{names_of}
 
@@ -7,3 +9,7 @@ pub name_at : (boxes : List BoxFields) (b : ℕ) (d : BoxFields) → b < length 
 name_at [] b d lt = absurd (omega arith)
 name_at (x ∷ xs) zero d lt = refl
 name_at (x ∷ xs) (suc b) d lt = name_at xs b d (omega arith)
+
+-- behind the list there is nothing
+pub none_here : {X : Type 0} (xs : List X) (i : ℕ) (d : X) → slice_get xs i ≡ None → get_or xs i d ≡ d
+none_here {X} xs i d e = sym (unwrap_or-slice_get xs i d) ∙ ap (λ (o : Option X). unwrap_or o d) e

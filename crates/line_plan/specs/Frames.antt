@@ -1,6 +1,6 @@
 -- What a box has, and what belongs together in it.
 use Rattle.std.specs.Prelude.{ℕ, Bool, true, false, not, ◌&&◌, ◌||◌, ◌==◌, nat_lt, List, [], ◌∷◌, ◌++◌, map, filter}
-use Rattle.std.specs.Prelude.{Option, Some, None, is_some, option_map}
+use Rattle.std.specs.Prelude.{Option, Some, None, is_some, option_map, codes}
 use Rattle.std.specs.List.{list_any, find}
 use Rattle.block_words.specs.declared.Way.{Way}
 use Rattle.block_words.specs.declared.Way.TheVariants.{Up, Down}
@@ -30,6 +30,14 @@ pub record BoxFields : Type 0 where
 -- the lever with this number
 abbrev pub lever_of : BoxFields → ℕ → Option Lever
 lever_of box_plan number = find (λ lever. lever.number == number) box_plan.levers
+
+-- the word of a lever's kind
+abbrev pub kind_word : Kind → List ℕ
+kind_word kinds.Signal = codes "signal"
+kind_word kinds.Points = codes "points"
+kind_word kinds.Lock = codes "lock"
+kind_word kinds.Distant = codes "distant"
+kind_word kinds.Spare = codes "spare"
 
 -- the kind of a lever, where the frame has it
 abbrev pub kind_of : BoxFields → ℕ → Option Kind

@@ -1,12 +1,7 @@
 pub mod Limits
 pub mod Ways
 pub mod Frames
+pub mod Berths
 pub mod Plans
 pub mod Sections
-pub mod LineWords
-pub mod BoxLines
-pub mod Drafts
-pub mod Reading
-pub mod Printing
-pub mod Spelled
 pub mod Upgrades

@@ -1,5 +1,5 @@
 -- The lines between the boxes of a plan.
-use Rattle.std.specs.Prelude.{ℕ, ◌+◌, Bool, ◌&&◌, nat_lt}
+use Rattle.std.specs.Prelude.{ℕ, ◌+◌, Bool, ◌&&◌, nat_lt, List, codes}
 use Rattle.block_words.specs.Ways.{opposite}
 use Rattle.block_words.specs.declared.Way.{Way}
 use Rattle.block_words.specs.declared.Way.TheVariants.{Up, Down}
@@ -18,3 +18,8 @@ leaves boxes b way = has_neighbour boxes b way
 -- every box but the last
 abbrev pub comes_in : ℕ → ℕ → Way → Bool
 comes_in boxes b way = has_neighbour boxes b (opposite way)
+
+-- the word of a way
+abbrev pub way_word : Way → List ℕ
+way_word Up = codes "up"
+way_word Down = codes "down"

@@ -5,7 +5,7 @@ ghost use Rattle.std.specs.Prelude.{Some, bytes_eq};
 ghost use Rattle.locking_table.specs.Sound.{IsRow};
 ghost use Rattle.std.specs.List.{list_any};
 ghost use Rattle.std.specs.Prelude.{◌==◌};
-ghost use Rattle.line_plan.specs.BoxLines.{cleared, permitted, with_berth};
+ghost use Rattle.line_plan.specs.Berths.{cleared, permitted, with_berth};
 ghost use Rattle.line_plan.specs.Frames.{frame_size, signal_of};
 ghost use Rattle.line_plan.specs.Limits.{most_places, most_rows};
 ghost use Rattle.line_plan.specs.Plans.{no_box};
@@ -22,24 +22,6 @@ use locking_table::{Row, Table};
 use rail_text::{Names, NoMemory};
 use std::alloc::Global;
 use std::mem;
-
-/// The label of a name.
-pub fn label_of(alloc: Global, name: &str) -> Result<Label, NoMemory>
-    ensures { IfOk result (λ label. label ≡ name.now) }
-{
-    Ok(Label::from_string(String::from_str(alloc, name)?))
-}
-
-/// A name more, which is new.
-pub fn add_name(names: &mut Names, name: &str) -> Result<(), NoMemory>
-    requires few { length names.old < 2 ^ 32 }
-    requires new { list_any (bytes_eq name.now) names.old ≡ false }
-    ensures ok { OnOk result (names.new ≡ names.old ++ name.now ∷ []) }
-    ensures err { OnErr result (names.new ≡ names.old) }
-{
-    let _number = names.add(name)?;
-    Ok(())
-}
 
 // An item more, with its number, which is new.
 fn grow<T: Drop>(
@@ -86,7 +68,8 @@ impl BoxPlan {
         ensures ok { OnOk result (self.new ≡ record self.old { places = self.old.places ++ name.now ∷ [] }) }
         ensures err { OnErr result (self.new ≡ self.old) }
     {
-        add_name(&mut self.places, name)
+        self.places.add(name)?;
+        Ok(())
     }
 
     /// A lever more, whose number is above those of the others.

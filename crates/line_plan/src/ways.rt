@@ -1,7 +1,7 @@
 //! The lines between the boxes of a plan.
 
 ghost use Rattle.std.specs.Prelude.{◌≡◌};
-ghost use Rattle.line_plan.specs.Ways.{comes_in, has_neighbour, leaves};
+ghost use Rattle.line_plan.specs.Ways.{comes_in, has_neighbour, leaves, way_word};
 
 use block_words::Way;
 
@@ -30,4 +30,14 @@ pub fn comes_in(boxes: u32, box_no: u32, way: Way) -> bool
     ensures { result ≡ comes_in boxes box_no way }
 {
     has_neighbour(boxes, box_no, way.opposite())
+}
+
+/// The word of a way: `up` or `down`.
+pub fn way_word(way: Way) -> &'static str
+    ensures { result.now ≡ way_word way }
+{
+    match way {
+        Way::Up => "up",
+        Way::Down => "down",
+    }
 }

@@ -1,7 +1,7 @@
 -- The made line is a line with its scripts.
 use Rattle.std.proofs.Common.{◌≡◌, ℕ, List, Ok, sym, ap, subst, ◌∙◌}
 use Rattle.line_plan.specs.Plans.{PlanFields}
-use Rattle.line_plan.specs.Reading.{plan_of}
+use Rattle.plan_draft.specs.Reading.{plan_of}
 use Rattle.line_maker.specs.MadeCalls.{AreLineScripts, made_scripts}
 use Rattle.line_maker.specs.MadeTexts.{made_plan_text}
 use Rattle.script_text.specs.declared.script.Script.{Script}

@@ -2,7 +2,7 @@
 use Rattle.std.specs.Prelude.{ℕ, ◌≡◌, List, [], ◌∷◌, ◌++◌, Result, Ok, Err, length, codes, decimal}
 use Rattle.rail_text.specs.Gives.{Fault}
 use Rattle.line_plan.specs.Plans.{PlanFields}
-use Rattle.line_plan.specs.Reading.{plan_of}
+use Rattle.plan_draft.specs.Reading.{plan_of}
 use Rattle.line_law.specs.declared.call.Entry.{Entry}
 use Rattle.line_maker.specs.MadeCalls.{made_scripts}
 use Rattle.line_maker.specs.MadeTexts.{made_plan_text}

@@ -5,6 +5,7 @@ ghost use Rattle.line_law.specs.History.{IsLegal};
 ghost use Rattle.line_report.specs.Asked.{AreFewEntries};
 ghost use Rattle.script_text.specs.Entries.{IsSpelled};
 ghost use Rattle.line_runs.specs.Outputs.{output_of, output_text, output_told, run_journal};
+ghost use Rattle.train_register.specs.Registers.{registers_text};
 ghost use Rattle.text_fetch.specs.Runs.{AreScriptsOf, AreWorked, run_told, run_told_before};
 ghost use Rattle.text_fetch.specs.FromTexts.{HasShelfFault, Makes, named};
 
@@ -17,6 +18,21 @@ use rail_text::{NoMemory, Shelf};
 use std::alloc::Global;
 use text_fetch::{Inputs, Stop, fetch_inputs};
 use train_register::{Ended, put_registers};
+
+// Puts the registers of a journal behind a text.
+fn put_journal_registers(
+    out: &mut String,
+    alloc: Global,
+    plan: &Plan,
+    journal: &Journal,
+) -> Result<(), NoMemory>
+    requires spelled { All (IsSpelled plan.now) journal.now.entries }
+    ensures { OnOk result (string_bytes out.new ≡ string_bytes out.old ++ registers_text plan.now journal.now.entries) }
+{
+    let ended = Ended::of_journal(alloc, plan, journal)?;
+    put_registers(out, plan, &ended)?;
+    Ok(())
+}
 
 // Puts the whole output of a journal behind a text: the journal, the registers, the refused calls and the sections.
 #[tactic(auto, unfolding(crate::specs::Outputs::output_text))]
@@ -31,9 +47,8 @@ fn put_output(
     requires spelled { All (IsSpelled plan.now) journal.now.entries }
     ensures { OnOk result (string_bytes out.new ≡ string_bytes out.old ++ output_text plan.now journal.now.entries) }
 {
-    let ended = Ended::of_journal(alloc, plan, journal)?;
     put_journal(out, plan, journal)?;
-    put_registers(out, plan, &ended)?;
+    put_journal_registers(out, alloc, plan, journal)?;
     put_refusals(out, plan, journal)?;
     put_sections(out, alloc, plan, journal)
 }
@@ -57,6 +72,18 @@ pub fn worked_journal<G: Gate>(
     work_serially(alloc, plan, &inputs.scripts, gate)
 }
 
+// The whole output of a journal.
+fn journal_output(alloc: Global, plan: &Plan, journal: &Journal) -> Result<Vec<u8>, NoMemory>
+    requires legal { IsLegal plan.now journal.now.entries }
+    requires few { AreFewEntries journal.now.entries }
+    requires spelled { All (IsSpelled plan.now) journal.now.entries }
+    ensures { IfOk result (λ text. text.items ≡ output_text plan.now journal.now.entries) }
+{
+    let mut out = String::new(alloc);
+    put_output(&mut out, alloc, plan, journal)?;
+    Ok(out.into_bytes())
+}
+
 // The whole output of a plan and its scripts.
 fn output_text<G: Gate>(alloc: Global, inputs: &Inputs, gate: &G) -> Result<Vec<u8>, NoMemory>
     requires { AreScriptsOf inputs.now.plan inputs.now.scripts.items }
@@ -64,9 +91,9 @@ fn output_text<G: Gate>(alloc: Global, inputs: &Inputs, gate: &G) -> Result<Vec<
         ≡ output_of (record { plan = inputs.now.plan; scripts = inputs.now.scripts.items })) }
 {
     let journal = worked_journal(alloc, inputs, gate)?;
-    let mut out = String::new(alloc);
-    put_output(&mut out, alloc, &inputs.plan, &journal)?;
-    Ok(out.into_bytes())
+    let text = journal_output(alloc, &inputs.plan, &journal);
+    drop(journal);
+    text
 }
 
 /// The output of the run of the named texts; or why there is none.
@@ -86,7 +113,9 @@ pub fn run_outcome<S: Shelf, G: Gate>(
     ensures same { (n : List ℕ) → S.held shelf.new n ≡ S.held shelf.old n }
 {
     let inputs = fetch_inputs(alloc, shelf, plan_name, script_names)?;
-    match output_text(alloc, &inputs, gate) {
+    let text = output_text(alloc, &inputs, gate);
+    drop(inputs);
+    match text {
         Ok(text) => Ok(text),
         Err(NoMemory) => Err(Stop::NoMemory),
     }

@@ -2,10 +2,10 @@
 
 ghost use Rattle.std.specs.Prelude.{◌≡◌, ◌+◌, ◌<◌, ◌^◌, Some, IfOk, length};
 ghost use Rattle.line_law.specs.Lines.{IsLineOf};
-ghost use Rattle.line_law.specs.Serial.{AreLeft, calls_left, next_box, serial_journal};
+ghost use Rattle.line_law.specs.Serial.{AreLeft, calls_left, count_left, next_box, serial_journal};
 ghost use Rattle.line_runs.specs.Looks.{look_of};
 ghost use Rattle.line_runs.specs.Rosters.{calls_of_scripts};
-ghost use Rattle.line_runs.specs.Serial.{Turns};
+ghost use Rattle.line_runs.specs.Serial.{Turns, rest_of};
 ghost use Rattle.text_fetch.specs.Runs.{AreScriptsOf};
 
 use crate::gate::Gate;
@@ -15,7 +15,7 @@ use line_law::{Entry, Journal, Plain};
 use line_plan::{Items, Plan};
 use rail_text::NoMemory;
 use script_text::Script;
-use std::alloc::Global;
+use std::alloc::{AllocError, Global};
 
 // How a box stands, by its next call and what the line would reply to it.
 fn look_at(plain: &Plain, plan: &Plan, roster: &Roster<'_>, box_no: usize) -> Look
@@ -85,6 +85,26 @@ fn call_next<G: Gate>(
     }
 }
 
+// The entries of all calls that are left, made one at a time.
+fn worked_entries<G: Gate>(
+    alloc: Global,
+    plain: &mut Plain,
+    plan: &Plan,
+    roster: &mut Roster<'_>,
+    gate: &G,
+) -> Result<Vec<Entry>, AllocError>
+    requires line { IsLineOf plan.now plain.old }
+    requires left { AreLeft plan.now plain.old.line roster.old }
+    requires few { plain.old.calls + count_left roster.old < 2 ^ 32 }
+    ensures { IfOk result (λ entries. entries.items ≡ rest_of plan.now plain.old.line roster.old) }
+{
+    let mut entries = Vec::new(alloc);
+    while let Some(box_no) = next_box(plain, plan, roster) {
+        entries.push(call_next(plain, plan, roster, box_no, gate))?;
+    }
+    Ok(entries)
+}
+
 /// Works the scripts of all boxes on one thread. At each point the lowest box makes its next call that has one left and
 /// isn't stopped at an await that the line doesn't satisfy; where all are stopped, the lowest makes its await.
 pub fn work_serially<G: Gate>(
@@ -99,10 +119,7 @@ pub fn work_serially<G: Gate>(
     plan.meets_conditions();
     let mut plain = Plain::open(alloc, plan)?;
     let mut roster = Roster::new(alloc, scripts)?;
-    let mut entries = Vec::new(alloc);
-    while let Some(box_no) = next_box(&plain, plan, &roster) {
-        entries.push(call_next(&mut plain, plan, &mut roster, box_no, gate))?;
-    }
+    let entries = worked_entries(alloc, &mut plain, plan, &mut roster, gate)?;
     Ok(Journal {
         entries: Items::from_vec(entries),
     })

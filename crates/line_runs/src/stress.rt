@@ -50,6 +50,22 @@ fn put_summary(
     put_sections(out, alloc, plan, journal)
 }
 
+// The summary of a journal of the made line.
+fn journal_summary(
+    alloc: Global,
+    trains: u32,
+    plan: &Plan,
+    journal: &Journal,
+) -> Result<Vec<u8>, NoMemory>
+    requires legal { IsLegal plan.now journal.now.entries }
+    requires few { AreFewEntries journal.now.entries }
+    ensures { IfOk result (λ text. text.items ≡ summary_text trains plan.now journal.now.entries) }
+{
+    let mut out = String::new(alloc);
+    put_summary(&mut out, alloc, trains, plan, journal)?;
+    Ok(out.into_bytes())
+}
+
 // The made line of so many trains.
 fn made_inputs(alloc: Global, trains: u32) -> Result<Inputs, NoMemory>
     requires low { 1 ≤ trains }
@@ -78,9 +94,9 @@ fn summary_text<G: Gate>(
         (run_journal (record { plan = inputs.now.plan; scripts = inputs.now.scripts.items }))) }
 {
     let journal = worked_journal(alloc, inputs, gate)?;
-    let mut out = String::new(alloc);
-    put_summary(&mut out, alloc, trains, &inputs.plan, &journal)?;
-    Ok(out.into_bytes())
+    let text = journal_summary(alloc, trains, &inputs.plan, &journal);
+    drop(journal);
+    text
 }
 
 /// The summary of the made line of so many trains, worked by its own scripts; or that memory ran out.
@@ -92,5 +108,7 @@ pub fn stress_outcome<G: Gate>(alloc: Global, trains: u32, gate: &G) -> Result<V
     ensures no_fault { IsErrOf result Stop.ShelfFault → ⊥ }
 {
     let inputs = made_inputs(alloc, trains)?;
-    Ok(summary_text(alloc, trains, &inputs, gate)?)
+    let text = summary_text(alloc, trains, &inputs, gate);
+    drop(inputs);
+    Ok(text?)
 }

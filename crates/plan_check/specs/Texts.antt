@@ -2,7 +2,7 @@
 use Rattle.std.specs.Prelude.{ℕ, List, [], ◌∷◌, ◌++◌, length, codes, decimal}
 use Rattle.std.specs.List.{flat_map}
 use Rattle.line_plan.specs.Plans.{PlanFields, box_name}
-use Rattle.line_plan.specs.Printing.{way_word}
+use Rattle.line_plan.specs.Ways.{way_word}
 use Rattle.line_plan.specs.Sections.{advance_of}
 use Rattle.line_plan.specs.declared.section.Section.{Section}
 use Rattle.plan_check.specs.declared.finding.Finding.{Finding}

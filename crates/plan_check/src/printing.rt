@@ -3,7 +3,7 @@
 ghost use Rattle.std.specs.Prelude.{◌≡◌, ◌<◌, ◌++◌, ◌∷◌, All, IfOk, OnOk, length, string_bytes};
 ghost use Rattle.std.specs.List.{flat_map};
 ghost use Rattle.line_plan.specs.Plans.{box_name};
-ghost use Rattle.line_plan.specs.Printing.{way_word};
+ghost use Rattle.line_plan.specs.Ways.{way_word};
 ghost use Rattle.line_plan.specs.Sections.{IsSection, advance_of};
 ghost use Rattle.plan_check.specs.Found.{IsOfPlan};
 ghost use Rattle.plan_check.specs.Texts.{box_text, clash_text, finding_text, findings_text, gap_text, lever_text};

@@ -12,3 +12,5 @@ pub mod Binds
 pub mod Keeps
 pub mod PrintedWords
 pub mod Limits
+pub mod KeptLines
+pub mod Texts

@@ -12,3 +12,4 @@ pub mod Gives
 pub mod Words
 pub mod Forms
 pub mod Texts
+pub mod Kept

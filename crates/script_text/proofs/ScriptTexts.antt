@@ -20,7 +20,7 @@ use Rattle.rail_text.proofs.Limits.{limited-take}
 use Rattle.rail_text.proofs.PrintedLines.{joined-words_of, some_words, lines_of-printed}
 use Rattle.rail_text.proofs.PrintedWords.{name_is_word, length-name, joined_lacks_line_end, words_of-words, form_of-words}
 use Rattle.line_plan.specs.Plans.{PlanFields, IsPlan, names_of, box_name}
-use Rattle.line_plan.specs.Spelled.{is_formed, kept, words_text}
+use Rattle.rail_text.specs.Kept.{is_formed, kept, words_text}
 use Rattle.line_law.specs.Known.{KnowsCall, moments_of}
 use Rattle.line_law.specs.Serial.{AreCalls}
 use Rattle.line_law.specs.declared.call.Call.{Call}
@@ -36,7 +36,7 @@ use Rattle.script_text.specs.Spelled.{script_lines, SpellsScript}
 use Rattle.script_text.proofs.Named.{valid_at}
 use Rattle.script_text.proofs.CallTexts.{moment_in_is, IsCall, moment_and_act, call_text-words, moment_read, act_of-words, moment_word, call_words_are, words_of-call, length-call_text}
 use Rattle.script_text.proofs.InTurn.{last_moment, AreCalls-more, last_moment-more}
-use Rattle.line_plan.proofs.KeptLines.{all_onto, lines_are, IsWords, AllWords, words_formed, words_kept, lines_read}
+use Rattle.rail_text.proofs.KeptLines.{all_onto, lines_are, IsWords, AllWords, words_formed, words_kept, lines_read}
 
 -- ---- the lines of the script so far
 

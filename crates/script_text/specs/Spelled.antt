@@ -3,7 +3,7 @@ use Rattle.std.specs.Prelude.{◌≡◌, ◌≤◌, ℕ, true, IsTrue, List, [],
 use Rattle.std.specs.List.{list_all}
 use Rattle.rail_text.specs.Lines.{lines_of}
 use Rattle.line_plan.specs.Plans.{PlanFields, box_name}
-use Rattle.line_plan.specs.Spelled.{is_formed, kept, words_text}
+use Rattle.rail_text.specs.Kept.{is_formed, kept, words_text}
 use Rattle.line_law.specs.Known.{KnowsCall}
 use Rattle.line_law.specs.declared.call.Act.{Act}
 use Rattle.line_law.specs.declared.call.Call.{Call}

@@ -13,7 +13,7 @@ use rail_text::NoMemory;
 use std::alloc::{AllocError, Global};
 
 // Puts the lines of calls behind a text.
-#[tactic(auto, using(line_plan::proofs::Texts::texts))]
+#[tactic(auto, using(rail_text::proofs::Texts::texts))]
 fn put_calls(out: &mut String, plan: &Plan, box_no: u32, calls: &[Call]) -> Result<(), AllocError>
     requires { All (λ call. KnowsCall plan.now box_no call) calls.now }
     ensures { OnOk result (string_bytes out.new

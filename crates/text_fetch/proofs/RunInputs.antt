@@ -4,7 +4,7 @@ use Rattle.std.proofs.lemmas.Bool.Decides.{eqb_tells}
 use Rattle.rail_text.specs.Causes.{Rose}
 use Rattle.rail_text.specs.declared.cause.Cause.TheVariants as causes
 use Rattle.line_plan.specs.Plans.{PlanFields}
-use Rattle.line_plan.specs.Reading.{plan_of}
+use Rattle.plan_draft.specs.Reading.{plan_of}
 use Rattle.script_text.specs.declared.script.Script.{Script}
 use Rattle.text_fetch.specs.declared.stop.Stop.{Stop}
 use Rattle.text_fetch.specs.declared.stop.Stop.TheVariants as stops

@@ -5,7 +5,7 @@ use Rattle.std.specs.Borrow.{Bor}
 use Rattle.rail_text.specs.Causes.{Rose}
 use Rattle.rail_text.specs.Gives.{Fault}
 use Rattle.line_plan.specs.Plans.{PlanFields}
-use Rattle.line_plan.specs.Reading.{plan_of}
+use Rattle.plan_draft.specs.Reading.{plan_of}
 use Rattle.text_fetch.specs.declared.stop.Stop.{Stop}
 use Rattle.text_fetch.specs.declared.stop.Stop.TheVariants as stops
 

@@ -3,13 +3,14 @@
 ghost use Rattle.std.specs.Prelude.{◌≡◌, ℕ, ◌+◌, ◌≤◌, ◌<◌, ◌^◌, List, IfOk, IfErr, IfSome, IsErrOf, length, take};
 ghost use Rattle.rail_text.specs.Causes.{Rose};
 ghost use Rattle.line_plan.specs.Plans.{IsPlan};
-ghost use Rattle.line_plan.specs.Reading.{plan_of};
+ghost use Rattle.plan_draft.specs.Reading.{plan_of};
 ghost use Rattle.script_text.specs.Scripts.{IsScriptOf, script_of};
 ghost use Rattle.text_fetch.specs.FromTexts.{Makes, text_told};
 ghost use Rattle.text_fetch.specs.Fetches.{IsNoRefusal, IsStopOf};
 
 use crate::stop::Stop;
-use line_plan::{PLAN_LIMIT, Plan, read_plan};
+use line_plan::{PLAN_LIMIT, Plan};
+use plan_text::read_plan;
 use rail_text::{FetchFault, ReadError, Shelf};
 use script_text::{SCRIPT_LIMIT, Script, read_script};
 use std::alloc::Global;

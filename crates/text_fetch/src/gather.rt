@@ -64,12 +64,18 @@ pub fn fetch_inputs<S: Shelf>(
 {
     let plan = fetch_plan(alloc, shelf, plan_name)?;
     if script_names.len() != plan.boxes.len() {
+        drop(plan);
         return Err(Stop::Refused {
             text: 1,
             line: 0,
             cause: Cause::ScriptCount,
         });
     }
-    let scripts = fetch_scripts(alloc, shelf, &plan, script_names)?;
-    Ok(Inputs { plan, scripts })
+    match fetch_scripts(alloc, shelf, &plan, script_names) {
+        Ok(scripts) => Ok(Inputs { plan, scripts }),
+        Err(stop) => {
+            drop(plan);
+            Err(stop)
+        }
+    }
 }

@@ -1,15 +1,18 @@
 //! Journals as they are read and printed, byte for byte.
 
+use crate::facts::{all_hold, is_text, none_is_wrong, shows_itself};
 use crate::lines::NAMES;
-use line_law::Entry;
-use line_plan::{Plan, read_plan};
+use block_words::Way;
+use line_law::{Act, Call, Entry, Reply};
+use line_plan::Plan;
 use line_report::{
     histories_can_be_printed, journals_law, most_journal_bytes, print_journal, put_entry,
     put_journal, read_journal,
 };
+use plan_text::read_plan;
 use rail_text::ReadError;
-use std::alloc::Global;
-use std::process::Abort;
+use script_text::is_spelled;
+use std::alloc::{AllocError, Global};
 use std::test::Fail;
 
 const IN_SECONDS: &str = "plan 2\nboxes 2\ndelay 2\nlooks 1000000000\nbox Ash\nbox Beech\nend\n";
@@ -35,85 +38,114 @@ const HEARD: &str = "journal 2\n\
     3 Ash 23:59:59 hear down -> silent 0\n\
     end\n";
 
-// A journal is printed back.
-fn is_printed_back(
-    rt: &impl Abort,
-    alloc: Global,
-    plan: &Plan,
-    text: &str,
-) -> Result<(), ReadError> {
-    let journal = read_journal(alloc, plan, text.as_bytes())?;
-    let printed = print_journal(alloc, plan, &journal)?;
-    assert_eq!(rt; printed.as_slice(), text.as_bytes());
-    Ok(())
-}
-
-#[test]
-fn journals_in_minutes_are_printed_back(rt: HostRuntime) -> Result<(), Fail> {
-    let plan = read_plan(rt.alloc(), NAMES.as_bytes())?;
-    for text in ["journal 1\nend\n", EXCHANGE, REFUSED] {
-        is_printed_back(&rt, rt.alloc(), &plan, text)?;
-    }
-    Ok(())
-}
-
-#[test]
-fn journals_in_seconds_are_printed_back(rt: HostRuntime) -> Result<(), Fail> {
-    let plan = read_plan(rt.alloc(), IN_SECONDS.as_bytes())?;
-    for text in ["journal 2\nend\n", HEARD] {
-        is_printed_back(&rt, rt.alloc(), &plan, text)?;
-    }
-    Ok(())
-}
-
 const BUSY: &str = "journal 1\n1 Beech 10:00 ring up 3-1 -> bell_busy 4 1\nend\n";
 
-// The entry that is read of the text.
-fn shows_its_entry(rt: &impl Abort, alloc: Global, entries: &[Entry]) -> Result<(), Fail> {
-    assert!(rt; entries.len() == 1);
-    let shown = format!(in alloc; "{:?}", entries[0])?;
-    assert_eq!(rt;
-        shown.as_str(),
-        "Entry { box_no: 1, call: Call { moment: 600, act: Ring { side: Up, code: 3 } }, \
-        reply: BellBusy { k: 4, code: 1 } }"
-    );
+const BUSY_SHOWN: &str = "Journal { entries: Items { items: [Entry { box_no: 1, \
+    call: Call { moment: 600, act: Ring { side: Up, code: 3 } }, \
+    reply: BellBusy { k: 4, code: 1 } }] } }";
+
+// Whether a journal is printed back.
+fn is_printed_back(alloc: Global, plan: &Plan, text: &str) -> Result<bool, ReadError> {
+    let journal = read_journal(alloc, plan, text.as_bytes())?;
+    let printed = print_journal(alloc, plan, &journal);
+    drop(journal);
+    Ok(is_text(printed?, text))
+}
+
+// The first of these journals that isn't printed back.
+fn first_misprinted(alloc: Global, plan: &Plan, texts: &[&'static str]) -> Option<&'static str> {
+    for text in texts {
+        let Ok(true) = is_printed_back(alloc, plan, text) else {
+            return Some(text);
+        };
+    }
+    None
+}
+
+// Whether a journal shows itself so.
+fn is_shown(alloc: Global, plan: &Plan, text: &str, wanted: &str) -> Result<bool, ReadError> {
+    let journal = read_journal(alloc, plan, text.as_bytes())?;
+    let is_wanted = shows_itself(alloc, &journal, wanted);
+    drop(journal);
+    Ok(is_wanted?)
+}
+
+// Puts an entry of Beech with another number behind a text.
+fn put_renumbered(out: &mut String, plan: &Plan) -> Result<(), AllocError> {
+    let side = Way::Up;
+    let act = Act::Ring { side, code: 3 };
+    let reply = Reply::BellBusy { k: 4, code: 1 };
+    let call = Call { moment: 600, act };
+    let entry = Entry {
+        box_no: 1,
+        call,
+        reply,
+    };
+    if is_spelled(plan, &entry) {
+        put_entry(out, plan, 2, &entry)?;
+    }
+    Ok(())
+}
+
+// Puts a journal behind a text.
+fn put_whole(out: &mut String, alloc: Global, plan: &Plan, text: &str) -> Result<(), ReadError> {
+    let journal = read_journal(alloc, plan, text.as_bytes())?;
+    let done = put_journal(out, plan, &journal);
+    drop(journal);
+    Ok(done?)
+}
+
+// Puts an entry and the journal that has it behind a text.
+fn put_both(out: &mut String, alloc: Global, plan: &Plan) -> Result<(), ReadError> {
+    out.push_str("refusals 1\n")?;
+    put_renumbered(out, plan)?;
+    put_whole(out, alloc, plan, BUSY)
+}
+
+// Whether they stand there.
+fn stand_behind_a_text(alloc: Global, plan: &Plan) -> Result<bool, ReadError> {
+    let mut out = String::new(alloc);
+    let done = put_both(&mut out, alloc, plan);
+    let is_wanted = out.as_str()
+        == "refusals 1\n2 Beech 10:00 ring up 3-1 -> bell_busy 4 1\n\
+        journal 1\n1 Beech 10:00 ring up 3-1 -> bell_busy 4 1\nend\n";
+    drop(out);
+    done?;
+    Ok(is_wanted)
+}
+
+#[test]
+fn journals_in_minutes(rt: HostRuntime) -> Result<(), Fail> {
+    let plan = read_plan(rt.alloc(), NAMES.as_bytes())?;
+    let texts = &["journal 1\nend\n", EXCHANGE, REFUSED];
+    let misprinted = first_misprinted(rt.alloc(), &plan, texts);
+    let is_shown = is_shown(rt.alloc(), &plan, BUSY, BUSY_SHOWN);
+    let stand_behind = stand_behind_a_text(rt.alloc(), &plan);
+    drop(plan);
+    none_is_wrong(&rt, misprinted);
+    let facts = [("the entry", is_shown?), ("behind a text", stand_behind?)];
+    all_hold(&rt, &facts);
     Ok(())
 }
 
 #[test]
-fn entries_are_those_of_the_text(rt: HostRuntime) -> Result<(), Fail> {
-    let plan = read_plan(rt.alloc(), NAMES.as_bytes())?;
-    let journal = read_journal(rt.alloc(), &plan, BUSY.as_bytes())?;
-    shows_its_entry(&rt, rt.alloc(), journal.entries.as_slice())
-}
-
-// A journal's first entry with another number and the journal, behind a text.
-fn put_behind(rt: &impl Abort, alloc: Global, plan: &Plan, text: &str) -> Result<String, Fail> {
-    let journal = read_journal(alloc, plan, text.as_bytes())?;
-    let entries = journal.entries.as_slice();
-    assert!(rt; entries.len() == 1);
-    let mut out = String::from_str(alloc, "refusals 1\n")?;
-    put_entry(&mut out, plan, 2, &entries[0])?;
-    put_journal(&mut out, plan, &journal)?;
-    Ok(out)
-}
-
-#[test]
-fn entries_stand_behind_a_text(rt: HostRuntime) -> Result<(), Fail> {
-    let plan = read_plan(rt.alloc(), NAMES.as_bytes())?;
-    let out = put_behind(&rt, rt.alloc(), &plan, BUSY)?;
-    assert_eq!(rt;
-        out.as_str(),
-        "refusals 1\n2 Beech 10:00 ring up 3-1 -> bell_busy 4 1\n\
-        journal 1\n1 Beech 10:00 ring up 3-1 -> bell_busy 4 1\nend\n"
-    );
+fn journals_in_seconds(rt: HostRuntime) -> Result<(), Fail> {
+    let plan = read_plan(rt.alloc(), IN_SECONDS.as_bytes())?;
+    let misprinted = first_misprinted(rt.alloc(), &plan, &["journal 2\nend\n", HEARD]);
+    drop(plan);
+    none_is_wrong(&rt, misprinted);
     Ok(())
 }
 
 #[test]
 fn limits_and_laws(rt: HostRuntime) {
-    assert_eq!(rt; most_journal_bytes(1), 67_108_864);
-    assert_eq!(rt; most_journal_bytes(2), 134_217_728);
+    all_hold(
+        &rt,
+        &[
+            ("64 MiB in minutes", most_journal_bytes(1) == 67_108_864),
+            ("128 MiB in seconds", most_journal_bytes(2) == 134_217_728),
+        ],
+    );
     histories_can_be_printed();
     journals_law();
 }

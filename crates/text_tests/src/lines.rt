@@ -1,6 +1,7 @@
 //! The plans of the tests.
 
-use line_plan::{Plan, read_plan};
+use line_plan::Plan;
+use plan_text::read_plan;
 use rail_text::ReadError;
 use std::alloc::{AllocError, Global};
 
@@ -26,5 +27,7 @@ fn three_boxes(alloc: Global, version: u8) -> Result<String, AllocError> {
 /// The plan of three boxes, in a version.
 pub fn plan_of_three(alloc: Global, version: u8) -> Result<Plan, ReadError> {
     let text = three_boxes(alloc, version)?;
-    read_plan(alloc, text.as_bytes())
+    let plan = read_plan(alloc, text.as_bytes());
+    drop(text);
+    plan
 }

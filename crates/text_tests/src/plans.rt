@@ -1,14 +1,15 @@
-//! Plans: what is asked of them, their printing in version 1, and the cut of each beginning.
+//! Plans: what is asked of them, and their printing in version 1.
 
+use crate::facts::{all_hold, is_text};
 use crate::lines::{NAMES, plan_of_three};
 use block_words::Way;
 use line_plan::{
-    BoxPlan, Items, Kind, Label, Numbers, Plan, To, comes_in, has_neighbour, kind_word, leaves,
-    most_boxes, most_delay, print_plan, printed_is_read, read_is_a_plan, read_plan,
-    spelled_is_read, upgrade, way_word,
+    BoxPlan, Items, Kind, Label, Numbers, Plan, comes_in, has_neighbour, kind_word, leaves,
+    most_boxes, most_delay, way_word,
 };
-use rail_text::{Cause, NoMemory, ReadError, text_error};
-use std::alloc::{AllocError, Global};
+use plan_text::{print_plan, printed_is_read, read_is_a_plan, read_plan, spelled_is_read, upgrade};
+use rail_text::{NoMemory, ReadError};
+use std::alloc::Global;
 use std::process::Abort;
 use std::test::Fail;
 
@@ -19,18 +20,19 @@ row 2 locks 5 normal\nrow 3 locks 4 both ways\nrow 1 locks 2 normal when 6 rever
 box Beech\nplace B\nplace M\nlever 1 signal\nsignal 1 B M\nberth down B\nclear down M\n\
 train t1 ordinary Ash P\ntrain t2 express Ash P\ntrain t3 light Ash Q\ntrain t4 empty Ash P\nend\n";
 
-// The numbers of a plan are these: version, delay, looks, codes and boxes.
-fn has_numbers(
-    rt: &impl Abort,
-    alloc: Global,
-    plan: &Plan,
-    wanted: &str,
-) -> Result<(), AllocError> {
-    let (version, delay, looks) = (plan.version, plan.delay, plan.looks);
-    let (codes, boxes) = (plan.codes.len(), plan.boxes.len());
-    let numbers = format!(in alloc; "{version} {delay} {looks} {codes} {boxes}")?;
-    assert_eq!(rt; numbers.as_str(), wanted);
-    Ok(())
+// The numbers of a plan: its version, delay and looks, and how many codes and boxes it has.
+fn numbers_of(plan: &Plan) -> [usize; 5] {
+    let version = usize::from(plan.version);
+    let (delay, looks) = (plan.delay as usize, plan.looks as usize);
+    [version, delay, looks, plan.codes.len(), plan.boxes.len()]
+}
+
+// The numbers of the upgraded plan.
+fn upgraded_numbers(alloc: Global, plan: &Plan) -> Result<[usize; 5], NoMemory> {
+    let newer = upgrade(alloc, plan)?;
+    let numbers = numbers_of(&newer);
+    drop(newer);
+    Ok(numbers)
 }
 
 // Whether its boxes are Ash and Beech alone.
@@ -42,130 +44,166 @@ fn has_two_names(plan: &Plan) -> bool {
         && plan.box_names.number_of("Cedar").is_none()
 }
 
-// The numbers of the upgraded plan are these.
-fn upgrades_to(rt: &impl Abort, alloc: Global, plan: &Plan, wanted: &str) -> Result<(), NoMemory> {
-    let newer = upgrade(alloc, plan)?;
-    Ok(has_numbers(rt, alloc, &newer, wanted)?)
-}
-
 #[test]
 fn plan_of_two_names_is_read(rt: HostRuntime) -> Result<(), Fail> {
     let plan = read_plan(rt.alloc(), NAMES.as_bytes())?;
-    assert!(rt; has_two_names(&plan));
-    has_numbers(&rt, rt.alloc(), &plan, "1 2 1000000000 10 2")?;
-    Ok(upgrades_to(&rt, rt.alloc(), &plan, "2 120 1000000000 10 2")?)
-}
-
-// A plan is printed as this text.
-fn is_printed_as(rt: &impl Abort, alloc: Global, plan: &Plan, text: &str) -> Result<(), NoMemory> {
-    let printed = print_plan(alloc, plan)?;
-    assert_eq!(rt; printed.as_slice(), text.as_bytes());
+    let has_names = has_two_names(&plan);
+    let numbers = numbers_of(&plan);
+    let newer = upgraded_numbers(rt.alloc(), &plan);
+    drop(plan);
+    let newer = newer?;
+    all_hold(
+        &rt,
+        &[
+            ("two names", has_names),
+            ("numbers", numbers == [1, 2, 1_000_000_000, 10, 2]),
+            ("upgraded", newer == [2, 120, 1_000_000_000, 10, 2]),
+        ],
+    );
     Ok(())
 }
 
-// A text that spells a plan is printed back.
-fn is_printed_back(rt: &impl Abort, alloc: Global, text: &str) -> Result<(), ReadError> {
+// Whether a text is read as a plan that is printed so.
+fn is_printed_back(alloc: Global, text: &str) -> Result<bool, ReadError> {
     let plan = read_plan(alloc, text.as_bytes())?;
-    Ok(is_printed_as(rt, alloc, &plan, text)?)
+    let printed = print_plan(alloc, &plan);
+    drop(plan);
+    Ok(is_text(printed?, text))
 }
 
 #[test]
 fn plans_in_minutes_are_printed_back(rt: HostRuntime) -> Result<(), Fail> {
-    is_printed_back(&rt, rt.alloc(), NAMES)?;
-    Ok(is_printed_back(&rt, rt.alloc(), FRAMES)?)
+    let names = is_printed_back(rt.alloc(), NAMES)?;
+    let frames = is_printed_back(rt.alloc(), FRAMES)?;
+    all_hold(&rt, &[("names", names), ("frames", frames)]);
+    Ok(())
 }
 
-// Why the text is refused, if it is.
-fn fault_of(alloc: Global, text: &[u8]) -> Option<ReadError> {
-    read_plan(alloc, text).err()
+// What the middle box tells of its levers.
+fn lever_facts(beech: &BoxPlan) -> [(&'static str, bool); 4] {
+    [
+        ("lever 7 works points", beech.kind(7) == Some(Kind::Points)),
+        ("there is a lever 120", beech.lever(120).is_some()),
+        ("there is no lever 5", beech.lever(5).is_none()),
+        ("lever 120 is the last", beech.frame_size() == 120),
+    ]
 }
 
-// Each proper prefix has a line that is cut, or no line `end`.
-#[test]
-fn no_prefix_is_a_plan(rt: HostRuntime) {
-    let text = NAMES.as_bytes();
-    let mut line = 1;
-    let mut cause = Cause::NoEnd;
-    for (length, byte) in text.iter().enumerate() {
-        let fault = fault_of(rt.alloc(), &text[..length]);
-        assert_eq!(rt; fault, Some(text_error(line, cause)), "of {length} bytes");
-        cause = Cause::Cut;
-        if *byte == b'\n' {
-            assert!(rt; line < 8);
-            line += 1;
-            cause = Cause::NoEnd;
+// What it tells of its signals and tracks.
+fn signal_facts(beech: &BoxPlan) -> [(&'static str, bool); 6] {
+    [
+        ("lever 3 works a signal", beech.signal(3).is_some()),
+        ("an up starter", beech.starter(Way::Up).is_some()),
+        ("a down berth", beech.berth(Way::Down).is_some()),
+        ("place 1 locks lever 7", beech.track(7) == [1].as_slice()),
+        ("a track locks lever 7", beech.has_track(7)),
+        ("none locks lever 1", !beech.has_track(1)),
+    ]
+}
+
+// Whether the plan's last train is its third, with this name.
+fn ends_with_train(plan: &Plan, name: &str) -> bool {
+    plan.is_train(3) && !plan.is_train(4) && plan.train(3).name.as_str() == name
+}
+
+// Whether the plan has three boxes, and what the middle one tells.
+fn middle_holds(rt: &impl Abort, plan: &Plan) -> bool {
+    match plan.boxes.as_slice() {
+        [_, beech, _] => {
+            all_hold(rt, &lever_facts(beech));
+            all_hold(rt, &signal_facts(beech));
+            true
         }
+        _ => false,
     }
-    assert_eq!(rt; fault_of(rt.alloc(), text), None);
-}
-
-// What Beech tells of its levers and signals.
-fn tells_its_frame(rt: &impl Abort, beech: &BoxPlan) {
-    assert_eq!(rt; beech.kind(7), Some(Kind::Points));
-    assert!(rt; beech.lever(120).is_some() && beech.lever(5).is_none());
-    assert_eq!(rt; beech.frame_size(), 120);
-    assert!(rt; beech.signal(3).is_some() && beech.starter(Way::Up).is_some());
-    assert!(rt; beech.berth(Way::Down).is_some());
-    assert_eq!(rt; beech.track(7), [1].as_slice());
-    assert!(rt; beech.has_track(7) && !beech.has_track(1));
-}
-
-// What the plan tells of its trains.
-fn tells_its_trains(rt: &impl Abort, plan: &Plan) {
-    assert!(rt; plan.is_train(3) && !plan.is_train(4));
-    assert_eq!(rt; plan.train(3).name.as_str(), "none");
 }
 
 #[test]
 fn boxes_and_trains_are_told(rt: HostRuntime) -> Result<(), Fail> {
     let plan = plan_of_three(rt.alloc(), 1)?;
-    assert!(rt; plan.boxes.len() == 3);
-    tells_its_frame(&rt, &plan.boxes.as_slice()[1]);
-    tells_its_trains(&rt, &plan);
+    let has_three = middle_holds(&rt, &plan);
+    let ends_with_none = ends_with_train(&plan, "none");
+    drop(plan);
+    all_hold(
+        &rt,
+        &[
+            ("three boxes", has_three),
+            ("the third train is the last", ends_with_none),
+        ],
+    );
     Ok(())
 }
 
 #[test]
 fn lines_leave_and_come_in(rt: HostRuntime) {
-    assert!(rt; has_neighbour(3, 1, Way::Up) && !has_neighbour(3, 2, Way::Down));
-    assert!(rt; leaves(3, 0, Way::Down) && !leaves(3, 0, Way::Up));
-    assert!(rt; comes_in(3, 0, Way::Up) && !comes_in(3, 0, Way::Down));
+    let facts = [
+        ("up of the middle box", has_neighbour(3, 1, Way::Up)),
+        ("down of the last box", !has_neighbour(3, 2, Way::Down)),
+        ("the down line leaves the first", leaves(3, 0, Way::Down)),
+        ("the up line doesn't", !leaves(3, 0, Way::Up)),
+        ("the up line comes in there", comes_in(3, 0, Way::Up)),
+        ("the down line doesn't", !comes_in(3, 0, Way::Down)),
+    ];
+    all_hold(&rt, &facts);
 }
 
 #[test]
-fn words_of_ways_and_kinds(rt: HostRuntime) {
-    assert_eq!(rt; way_word(Way::Up), "up");
-    assert_eq!(rt; way_word(Way::Down), "down");
-    assert_eq!(rt; kind_word(Kind::Lock), "lock");
-}
-
-#[test]
-fn limits_of_both_versions(rt: HostRuntime) {
-    for (version, boxes, delay) in [(1, 32, 60), (2, 64, 3600)] {
-        assert_eq!(rt; most_boxes(version), boxes);
-        assert_eq!(rt; most_delay(version), delay);
-    }
+fn words_and_limits(rt: HostRuntime) {
+    let facts = [
+        ("up", way_word(Way::Up) == "up"),
+        ("down", way_word(Way::Down) == "down"),
+        ("lock", kind_word(Kind::Lock) == "lock"),
+        ("32 boxes", most_boxes(1) == 32),
+        ("60 minutes", most_delay(1) == 60),
+        ("64 boxes", most_boxes(2) == 64),
+        ("3600 seconds", most_delay(2) == 3600),
+    ];
+    all_hold(&rt, &facts);
 }
 
 #[test]
 fn lists_keep_their_items(rt: HostRuntime) -> Result<(), Fail> {
     let mut items = Items::from_vec([7, 8].to_vec(rt.alloc())?);
-    assert!(rt; items.len() == 2 && !items.is_empty());
+    let has_two = items.len() == 2 && !items.is_empty();
     items.set(1, 9);
-    assert_eq!(rt; items.as_slice(), [7, 9].as_slice());
-    assert_eq!(rt; items.into_vec().len(), 2);
+    let is_set = items.as_slice() == [7, 9].as_slice();
+    let given_back = items.into_vec();
+    let is_given_back = given_back.as_slice() == [7, 9].as_slice();
+    drop(given_back);
+    all_hold(
+        &rt,
+        &[
+            ("two items", has_two),
+            ("set", is_set),
+            ("given back", is_given_back),
+        ],
+    );
     Ok(())
 }
 
 #[test]
-fn labels_and_numbers(rt: HostRuntime) -> Result<(), Fail> {
+fn labels_keep_their_text(rt: HostRuntime) -> Result<(), Fail> {
     let label = Label::from_string(String::from_str(rt.alloc(), "Ash")?);
-    assert_eq!(rt; label.as_str(), "Ash");
-    assert_eq!(rt; label.into_string().as_str(), "Ash");
+    let is_ash = label.as_str() == "Ash";
+    let text = label.into_string();
+    let is_given_back = text.as_str() == "Ash";
+    drop(text);
+    all_hold(&rt, &[("the text", is_ash), ("given back", is_given_back)]);
+    Ok(())
+}
+
+#[test]
+fn numbers_have_their_places(rt: HostRuntime) -> Result<(), Fail> {
     let mut numbers = Numbers::new(rt.alloc());
-    numbers.add(8)?;
-    assert_eq!(rt; numbers.place_of(8), Some(0));
-    assert_eq!(rt; numbers.place_of(9), None);
+    let added = numbers.add(8);
+    let is_first = numbers.place_of(8) == Some(0);
+    let is_nowhere = numbers.place_of(9).is_none();
+    drop(numbers);
+    added?;
+    all_hold(
+        &rt,
+        &[("8 is the first", is_first), ("9 is nowhere", is_nowhere)],
+    );
     Ok(())
 }
 

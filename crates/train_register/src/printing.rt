@@ -69,7 +69,7 @@ pub fn print_register(alloc: Global, plan: &Plan, register: &Register) -> Result
 }
 
 // These registers, one after another.
-#[tactic(auto, using(line_plan::proofs::Texts::texts))]
+#[tactic(auto, using(rail_text::proofs::Texts::texts))]
 fn put_each(out: &mut String, plan: &Plan, registers: &[Register]) -> Result<(), AllocError>
     requires { All (IsPrintable plan.now) registers.now }
     ensures { OnOk result (string_bytes out.new

@@ -3,7 +3,7 @@
 use crate::case_line::{CaseLine, read_case_line};
 use crate::line_fault::LineFault;
 use crate::spelling::{spell, spell_times};
-use crate::worked_case::{Answer, Case};
+use crate::worked_case::{Answer, Case, push_word};
 use std::alloc::{AllocError, Global};
 use std::mem;
 
@@ -50,10 +50,23 @@ fn split_words(alloc: Global, words: Option<&str>) -> Result<Vec<String>, AllocE
     let mut owned = Vec::new(alloc);
     if let Some(words) = words {
         for word in words.split(' ') {
-            owned.push(String::from_str(alloc, word)?)?;
+            push_word(alloc, &mut owned, word)?;
         }
     }
     Ok(owned)
+}
+
+// Puts a copy of a text behind others, under its name.
+fn push_text(
+    alloc: Global,
+    texts: &mut Vec<(String, Vec<u8>)>,
+    name: &str,
+    text: &[u8],
+) -> Result<(), AllocError> {
+    let name = String::from_str(alloc, name)?;
+    let text = text.to_vec(alloc)?;
+    texts.push((name, text))?;
+    Ok(())
 }
 
 impl<'a> CaseReader<'a> {
@@ -86,59 +99,86 @@ impl<'a> CaseReader<'a> {
         Ok(self.fronts.len() - 1)
     }
 
+    // The front of the text that each case spells, if there is one.
+    fn front(&self) -> &[u8] {
+        match self.place {
+            Place::Each(place) => match self.fronts.get(place) {
+                Some(front) => front.1.as_slice(),
+                None => &[],
+            },
+            _ => &[],
+        }
+    }
+
     // The text of a case begins with its front.
     fn begin_case(&mut self) -> Result<Vec<u8>, AllocError> {
-        let front = match self.place {
-            Place::Each(place) => match self.fronts.get(place) {
-                Some(front) => front.1.to_vec(self.alloc)?,
-                None => Vec::new(self.alloc),
-            },
-            _ => Vec::new(self.alloc),
-        };
+        let front = self.front().to_vec(self.alloc)?;
         self.has_part = false;
         Ok(mem::replace(&mut self.text, front))
     }
 
-    // The texts of the case: the fronts, and the text that the case spells in the place of its front.
-    fn take_texts(&mut self) -> Result<Vec<(String, Vec<u8>)>, AllocError> {
+    // The fronts, with the text that a case spells in the place of its front.
+    fn texts_of(&self, spelled: &[u8]) -> Result<Vec<(String, Vec<u8>)>, AllocError> {
         let mut texts = Vec::new(self.alloc);
-        let mut spelled = Some(self.begin_case()?);
         for (number, front) in self.fronts.iter().enumerate() {
-            let own = if self.place == Place::Each(number) {
-                spelled.take()
+            let text = if self.place == Place::Each(number) {
+                spelled
             } else {
-                None
+                front.1.as_slice()
             };
-            let text = match own {
-                Some(text) => text,
-                None => front.1.to_vec(self.alloc)?,
-            };
-            texts.push((front.0.clone()?, text))?;
+            push_text(self.alloc, &mut texts, front.0.as_str(), text)?;
         }
         Ok(texts)
     }
 
-    // Ends the case whose output is being read, if there is one.
-    fn end_case(&mut self) -> Result<Option<Case>, AllocError> {
-        let Some(line) = self.first_wanted.take() else {
-            return Ok(None);
-        };
-        let words = match &self.words {
-            Some(words) => words.clone()?,
-            None => Vec::new(self.alloc),
-        };
-        let texts = self.take_texts()?;
-        let file = self.file;
+    // The texts of the case that ends, and the next case begins.
+    fn take_texts(&mut self) -> Result<Vec<(String, Vec<u8>)>, AllocError> {
+        let spelled = self.begin_case()?;
+        self.texts_of(&spelled)
+    }
+
+    // The words of the group.
+    fn group_words(&self) -> Result<Vec<String>, AllocError> {
+        match &self.words {
+            Some(words) => words.clone(),
+            None => Ok(Vec::new(self.alloc)),
+        }
+    }
+
+    // The answer that is wanted of the case that ends.
+    fn take_wanted(&mut self) -> Answer {
         let output = mem::replace(&mut self.wanted, Vec::new(self.alloc));
-        Ok(Some(Case {
-            name: format!(in self.alloc; "texts/{file} line {line}")?,
+        Answer {
+            status: status_of(&output),
+            output,
+        }
+    }
+
+    // How the report names the case whose wanted output begins in this line.
+    fn case_name(&self, line: usize) -> Result<String, AllocError> {
+        let file = self.file;
+        format!(in self.alloc; "texts/{file} line {line}")
+    }
+
+    // The case whose wanted output begins in this line.
+    fn take_case(&mut self, line: usize) -> Result<Case, AllocError> {
+        let name = self.case_name(line)?;
+        let words = self.group_words()?;
+        let texts = self.take_texts()?;
+        Ok(Case {
+            name,
             words,
             texts,
-            wanted: Answer {
-                status: status_of(&output),
-                output,
-            },
-        }))
+            wanted: self.take_wanted(),
+        })
+    }
+
+    // Ends the case whose output is being read, if there is one.
+    fn end_case(&mut self) -> Result<Option<Case>, AllocError> {
+        match self.first_wanted.take() {
+            Some(line) => Ok(Some(self.take_case(line)?)),
+            None => Ok(None),
+        }
     }
 
     /// Ends the last case, if its end isn't read.
@@ -202,14 +242,19 @@ impl<'a> CaseReader<'a> {
         Ok(())
     }
 
-    /// Takes the line of this number, without its end. A case that ends before it is told.
-    pub fn take(&mut self, number: usize, line: &str) -> Result<Option<Case>, LineFault> {
-        let line = read_case_line(line)?;
-        let case = match line {
-            CaseLine::Comment | CaseLine::Wanted(_) => None,
-            CaseLine::Empty | CaseLine::Spelled(_) | CaseLine::Repeated { .. } => self.end_case()?,
-            CaseLine::Words(_) | CaseLine::Text(_) | CaseLine::Each(_) => self.end()?,
-        };
+    // The case that ends before this line, if one does.
+    fn end_before(&mut self, line: CaseLine<'_>) -> Result<Option<Case>, LineFault> {
+        match line {
+            CaseLine::Comment | CaseLine::Wanted(_) => Ok(None),
+            CaseLine::Empty | CaseLine::Spelled(_) | CaseLine::Repeated { .. } => Ok(
+                self.end_case()?,
+            ),
+            CaseLine::Words(_) | CaseLine::Text(_) | CaseLine::Each(_) => self.end(),
+        }
+    }
+
+    // Does what the line of this number says of the cases to come.
+    fn read(&mut self, number: usize, line: CaseLine<'_>) -> Result<(), LineFault> {
         let alloc = self.alloc;
         match line {
             CaseLine::Empty | CaseLine::Comment => {}
@@ -225,6 +270,14 @@ impl<'a> CaseReader<'a> {
             )?,
             CaseLine::Wanted(line) => self.want(number, line)?,
         }
+        Ok(())
+    }
+
+    /// Takes the line of this number, without its end. A case that ends before it is told.
+    pub fn take(&mut self, number: usize, line: &str) -> Result<Option<Case>, LineFault> {
+        let line = read_case_line(line)?;
+        let case = self.end_before(line)?;
+        self.read(number, line)?;
         Ok(case)
     }
 }

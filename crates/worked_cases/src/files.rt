@@ -1,5 +1,6 @@
 //! Files and folders of cases.
 
+use crate::worked_case::push_word;
 use anyhow::{Context, Result};
 use std::alloc::{AllocError, Global};
 use std::fs;
@@ -18,7 +19,7 @@ pub fn names_in<R: Files + AllocGlobal + Clone + Drop>(
     let mut names = Vec::new(rt.alloc());
     for entry in fs::read_dir(rt, folder).context(format_args!("{folder}"))? {
         let entry = entry.context(format_args!("{folder}"))?;
-        names.push(String::from_str(rt.alloc(), entry.file_name())?)?;
+        push_word(rt.alloc(), &mut names, entry.file_name())?;
     }
     names.sort()?;
     Ok(names)

@@ -1,7 +1,7 @@
 //! The folder of a run: its words, its texts, and the answer that is wanted.
 
 use crate::files::{bytes_of, names_in, path_of, text_of};
-use crate::worked_case::{Answer, Case};
+use crate::worked_case::{Answer, Case, push_word};
 use anyhow::{Context, Result};
 use std::alloc::{AllocError, Global};
 use std::rt::Files;
@@ -19,13 +19,33 @@ const STATUS: &str = "status";
 fn words_in(alloc: Global, text: &str) -> Result<Vec<String>, AllocError> {
     let mut words = Vec::new(alloc);
     for word in text.split_terminator('\n') {
-        words.push(String::from_str(alloc, word)?)?;
+        push_word(alloc, &mut words, word)?;
     }
     Ok(words)
 }
 
+// The words of the command line.
+fn read_words<R: Files + AllocGlobal>(rt: &R, folder: &str) -> Result<Vec<String>> {
+    let text = text_of(rt, folder, WORDS)?;
+    Ok(words_in(rt.alloc(), text.as_str())?)
+}
+
 fn is_text(name: &str) -> bool {
     name != WORDS && name != EXPECTED && name != STATUS
+}
+
+// Puts the text of this name behind the others, where the file is one.
+fn take_text<R: Files + AllocGlobal>(
+    rt: &R,
+    folder: &str,
+    name: String,
+    texts: &mut Vec<(String, Vec<u8>)>,
+) -> Result<()> {
+    if is_text(name.as_str()) {
+        let bytes = bytes_of(rt, folder, name.as_str())?;
+        texts.push((name, bytes))?;
+    }
+    Ok(())
 }
 
 // The texts that lie beside the words and what is wanted.
@@ -35,10 +55,7 @@ fn texts_in<R: Files + AllocGlobal + Clone + Drop>(
 ) -> Result<Vec<(String, Vec<u8>)>> {
     let mut texts = Vec::new(rt.alloc());
     for name in names_in(rt, folder)? {
-        if is_text(name.as_str()) {
-            let bytes = bytes_of(rt, folder, name.as_str())?;
-            texts.push((name, bytes))?;
-        }
+        take_text(rt, folder, name, &mut texts)?;
     }
     Ok(texts)
 }
@@ -51,23 +68,42 @@ fn status_in(text: &str) -> Result<u8> {
     )
 }
 
+// The exit status that is wanted.
+fn read_status<R: Files + AllocGlobal>(rt: &R, folder: &str) -> Result<u8> {
+    let text = text_of(rt, folder, STATUS)?;
+    status_in(text.as_str())
+}
+
+// The answer that is wanted.
+fn read_wanted<R: Files + AllocGlobal>(rt: &R, folder: &str) -> Result<Answer> {
+    let status = read_status(rt, folder)?;
+    let output = bytes_of(rt, folder, EXPECTED)?;
+    Ok(Answer { status, output })
+}
+
+// The case in the folder of a run.
+fn read_case<R: Files + AllocGlobal + Clone + Drop>(
+    rt: &R,
+    folder: &str,
+    name: String,
+) -> Result<Case> {
+    let words = read_words(rt, folder)?;
+    let texts = texts_in(rt, folder)?;
+    let wanted = read_wanted(rt, folder)?;
+    Ok(Case {
+        name,
+        words,
+        texts,
+        wanted,
+    })
+}
+
 /// The run that has this name in a folder of runs.
 pub fn read_run<R: Files + AllocGlobal + Clone + Drop>(
     rt: &R,
     runs: &str,
     name: &str,
 ) -> Result<Case> {
-    let alloc = rt.alloc();
-    let folder = path_of(alloc, runs, name)?;
-    let words = text_of(rt, folder.as_str(), WORDS)?;
-    let status = text_of(rt, folder.as_str(), STATUS)?;
-    Ok(Case {
-        name: path_of(alloc, "runs", name)?,
-        words: words_in(alloc, words.as_str())?,
-        texts: texts_in(rt, folder.as_str())?,
-        wanted: Answer {
-            status: status_in(status.as_str())?,
-            output: bytes_of(rt, folder.as_str(), EXPECTED)?,
-        },
-    })
+    let folder = path_of(rt.alloc(), runs, name)?;
+    read_case(rt, folder.as_str(), path_of(rt.alloc(), "runs", name)?)
 }

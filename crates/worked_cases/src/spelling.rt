@@ -83,6 +83,29 @@ fn put_copies(
     put_times(text, line, times % BLOCK)
 }
 
+// Puts the same line behind a text so many times.
+fn spell_copies(
+    alloc: Global,
+    text: &mut Vec<u8>,
+    line: &str,
+    times: u64,
+) -> Result<(), LineFault> {
+    let mut spelled = Vec::new(alloc);
+    spell(&mut spelled, line)?;
+    Ok(put_copies(alloc, text, &spelled, times)?)
+}
+
+// Puts a line behind a text, with the number in the place of each `#`.
+fn spell_numbered(
+    alloc: Global,
+    text: &mut Vec<u8>,
+    line: &str,
+    number: u64,
+) -> Result<(), LineFault> {
+    let line = numbered(alloc, line, number)?;
+    spell(text, line.as_str())
+}
+
 /// Puts so many lines behind a text, each with its number from 1 in the place of each `#`.
 pub fn spell_times(
     alloc: Global,
@@ -91,12 +114,10 @@ pub fn spell_times(
     times: u64,
 ) -> Result<(), LineFault> {
     if !line.contains('#') {
-        let mut spelled = Vec::new(alloc);
-        spell(&mut spelled, line)?;
-        return Ok(put_copies(alloc, text, &spelled, times)?);
+        return spell_copies(alloc, text, line, times);
     }
     for number in 1..=times {
-        spell(text, numbered(alloc, line, number)?.as_str())?;
+        spell_numbered(alloc, text, line, number)?;
     }
     Ok(())
 }

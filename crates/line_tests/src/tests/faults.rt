@@ -1,7 +1,8 @@
 //! Texts that can't be fetched, and output that can't be written.
 
 use crate::tests::desk::{
-    ASH_IDLE, BEECH_IDLE, IDLE_JOURNAL, JUDGE, Outside, RUN_TWO, SOUND, TWO_BOXES, work_behind,
+    ASH_IDLE, BEECH_IDLE, IDLE_JOURNAL, JUDGE, Outside, RUN_TWO, SOUND, TWO_BOXES, agrees,
+    work_behind,
 };
 use box_top::{OpenGate, Status};
 use std::test::Fail;
@@ -94,18 +95,23 @@ const FETCHES: [Fetch; 14] = [
     (Some(2), &["tables", "plan", "Ash"], &[b""], Status::Refused),
 ];
 
+// What is printed with a status: the output of a run, the line of a refused plan, or nothing.
+fn printed_with(status: Status) -> &'static [u8] {
+    match status {
+        Status::Done => IDLE,
+        Status::Refused => b"refused text 1 line 1: no end\n",
+        _ => b"",
+    }
+}
+
 #[test]
 fn failed_fetches_print_nothing(rt: HostRuntime) -> Result<(), Fail> {
     for (bad_fetch, words, texts, status) in FETCHES {
         let outside = Outside { bad_fetch, ..SOUND };
-        let answer = work_behind(&rt, rt.alloc(), words, texts, outside, &OpenGate)?;
-        let printed: &[u8] = match status {
-            Status::Done => IDLE,
-            Status::Refused => b"refused text 1 line 1: no end\n",
-            _ => b"",
-        };
-        assert_eq!(rt; answer.status, status, "without fetch {bad_fetch:?}");
-        assert_eq!(rt; answer.taken.as_slice(), printed);
+        let printed = printed_with(status);
+        let answer = work_behind(&rt, rt.alloc(), words, texts, outside, &OpenGate, printed)?;
+        let is_so = answer.fills(printed.len(), status, printed);
+        agrees(&rt, words, bad_fetch.unwrap_or(0), is_so);
     }
     Ok(())
 }
@@ -185,27 +191,17 @@ const OUTPUTS: [Output; 6] = [
 fn failed_puts_leave_whole_puts(rt: HostRuntime) -> Result<(), Fail> {
     for (words, texts, status, printed, puts) in OUTPUTS {
         let mut kept = 0usize;
-        for put in 1..=puts {
+        for put in 1..=puts + 1 {
             let outside = Outside {
                 bad_put: Some(put),
                 ..SOUND
             };
-            let answer = work_behind(&rt, rt.alloc(), words, texts, outside, &OpenGate)?;
-            assert_eq!(rt; answer.status, Status::SinkFault, "without put {put}");
-            assert!(rt;
-                answer.taken.len() == kept && kept < printed.len(),
-                "without put {put}"
-            );
-            assert!(rt; printed.starts_with(&answer.taken), "without put {put}");
+            let answer = work_behind(&rt, rt.alloc(), words, texts, outside, &OpenGate, printed)?;
+            let is_so = answer.fills(kept, status, printed);
+            let is_last = printed.len() <= kept;
+            agrees(&rt, words, put, is_so & (is_last == (puts < put)));
             kept = kept.saturating_add(10);
         }
-        let outside = Outside {
-            bad_put: Some(puts + 1),
-            ..SOUND
-        };
-        let answer = work_behind(&rt, rt.alloc(), words, texts, outside, &OpenGate)?;
-        assert_eq!(rt; answer.status, status, "after {puts} puts");
-        assert_eq!(rt; answer.taken.as_slice(), printed);
     }
     Ok(())
 }
@@ -215,15 +211,8 @@ fn small_rooms_are_filled(rt: HostRuntime) -> Result<(), Fail> {
     for (words, texts, status, printed, _) in OUTPUTS {
         for room in [0, 1, 10, 20, printed.len() - 1, printed.len()] {
             let outside = Outside { room, ..SOUND };
-            let answer = work_behind(&rt, rt.alloc(), words, texts, outside, &OpenGate)?;
-            let fits = room == printed.len();
-            assert_eq!(rt;
-                answer.status,
-                if fits { status } else { Status::SinkFault },
-                "in {room}"
-            );
-            assert_eq!(rt; answer.taken.len(), room);
-            assert!(rt; printed.starts_with(&answer.taken), "in {room}");
+            let answer = work_behind(&rt, rt.alloc(), words, texts, outside, &OpenGate, printed)?;
+            agrees(&rt, words, room as u64, answer.fills(room, status, printed));
         }
     }
     Ok(())

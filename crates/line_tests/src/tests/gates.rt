@@ -1,6 +1,6 @@
 //! The calls that pass the gate.
 
-use crate::tests::desk::{ASH_IDLE, BEECH_IDLE, RUN_TWO, SOUND, TWO_BOXES, work_behind};
+use crate::tests::desk::{ASH_IDLE, BEECH_IDLE, RUN_TWO, SOUND, TWO_BOXES, agrees, work_behind};
 use box_top::Gate;
 use std::sync::atomic::{AtomicU64, Ordering};
 use std::test::Fail;
@@ -76,9 +76,12 @@ fn calls_pass_the_gate_once_and_in_order(rt: HostRuntime) -> Result<(), Fail> {
             calls: AtomicU64::new(0),
             notes: AtomicU64::new(0),
         };
-        let _answer = work_behind(&rt, rt.alloc(), RUN_TWO, texts, SOUND, &gate)?;
-        assert_eq!(rt; gate.calls.load(Ordering::SeqCst), calls, "for {notes}");
-        assert_eq!(rt; gate.notes.load(Ordering::SeqCst), notes);
+        let worked = work_behind(&rt, rt.alloc(), RUN_TWO, texts, SOUND, &gate, b"");
+        let passed = gate.calls.load(Ordering::SeqCst) == calls;
+        let is_noted = gate.notes.load(Ordering::SeqCst) == notes;
+        drop(gate);
+        worked?;
+        agrees(&rt, RUN_TWO, notes, passed & is_noted);
     }
     Ok(())
 }
@@ -89,7 +92,11 @@ fn calls_of_a_made_line_pass_the_gate(rt: HostRuntime) -> Result<(), Fail> {
         calls: AtomicU64::new(0),
         notes: AtomicU64::new(0),
     };
-    let _answer = work_behind(&rt, rt.alloc(), &["stress", "2"], &[], SOUND, &gate)?;
-    assert_eq!(rt; gate.calls.load(Ordering::SeqCst), 120);
+    let words = &["stress", "2"];
+    let worked = work_behind(&rt, rt.alloc(), words, &[], SOUND, &gate, b"");
+    let calls = gate.calls.load(Ordering::SeqCst);
+    drop(gate);
+    worked?;
+    agrees(&rt, words, 120, calls == 120);
     Ok(())
 }

@@ -1,6 +1,6 @@
 use Rattle.line_plan.specs.Limits.{most_bytes}
-use Rattle.line_plan.specs.Reading.{plan_of}
-use Rattle.line_plan.proofs.SpelledPlans.{plan_of-take}
+use Rattle.plan_draft.specs.Reading.{plan_of}
+use Rattle.plan_text.proofs.SpelledPlans.{plan_of-take}
 use Rattle.text_fetch.proofs.Fetched.{fetched_given, fetched_stops}
 use Rattle.text_fetch.proofs.fetch.fetch_plan.Goals as goal
 

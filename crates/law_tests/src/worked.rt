@@ -1,0 +1,252 @@
+//! Two lines: the calls that they know, their section, and worked journals, with each reply, the trains that the section
+//! holds in the end, and the most that it held. What is printed of them is shown by the worked cases.
+
+ghost use Rattle.std.specs.Prelude.{◌↔◌, IsTrue};
+ghost use Rattle.line_law.specs.Lines.{IsLineOf};
+ghost use Rattle.line_plan.specs.Sections.{IsSection};
+ghost use Rattle.line_report.specs.Asked.{AreFewEntries};
+
+use crate::facts::{holds, holds_of};
+use crate::lines::{absolute, permissive};
+use block_words::Way;
+use line_law::{Act, Call, Entry, Journal, Plain, knows, knows_outgoing};
+use line_plan::{Plan, Section};
+use line_report::{Verdict, judge, may_judge, most_trains, read_journal};
+use rail_text::{NoMemory, ReadError};
+use std::alloc::Global;
+use std::process::Abort;
+use std::test::Fail;
+
+const NO_CALL: &str = "journal 1\nend\n";
+
+const SECOND_CODE_WHILE_THE_FIRST_IS_UNHEARD: &str = "journal 1\n\
+1 Ash 10:00 ring down 1 -> rung 1\n\
+2 Ash 10:00 ring down 4 -> bell_busy 1 1\n\
+end\n";
+
+const A_TRAIN_GOES_THROUGH: &str = "journal 1\n\
+1 Ash 10:00 bring t1 -> brought\n\
+2 Ash 10:00 overrun 8 -> entered 1 t1\n\
+3 Beech 10:00 berth down -> berthed 1 t1\n\
+4 Beech 10:00 pull 1 -> pulled\n\
+5 Beech 10:00 pass 1 -> passed t1\n\
+6 Beech 10:00 pass 1 -> no_train\n\
+end\n";
+
+// A train that leaves a portion behind, which is cleared away before the next may come.
+const A_DIVIDED_TRAIN: &str = "journal 1\n\
+1 Ash 10:00 bring t1 -> brought\n\
+2 Beech 10:00 turn down line_clear -> turned 1\n\
+3 Ash 10:00 await_block down line_clear -> seen 1\n\
+4 Ash 10:00 pull 8 -> pulled_under 1\n\
+5 Ash 10:00 pass 8 -> entered 1 t1\n\
+6 Ash 10:00 bring t2 -> brought\n\
+7 Ash 10:00 overrun 8 -> entered 2 t2\n\
+8 Beech 10:00 await_train down -> approaching 1 t1\n\
+9 Beech 10:00 berth_part down -> part_berthed 1 t1\n\
+10 Beech 10:00 berth down -> portion_ahead t1\n\
+11 Beech 10:00 pull 1 -> pulled\n\
+12 Beech 10:00 pass 1 -> passed t1\n\
+13 Beech 10:00 clear_portion down -> cleared 1 t1\n\
+14 Beech 10:00 clear_portion down -> no_portion\n\
+15 Beech 10:00 await_train down -> approaching 2 t2\n\
+16 Beech 10:00 berth down -> berthed 2 t2\n\
+17 Beech 10:00 berth down -> occupied t2\n\
+end\n";
+
+// Two trains are to follow one another. The replies to the second Line Clear, and to the second train's pull and pass,
+// are those of the line.
+macro_rules! two_trains {
+    ($line_clear:literal, $pull:literal, $pass:literal) => {
+        concat!(
+            "journal 1\n\
+1 Ash 10:00 bring t1 -> brought\n\
+2 Beech 10:00 turn down line_clear -> turned 1\n\
+3 Ash 10:00 await_block down line_clear -> seen 1\n\
+4 Ash 10:00 pull 8 -> pulled_under 1\n\
+5 Ash 10:00 pass 8 -> entered 1 t1\n\
+6 Ash 10:00 put 8 -> put\n\
+7 Ash 10:00 ring down 2 -> rung 1\n\
+8 Ash 10:00 bring t2 -> brought\n\
+9 Beech 10:00 await_bell up 2 -> heard 1 2\n\
+10 Beech 10:00 turn down train_on_line -> turned 2\n\
+11 Beech 10:00 turn down normal -> turned 3\n\
+12 Beech 10:00 turn down line_clear -> ",
+            $line_clear,
+            "\n13 Beech 10:00 ring up 1 -> rung 1\n\
+14 Ash 10:00 await_bell down 1 -> heard 1 1\n\
+15 Ash 10:00 pull 8 -> ",
+            $pull,
+            "\n16 Ash 10:00 pass 8 -> ",
+            $pass,
+            "\nend\n"
+        )
+    };
+}
+
+// Two trains are out at once on a permissive line of two.
+const TWO_TRAINS_ON_A_PERMISSIVE_LINE: &str = two_trains!(
+    "turned 4",
+    "pulled_under 4",
+    "entered 2 t2"
+);
+
+// On an absolute line the second Line Clear is held, and so is the second train.
+const ONE_TRAIN_ON_AN_ABSOLUTE_LINE: &str = two_trains!(
+    "welwyn_holds given",
+    "held_by_instrument down 3 normal unspent",
+    "at_danger"
+);
+
+// The section from Ash to Beech.
+const DOWN: Section = Section {
+    rear: 0,
+    way: Way::Down,
+};
+
+// Is it a section of the line of a plan?
+fn is_section(plan: &Plan, section: Section) -> bool
+    ensures { IsTrue result ↔ IsSection plan.now section }
+{
+    knows_outgoing(plan, section.rear, section.way)
+}
+
+// Is the section to Beech one of the plan, for so many trains, with a starter and a berth?
+fn comes_to_beech(plan: &Plan, limit: u32) -> bool {
+    if !is_section(plan, DOWN) {
+        return false;
+    }
+    let has_ends = DOWN.starter(plan).is_some() & DOWN.berth(plan).is_some();
+    (DOWN.advance(plan) == 1) & (DOWN.limit(plan) == limit) & has_ends
+}
+
+// The most trains that the section held in a journal, where that is legal.
+fn most_held(alloc: Global, plan: &Plan, journal: &Journal) -> Result<Option<u32>, NoMemory>
+    requires { AreFewEntries journal.now.entries }
+{
+    if !is_section(plan, DOWN) || !may_judge(alloc, plan, journal)? {
+        return Ok(None);
+    }
+    match judge(alloc, plan, journal)? {
+        Verdict::Legal => Ok(Some(most_trains(alloc, plan, journal, DOWN)?)),
+        Verdict::WrongAt { .. } => Ok(None),
+    }
+}
+
+// Makes these calls in turn on a line, and compares each reply with the one that stands beside it.
+fn perform_all(rt: &impl Abort, plan: &Plan, line: &mut Plain, entries: &[Entry])
+    requires { IsLineOf plan.now line.old }
+    ensures { IsLineOf plan.now line.new }
+{
+    for entry in entries {
+        assert!(rt; line.calls() < 1000 && line.may_call(plan, entry.box_no, &entry.call));
+        let answer = line.answer(plan, entry.box_no, &entry.call);
+        let reply = line.perform(plan, entry.box_no, &entry.call);
+        holds_of(rt, entry, answer.is(&entry.reply) & reply.is(&entry.reply));
+    }
+    assert!(rt; line.calls() == entries.len() as u64);
+}
+
+// Makes these calls on the line of a plan as it opens. Tells how many trains the section holds then.
+fn held_after(
+    rt: &impl Abort,
+    alloc: Global,
+    plan: &Plan,
+    entries: &[Entry],
+) -> Result<u32, NoMemory> {
+    plan.meets_conditions();
+    let mut line = Plain::open(alloc, plan)?;
+    perform_all(rt, plan, &mut line, entries);
+    let held = line.held(plan, DOWN);
+    drop(line);
+    Ok(held)
+}
+
+// Makes the calls of the journal that a text spells. The section then holds so many trains, and held so many at most.
+fn works(
+    rt: &impl Abort,
+    alloc: Global,
+    plan: &Plan,
+    text: &str,
+    held: u32,
+    most: u32,
+) -> Result<(), ReadError> {
+    let journal = read_journal(alloc, plan, text.as_bytes())?;
+    let in_the_end = held_after(rt, alloc, plan, journal.entries.as_slice());
+    let at_most = most_held(alloc, plan, &journal);
+    drop(journal);
+    holds(rt, text, in_the_end? == held && at_most? == Some(most));
+    Ok(())
+}
+
+// The journals of an absolute line.
+fn each_works(rt: &impl Abort, alloc: Global, plan: &Plan) -> Result<(), ReadError> {
+    let table = [
+        (NO_CALL, 0, 0),
+        (SECOND_CODE_WHILE_THE_FIRST_IS_UNHEARD, 0, 0),
+        (A_TRAIN_GOES_THROUGH, 0, 1),
+        (A_DIVIDED_TRAIN, 1, 3),
+        (ONE_TRAIN_ON_AN_ABSOLUTE_LINE, 1, 1),
+    ];
+    for (journal, held, most) in table {
+        works(rt, alloc, plan, journal, held, most)?;
+    }
+    Ok(())
+}
+
+// The calls that a plan knows: at its first moment, and in the last of a day and behind it.
+fn knows_calls(rt: &impl Abort, plan: &Plan) {
+    let (up, down) = (Way::Up, Way::Down);
+    let table = [
+        (0, 0, Act::Pull { lever: 8 }, true),
+        (0, 0, Act::Pull { lever: 9 }, false),
+        (0, 0, Act::Put { lever: 0 }, false),
+        (0, 0, Act::Pass { lever: 8 }, true),
+        (0, 0, Act::Overrun { lever: 1 }, false),
+        (0, 0, Act::Bring { train: 6 }, true),
+        (0, 0, Act::Bring { train: 7 }, false),
+        (0, 0, Act::Bring { train: 0 }, false),
+        (1, 0, Act::Bring { train: 1 }, false),
+        (1, 0, Act::Berth { way: down }, true),
+        (1, 0, Act::Wind { way: up }, false),
+        (0, 0, Act::AwaitTrain { way: up }, false),
+        (0, 0, Act::Hear { side: up }, false),
+        (2, 0, Act::Hear { side: up }, false),
+        (0, 1439, Act::Hear { side: down }, true),
+        (0, 1440, Act::Hear { side: down }, false),
+    ];
+    for (box_no, moment, act, wanted) in table {
+        let call = Call { moment, act };
+        holds_of(rt, &call, knows(plan, box_no, &call) == wanted);
+    }
+}
+
+#[test]
+fn an_absolute_line_is_worked(rt: HostRuntime) -> Result<(), Fail> {
+    let plan = absolute(rt.alloc())?;
+    knows_calls(&rt, &plan);
+    let is_section = comes_to_beech(&plan, 1);
+    let worked = each_works(&rt, rt.alloc(), &plan);
+    drop(plan);
+    holds(&rt, "a section of one train", is_section);
+    worked?;
+    Ok(())
+}
+
+#[test]
+fn a_permissive_line_is_worked(rt: HostRuntime) -> Result<(), Fail> {
+    let plan = permissive(rt.alloc())?;
+    let is_section = comes_to_beech(&plan, 2);
+    let worked = works(
+        &rt,
+        rt.alloc(),
+        &plan,
+        TWO_TRAINS_ON_A_PERMISSIVE_LINE,
+        2,
+        2,
+    );
+    drop(plan);
+    holds(&rt, "a section of two trains", is_section);
+    worked?;
+    Ok(())
+}

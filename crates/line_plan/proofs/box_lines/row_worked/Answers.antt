@@ -1,9 +1,0 @@
-use Rattle.std.proofs.Common.{List, ◌∷◌, map, subst}
-use Rattle.rail_text.specs.Gives.{GivesLine}
-use Rattle.locking_table.specs.declared.row.Cond.{Cond}
-use Rattle.line_plan.specs.BoxLines.{all_worked}
-use Rattle.line_plan.proofs.Worked.{worked_rest}
-use Rattle.line_plan.proofs.box_lines.row_worked.Goals as goal
-
-pub returns : goal.returns
-returns c = worked_rest _ _ _ _ _ c.in_ok-worked.ensures (subst (λ (conds : List Cond). GivesLine (λ _. tt) c.lever_and_conds_worked.result (all_worked c.args.here.now (c.args.row.now.object ∷ map (λ cond. cond.lever) conds))) c.as_slice.ensures c.lever_and_conds_worked.ensures)

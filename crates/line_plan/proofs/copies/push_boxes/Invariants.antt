@@ -1,5 +1,0 @@
-use Rattle.std.proofs.Common.{◌≡◌, take}
-use Rattle.line_plan.proofs.copies.push_boxes.Given as goal
-
-abbrev pub invariant-loop-here : goal.invariant-loop-here
-invariant-loop-here l = l.copied.items ≡ take l.here-index l.here-items

@@ -1,7 +1,0 @@
-use Rattle.std.proofs.Common.{◌≡◌, ◌++◌, drop}
-use Rattle.std.specs.List.{flat_map}
-use Rattle.line_plan.specs.Printing.{box_lines, printed}
-use Rattle.line_plan.proofs.printing.put_boxes.Given as goal
-
-abbrev pub invariant-loop-box_plan : goal.invariant-loop-box_plan
-invariant-loop-box_plan l = l.out.items ++ printed (flat_map box_lines (drop l.box_plan-index l.boxes)) ≡ l.initial.out.items ++ printed (flat_map box_lines l.boxes)

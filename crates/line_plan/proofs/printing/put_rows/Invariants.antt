@@ -1,6 +1,0 @@
-use Rattle.std.proofs.Common.{◌≡◌, ◌++◌, drop, map}
-use Rattle.line_plan.specs.Printing.{row_line, printed}
-use Rattle.line_plan.proofs.printing.put_rows.Given as goal
-
-abbrev pub invariant-loop-row : goal.invariant-loop-row
-invariant-loop-row l = l.out.items ++ printed (map row_line (drop l.row-index l.rows)) ≡ l.initial.out.items ++ printed (map row_line l.rows)

@@ -1,6 +1,0 @@
-use Rattle.std.proofs.Common.{◌≡◌, ◌++◌, drop, map}
-use Rattle.line_plan.specs.Printing.{signal_line, printed}
-use Rattle.line_plan.proofs.printing.put_signals.Given as goal
-
-abbrev pub invariant-loop-signal : goal.invariant-loop-signal
-invariant-loop-signal l = l.out.items ++ printed (map (signal_line l.places) (drop l.signal-index l.signals)) ≡ l.initial.out.items ++ printed (map (signal_line l.places) l.signals)

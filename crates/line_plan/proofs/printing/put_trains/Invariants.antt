@@ -1,6 +1,0 @@
-use Rattle.std.proofs.Common.{◌≡◌, ◌++◌, drop, map}
-use Rattle.line_plan.specs.Printing.{train_line, printed}
-use Rattle.line_plan.proofs.printing.put_trains.Given as goal
-
-abbrev pub invariant-loop-train : goal.invariant-loop-train
-invariant-loop-train l = l.out.items ++ printed (map (train_line l.plan) (drop l.train-index l.train-items)) ≡ l.initial.out.items ++ printed (map (train_line l.plan) l.plan.trains)

@@ -1,5 +1,0 @@
-use Rattle.line_plan.proofs.SpelledPlans.{reader_reads}
-use Rattle.line_plan.proofs.reading.read_plan.Goals as goal
-
-pub returns-clause-reads : goal.returns-clause-reads
-returns-clause-reads c = reader_reads c.args.bytes.now c.plan_in.result c.plan_in.ensures.exact

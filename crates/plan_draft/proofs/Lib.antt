@@ -1,0 +1,7 @@
+mod Behind
+mod PlaceWords
+mod Worked
+mod Brought
+mod Longer
+pub mod Following
+pub mod Classes

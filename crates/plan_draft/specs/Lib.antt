@@ -1,0 +1,4 @@
+pub mod LineWords
+pub mod BoxLines
+pub mod Drafts
+pub mod Reading

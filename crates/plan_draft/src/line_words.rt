@@ -1,0 +1,163 @@
+//! What the words of a plan's lines mean.
+
+ghost use Rattle.std.specs.Prelude.{◌≡◌, [], IfOk, bytes_eq, drop, false};
+ghost use Rattle.std.specs.List.{list_any};
+ghost use Rattle.rail_text.specs.Gives.{GivesLine};
+ghost use Rattle.rail_text.specs.Lines.{words_of};
+ghost use Rattle.plan_draft.specs.LineWords.{code_in, counted, end_in, kind_in, lever_in, new_name, number_in_names};
+ghost use Rattle.plan_draft.specs.LineWords.{places_onto, way_in, word, working_in};
+
+use bell_codes::{Code, read_code};
+use block_words::Way;
+use line_plan::{BoxPlan, Items, Kind, Lever, To};
+use locking_table::MOST_LEVERS;
+use rail_text::{Cause, LineFault, Names, TextLine, is_name, name_in, number_in};
+use std::alloc::Global;
+
+/// The line has so many words, its first among them.
+pub fn counted(line: &TextLine<'_>, low: usize, high: usize) -> Result<(), LineFault>
+    ensures { GivesLine (λ _. tt) result (counted low high (words_of line.now.text.now)) }
+{
+    let count = line.word_count();
+    if low <= count && count <= high {
+        Ok(())
+    } else {
+        Err(LineFault::Cause(Cause::WordCount))
+    }
+}
+
+/// The word with this number; the first of the line has the number 0.
+pub fn word<'a>(line: &TextLine<'a>, i: usize) -> &'a [u8]
+    ensures { result.now ≡ word i (words_of line.now.text.now) }
+{
+    match line.word(i) {
+        Some(word) => word,
+        None => &[],
+    }
+}
+
+/// A new name among these.
+#[tactic(auto, unfolding(crate::specs::LineWords::new_name))]
+pub fn new_name<'a>(names: &Names, word: &'a [u8]) -> Result<&'a str, LineFault>
+    ensures gives { GivesLine (λ name. name.now) result (new_name names.now word.now) }
+    ensures new { IfOk result (λ name. list_any (bytes_eq name.now) names.now ≡ false) }
+{
+    let name = name_in(word)?;
+    if names.contains(name) {
+        return Err(LineFault::Cause(Cause::NameTwice));
+    }
+    Ok(name)
+}
+
+/// The number of a name among these.
+#[tactic(auto, unfolding(crate::specs::LineWords::number_in_names))]
+pub fn number_in_names(names: &Names, word: &[u8]) -> Result<u32, LineFault>
+    ensures { GivesLine (λ number. number) result (number_in_names names.now word.now) }
+{
+    if !is_name(word) {
+        return Err(LineFault::Cause(Cause::UnknownName));
+    }
+    let name = name_in(word)?;
+    match names.number_of(name) {
+        Some(number) => Ok(number),
+        None => Err(LineFault::Cause(Cause::UnknownName)),
+    }
+}
+
+/// The places that the words of a line name, from the word with this number on.
+#[tactic(auto, using(crate::proofs::PlaceWords::place_rules), unfolding(crate::specs::LineWords::places_onto))]
+pub fn places_from(
+    alloc: Global,
+    names: &Names,
+    line: &TextLine<'_>,
+    first: usize,
+) -> Result<Items<u32>, LineFault>
+    ensures { GivesLine (λ places. places) result (places_onto names.now [] (drop first (words_of line.now.text.now))) }
+{
+    let mut places = Vec::new(alloc);
+    for i in first..line.word_count() {
+        let place = number_in_names(names, word(line, i))?;
+        places.push(place)?;
+    }
+    Ok(Items::from_vec(places))
+}
+
+/// `up` or `down`.
+#[tactic(auto, unfolding(crate::specs::LineWords::way_in))]
+pub fn way_in(word: &[u8]) -> Result<Way, LineFault>
+    ensures { GivesLine (λ way. way) result (way_in word.now) }
+{
+    if word == b"up".as_slice() {
+        Ok(Way::Up)
+    } else if word == b"down".as_slice() {
+        Ok(Way::Down)
+    } else {
+        Err(LineFault::Cause(Cause::UnknownWord))
+    }
+}
+
+/// The kind of a lever.
+#[tactic(auto, unfolding(crate::specs::LineWords::kind_in))]
+pub fn kind_in(word: &[u8]) -> Result<Kind, LineFault>
+    ensures { GivesLine (λ kind. kind) result (kind_in word.now) }
+{
+    if word == b"signal".as_slice() {
+        Ok(Kind::Signal)
+    } else if word == b"points".as_slice() {
+        Ok(Kind::Points)
+    } else if word == b"lock".as_slice() {
+        Ok(Kind::Lock)
+    } else if word == b"distant".as_slice() {
+        Ok(Kind::Distant)
+    } else if word == b"spare".as_slice() {
+        Ok(Kind::Spare)
+    } else {
+        Err(LineFault::Cause(Cause::UnknownWord))
+    }
+}
+
+/// A bell code.
+pub fn code_in(word: &[u8]) -> Result<Code, LineFault>
+    ensures { GivesLine (λ code. code) result (code_in word.now) }
+{
+    match read_code(word) {
+        Ok(code) => Ok(code),
+        Err(_) => Err(LineFault::Cause(Cause::BadCode)),
+    }
+}
+
+/// Where a signal leads: off the line, or to a place.
+#[tactic(auto, unfolding(crate::specs::LineWords::end_in))]
+pub fn end_in(places: &Names, word: &[u8]) -> Result<To, LineFault>
+    ensures { GivesLine (λ to. to) result (end_in places.now word.now) }
+{
+    if word == b"away".as_slice() {
+        return Ok(To::Away);
+    }
+    let place = number_in_names(places, word)?;
+    Ok(To::Place(place))
+}
+
+/// A lever of the box.
+#[tactic(auto, unfolding(crate::specs::LineWords::lever_in))]
+pub fn lever_in(here: &BoxPlan, word: &[u8]) -> Result<Lever, LineFault>
+    ensures { GivesLine (λ lever. lever) result (lever_in here.now word.now) }
+{
+    let number = number_in(word, 1, MOST_LEVERS)?;
+    match here.lever(number) {
+        Some(lever) => Ok(*lever),
+        None => Err(LineFault::Cause(Cause::UnknownLever)),
+    }
+}
+
+/// A lever of the box that is no spare one.
+#[tactic(auto, unfolding(crate::specs::LineWords::working_in))]
+pub fn working_in(here: &BoxPlan, word: &[u8]) -> Result<u32, LineFault>
+    ensures { GivesLine (λ number. number) result (working_in here.now word.now) }
+{
+    let lever = lever_in(here, word)?;
+    if lever.kind == Kind::Spare {
+        return Err(LineFault::Cause(Cause::WrongKind));
+    }
+    Ok(lever.number)
+}

@@ -1,0 +1,111 @@
+//! The lines of a plan's text, read one by one.
+
+ghost use Rattle.std.specs.Prelude.{◌≡◌};
+ghost use Rattle.plan_draft.specs.Reading.{between, line_kind, may_follow};
+
+use crate::draft::{PlanDraft, Stage};
+use crate::kinds::kind_line;
+use crate::line_words::word;
+use rail_text::{Cause, Draft, LineFault, TextLine};
+
+// The kind of line that a keyword begins.
+#[tactic(auto, unfolding(crate::specs::Reading::line_kind))]
+fn line_kind(word: &[u8]) -> Option<Stage>
+    ensures { result ≡ line_kind word.now }
+{
+    if word == b"plan".as_slice() {
+        Some(Stage::Plan)
+    } else if word == b"boxes".as_slice() {
+        Some(Stage::Boxes)
+    } else if word == b"delay".as_slice() {
+        Some(Stage::Delay)
+    } else if word == b"looks".as_slice() {
+        Some(Stage::Looks)
+    } else if word == b"class".as_slice() {
+        Some(Stage::Class)
+    } else if word == b"box".as_slice() {
+        Some(Stage::Box)
+    } else if word == b"place".as_slice() {
+        Some(Stage::Place)
+    } else if word == b"lever".as_slice() {
+        Some(Stage::Lever)
+    } else if word == b"signal".as_slice() {
+        Some(Stage::Signal)
+    } else if word == b"starter".as_slice() {
+        Some(Stage::Starter)
+    } else if word == b"berth".as_slice() {
+        Some(Stage::Berth)
+    } else if word == b"clear".as_slice() {
+        Some(Stage::Clear)
+    } else if word == b"permissive".as_slice() {
+        Some(Stage::Permissive)
+    } else if word == b"track".as_slice() {
+        Some(Stage::Track)
+    } else if word == b"row".as_slice() {
+        Some(Stage::Row)
+    } else if word == b"train".as_slice() {
+        Some(Stage::Train)
+    } else if word == b"end".as_slice() {
+        Some(Stage::Ended)
+    } else {
+        None
+    }
+}
+
+// The last line is of one of the kinds from low to high.
+fn between(low: u8, high: u8, last: Stage) -> bool
+    ensures { result ≡ between low high last }
+{
+    let rank = last.rank();
+    low <= rank && rank <= high
+}
+
+// Whether a line of this kind may follow one of that kind.
+#[tactic(auto, unfolding(crate::specs::Reading::may_follow))]
+fn may_follow(kind: Stage, last: Stage) -> bool
+    ensures { result ≡ may_follow kind last }
+{
+    match kind {
+        Stage::Start => false,
+        Stage::Plan => between(0, 0, last),
+        Stage::Boxes => between(1, 1, last),
+        Stage::Delay => between(2, 2, last),
+        Stage::Looks => between(3, 3, last),
+        Stage::Class => between(4, 5, last),
+        Stage::Box => between(4, 15, last),
+        Stage::Place => between(6, 7, last),
+        Stage::Lever => between(6, 8, last),
+        Stage::Signal => between(6, 9, last),
+        Stage::Starter => between(6, 10, last),
+        Stage::Berth => between(6, 11, last),
+        Stage::Clear => between(6, 12, last),
+        Stage::Permissive => between(6, 13, last),
+        Stage::Track => between(6, 14, last),
+        Stage::Row => between(6, 15, last),
+        Stage::Train => between(4, 16, last),
+        Stage::Ended => between(4, 16, last),
+    }
+}
+
+impl Draft for PlanDraft {
+    ghost use Rattle.plan_draft.specs.Reading.{words_onto, has_ended};
+
+    ghost onto = { words_onto };
+
+    ghost ended = { λ draft. has_ended draft.stage };
+
+    #[tactic(auto, unfolding(crate::specs::Reading::words_onto))]
+    fn read_words(&mut self, line: &TextLine<'_>) -> Result<(), LineFault> {
+        if self.stage == Stage::Ended {
+            return Err(LineFault::Cause(Cause::AfterEnd));
+        }
+        match line_kind(word(line, 0)) {
+            Some(kind) if may_follow(kind, self.stage) => kind_line(kind, self, line),
+            _ => Err(LineFault::Cause(Cause::WrongKeyword)),
+        }
+    }
+
+    fn has_ended(&self) -> bool {
+        self.stage == Stage::Ended
+    }
+}
