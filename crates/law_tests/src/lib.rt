@@ -1,16 +1,25 @@
-//! Tests of the law of the line, and of what is built on it: the judge, registers, findings and the made line.
+//! Tests of the law of the line, and of what is built on it: the judge, registers and their merge, findings, the made
+//! line, and a box's lever frame and moves of trains.
 #![tactic(auto)]
 
+#[cfg(test)]
+mod chains;
 #[cfg(test)]
 mod facts;
 #[cfg(test)]
 mod findings;
+#[cfg(test)]
+mod frames;
+#[cfg(test)]
+mod journals;
 #[cfg(test)]
 mod laws;
 #[cfg(test)]
 mod lines;
 #[cfg(test)]
 mod made;
+#[cfg(test)]
+mod moves;
 #[cfg(test)]
 mod registers;
 #[cfg(test)]

@@ -26,6 +26,12 @@ const ABSOLUTE: &str = two_boxes!("");
 
 const PERMISSIVE: &str = two_boxes!("permissive down 2\n");
 
+const UPWARDS: &str = "plan 1\nboxes 2\ndelay 2\nlooks 1000000000\n\
+box Ash\nplace B\nplace M\nlever 1 signal\nsignal 1 B M\nberth up B\nclear up M\n\
+box Beech\nplace P\nlever 1 signal\nstarter up 1 P\n\
+train t1 ordinary Beech P\ntrain t2 express Beech P\ntrain t3 light Beech P\n\
+train t4 empty Beech P\ntrain t5 light Beech P\nend\n";
+
 /// Two boxes with an absolute line between them.
 pub fn absolute(alloc: Global) -> Result<Plan, ReadError> {
     read_plan(alloc, ABSOLUTE.as_bytes())
@@ -34,4 +40,9 @@ pub fn absolute(alloc: Global) -> Result<Plan, ReadError> {
 /// The same with a permissive line of two.
 pub fn permissive(alloc: Global) -> Result<Plan, ReadError> {
     read_plan(alloc, PERMISSIVE.as_bytes())
+}
+
+/// Two boxes with an absolute line from the second to the first.
+pub fn upwards(alloc: Global) -> Result<Plan, ReadError> {
+    read_plan(alloc, UPWARDS.as_bytes())
 }

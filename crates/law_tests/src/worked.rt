@@ -7,6 +7,7 @@ ghost use Rattle.line_plan.specs.Sections.{IsSection};
 ghost use Rattle.line_report.specs.Asked.{AreFewEntries};
 
 use crate::facts::{holds, holds_of};
+use crate::journals::is_merged_as;
 use crate::lines::{absolute, permissive};
 use block_words::Way;
 use line_law::{Act, Call, Entry, Journal, Plain, knows, knows_outgoing};
@@ -162,7 +163,8 @@ fn held_after(
     Ok(held)
 }
 
-// Makes the calls of the journal that a text spells. The section then holds so many trains, and held so many at most.
+// Makes the calls of the journal that a text spells. The section then holds so many trains, and held so many at most;
+// and the journal is merged again from its registers.
 fn works(
     rt: &impl Abort,
     alloc: Global,
@@ -174,8 +176,10 @@ fn works(
     let journal = read_journal(alloc, plan, text.as_bytes())?;
     let in_the_end = held_after(rt, alloc, plan, journal.entries.as_slice());
     let at_most = most_held(alloc, plan, &journal);
+    let is_merged = is_merged_as(alloc, plan, &journal, &journal);
     drop(journal);
     holds(rt, text, in_the_end? == held && at_most? == Some(most));
+    holds(rt, text, is_merged?);
     Ok(())
 }
 

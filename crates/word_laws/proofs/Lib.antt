@@ -8,6 +8,7 @@ pub mod Rises
 pub mod Lanes
 pub mod WordCalls
 pub mod OperationLaws
+pub mod NumberLaws
 pub mod Agreements
 pub mod WordEndsLaws
 pub mod WordHistory

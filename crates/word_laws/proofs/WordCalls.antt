@@ -30,7 +30,7 @@ use Rattle.word_laws.proofs.Lanes.{Full, Next, eqb_no, eqb_yes, if_false, if_tru
 
 -- ---- bells
 
-code_small : (u : Option ℕ) → IfSome u IsCodeNo → code_number u < 256
+pub code_small : (u : Option ℕ) → IfSome u IsCodeNo → code_number u < 256
 code_small None h = omega arith
 code_small (Some code) h = h.1
 
@@ -113,11 +113,11 @@ entry_word here left way train line false e =
     (record { reply = replies.Entered (of_way here.sent way + 1) train; here = record left { sent = with_way left.sent way (of_way here.sent way + 1) }; word = line ++ record { number = of_way here.sent way + 1; train = train } ∷ [] }) e)
 
 -- what the lane of the next train says of the line
-record LaneSays (here : BoxState) (way : Way) (line : List Passage) : Type 0 where
+pub record LaneSays (here : BoxState) (way : Way) (line : List Passage) : Type 0 where
   pub taken : 0 < lane_next here way (plain_line_number line) → holds line (of_way here.sent way + 1) ≡ true
   pub free : lane_next here way (plain_line_number line) ≡ 0 → (holds line (of_way here.sent way + 1) ≡ false) × (length line < 4)
 
-lane_says : (here : BoxState) (way : Way) (line : List Passage) → PlainLineAgrees (Out way) here line → LaneSays here way line
+pub lane_says : (here : BoxState) (way : Way) (line : List Passage) → PlainLineAgrees (Out way) here line → LaneSays here way line
 lane_says here way line a =
     let l = lane-plain_line_number line (of_way here.sent way + 1) a.each in
     ⊎_elim
@@ -153,7 +153,7 @@ nothing_out : (m : ℕ) → bit_and 0 m ≡ 0
 nothing_out m = let l = Rattle.std.proofs.lemmas.Nat.and_le_l 0 m in omega arith
 
 -- the first train is the next one
-first_is : (here : BoxState) (way : Way) (t : Passage) (ts : List Passage) → t.number ≡ next_number here way → next_train here way (t ∷ ts) ≡ Some t.train
+pub first_is : (here : BoxState) (way : Way) (t : Passage) (ts : List Passage) → t.number ≡ next_number here way → next_train here way (t ∷ ts) ≡ Some t.train
 first_is here way t ts e = if_true (t.number == next_number here way) (Some t.train) None (eqb_yes t.number (next_number here way) e)
 
 pub berth_makes : (here : BoxState) (way : Way) (place : ℕ) (line : List Passage) → PlainLineAgrees (In way) here line

@@ -9,5 +9,6 @@ mod words;
 pub use bells::bell_law;
 pub use footprint::{commuting_law, footprint_law};
 pub use words::{
-    agreement_law, count_law, end_law, kind_law, operation_law, places_law, rising_law, words_law,
+    agreement_law, count_law, end_law, kind_law, number_law, operation_law, places_law, rising_law,
+    words_law,
 };

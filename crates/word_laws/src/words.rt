@@ -15,7 +15,8 @@ ghost use Rattle.word_laws.specs.Footprint.{kind_at, kind_of, way_at};
 ghost use Rattle.line_law.specs.History.{IsLegal, state_of};
 ghost use Rattle.line_law.specs.Known.{KnowsCall};
 ghost use Rattle.line_law.specs.Law.{at_moment, decide, link_of, pair_of, box_plan_of, step};
-ghost use Rattle.word_laws.specs.Operations.{FollowsLaw, HasTrainNos, IsOnWord, MovesWord};
+ghost use Rattle.word_laws.specs.Operations.{FollowsLaw, HasTrainNos, IsOnWord, MovesWord, word_met};
+ghost use Rattle.word_laws.specs.SameNumbers.{IsToldAlike};
 ghost use Rattle.line_law.specs.States.{IsStateOf, LineState, box_at, pair_at};
 ghost use Rattle.word_laws.specs.TellsWord.{NeverFalls, TellsCount, kind_told};
 ghost use Rattle.word_laws.specs.WordEnds.{AtEnd};
@@ -62,6 +63,16 @@ pub fn operation_law()
         IsOnWord (kind_of (decide plan box_plan act here)) → HasTrainNos here →
         Agrees (kind_of (decide plan box_plan act here)) (link_of box_plan act) here pair →
         FollowsLaw plan box_plan act here pair }
+{}
+
+/// A law: two pairs that agree with a box and give the same number of the word on which its call is decided give the
+/// call the same reply, and leave the same box. So a number that agrees with the box tells both.
+pub fn number_law()
+    ensures { (plan : PlanFields) (box_plan : BoxFields) (act : Act) (here : BoxState) (pair other : PairState) →
+        Agrees (kind_of (decide plan box_plan act here)) (link_of box_plan act) here pair →
+        Agrees (kind_of (decide plan box_plan act here)) (link_of box_plan act) here other →
+        word_met plan box_plan act here pair ≡ word_met plan box_plan act here other →
+        IsToldAlike plan box_plan act here pair other }
 {}
 
 /// A law: each call that is decided on a word is what a box does at its end of that word, by the line on which it

@@ -4,7 +4,7 @@ use crate::line_fault::LineFault;
 use rail_text::read_number;
 
 /// A line of a file of short cases.
-#[derive(Clone, Copy, Debug, PartialEq, Eq)]
+#[derive(Clone, Copy)]
 pub enum CaseLine<'a> {
     /// An empty line.
     Empty,

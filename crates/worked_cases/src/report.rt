@@ -4,7 +4,7 @@ use crate::worked_case::Answer;
 use std::{fmt, io};
 
 /// How many cases there were, and how many of them agree.
-#[derive(Clone, Copy, Debug)]
+#[derive(Clone, Copy)]
 pub struct Tally {
     cases: u64,
     agree: u64,

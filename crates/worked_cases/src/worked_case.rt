@@ -3,7 +3,7 @@
 use std::alloc::{AllocError, Global};
 
 /// What the program answers: its exit status, and what it prints.
-#[derive(Debug, PartialEq, Eq, Drop)]
+#[derive(PartialEq, Eq, Drop)]
 pub struct Answer {
     pub status: u8,
     pub output: Vec<u8>,
@@ -17,7 +17,7 @@ pub fn push_word(alloc: Global, words: &mut Vec<String>, word: &str) -> Result<(
 }
 
 /// A worked case: the words of a command line, the texts of the shelf by their names, and the answer that is wanted.
-#[derive(Debug, Drop)]
+#[derive(Drop)]
 pub struct Case {
     /// How the report names it.
     pub name: String,

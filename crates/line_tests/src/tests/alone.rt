@@ -62,10 +62,11 @@ const ROWS: [Row; 8] = [
 
 #[test]
 fn desk_reports_and_works_no_line(rt: HostRuntime) -> Result<(), Fail> {
-    for (words, texts, status, printed) in ROWS {
+    for (row, (words, texts, status, printed)) in ROWS.into_iter().enumerate() {
         let printed = printed.as_bytes();
         let answer = serve_at_desk(rt.alloc(), words, texts, printed)?;
-        agrees(&rt, words, 0, answer.fills(printed.len(), status, printed));
+        let is_so = answer.fills(printed.len(), status, printed);
+        agrees(&rt, words, row as u64, is_so);
     }
     Ok(())
 }

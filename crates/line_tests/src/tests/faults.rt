@@ -106,12 +106,12 @@ fn printed_with(status: Status) -> &'static [u8] {
 
 #[test]
 fn failed_fetches_print_nothing(rt: HostRuntime) -> Result<(), Fail> {
-    for (bad_fetch, words, texts, status) in FETCHES {
+    for (row, (bad_fetch, words, texts, status)) in FETCHES.into_iter().enumerate() {
         let outside = Outside { bad_fetch, ..SOUND };
         let printed = printed_with(status);
         let answer = work_behind(&rt, rt.alloc(), words, texts, outside, &OpenGate, printed)?;
         let is_so = answer.fills(printed.len(), status, printed);
-        agrees(&rt, words, bad_fetch.unwrap_or(0), is_so);
+        agrees(&rt, words, row as u64, is_so);
     }
     Ok(())
 }

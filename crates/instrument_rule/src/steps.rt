@@ -1,0 +1,110 @@
+//! The operations of calls, each on one word.
+ghost use Rattle.std.specs.Prelude.{◌≡◌};
+ghost use Rattle.line_plan.specs.Sections.{IsSection};
+ghost use Rattle.line_law.specs.declared.link.Link.TheVariants.{Out};
+ghost use Rattle.instrument_rule.specs.Calls.{MayStep, OpFits, Sits, block_on};
+ghost use Rattle.instrument_rule.specs.Told.{Saw, Tells};
+ghost use Rattle.instrument_rule.specs.Views.{caller_of};
+
+use crate::line::Line;
+use crate::plays::{Asking, Do, Glance, Glancing};
+use crate::post::{Post, or_zero};
+use block_words::{COUNT_MASK, SPENT_BIT, WordOp};
+use line_law::{Call, Link};
+use line_plan::Section;
+use std::marker::Brand;
+
+impl Post {
+    // One operation for a call of this box, on its one word.
+    fn step_as<J: Asking>(
+        &mut self,
+        line: &Line,
+        box_no: u32,
+        call: &Call,
+        op: WordOp,
+        last: bool,
+    ) -> u64
+        requires line { self.old.seat.table_id ≡ line.now.table.shared.table_id }
+        requires plan { J.plan ≡ line.now.table.shared.key }
+        requires box_no { box_no ≡ caller_of self.old.seat.me.0.posts }
+        requires call { J.call ≡ call.now }
+        requires op { J.op ≡ op }
+        requires last { J.last ≡ last }
+        requires sits { Sits J.plan self.old.seat.me.0 }
+        requires may { MayStep J.plan J.call self.old.seat.me.0 }
+        requires fits { OpFits J.plan (caller_of self.old.seat.me.0.posts) J.call J.op self.old.seat.me.0 }
+        ensures same { self.new.seat.table_id ≡ self.old.seat.table_id }
+        ensures posts { self.new.seat.me.0.posts ≡ self.old.seat.me.0.posts }
+        ensures told { Tells J.plan J.call J.op J.last self.old.seat.me.0 result self.new.seat.me.0 }
+    {
+        let _last = last;
+        let word = line.place(box_no, call.act, op);
+        let words = &line.table.shared;
+        match op {
+            WordOp::Local => words.fetch_add::<Do<J>>(&mut self.seat, word, 1),
+            WordOp::Ring {
+                side: _,
+                expect,
+                new,
+            } => words.compare_exchange::<Do<J>>(&mut self.seat, word, expect, new),
+            WordOp::Hear { side: _ } => words.fetch_and::<Do<J>>(&mut self.seat, word, COUNT_MASK),
+            WordOp::Turn { way: _, new } => words.swap::<Do<J>>(&mut self.seat, word, new),
+            WordOp::Pull { way: _ } => words.fetch_or::<Do<J>>(&mut self.seat, word, SPENT_BIT),
+            WordOp::Enter { way: _, bits } => words.fetch_or::<Do<J>>(&mut self.seat, word, bits),
+            WordOp::TakeOut { way: _, mask } => {
+                words.fetch_and::<Do<J>>(&mut self.seat, word, mask)
+            }
+            WordOp::LookBell { side: _ }
+            | WordOp::LookBlock { way: _ }
+            | WordOp::LookSection { way: _ } => words.load::<Do<J>>(&mut self.seat, word),
+        }
+    }
+
+    /// Does one operation for a call of the post's first box, on its one word, and gives the old word. The call's entry
+    /// is made exactly where the call is decided there; `last` says that no further look follows. It takes no memory
+    /// and waits for nobody.
+    pub fn step(&mut self, line: &Line, call: &Call, op: WordOp, last: bool) -> u64
+        requires line { self.old.seat.table_id ≡ line.now.table.shared.table_id }
+        requires sits { Sits line.now.table.shared.key self.old.seat.me.0 }
+        requires may { MayStep line.now.table.shared.key call.now self.old.seat.me.0 }
+        requires op { OpFits line.now.table.shared.key (caller_of self.old.seat.me.0.posts) call.now op
+            self.old.seat.me.0 }
+        ensures same { self.new.seat.table_id ≡ self.old.seat.table_id }
+        ensures posts { self.new.seat.me.0.posts ≡ self.old.seat.me.0.posts }
+        ensures told { Tells line.now.table.shared.key call.now op last self.old.seat.me.0 result
+            self.new.seat.me.0 }
+    {
+        let box_no = or_zero(self.first);
+        self.step_as::<Brand>(line, box_no, call, op, last)
+    }
+
+    // A look at the instrument of a section.
+    fn glance_as<J: Glancing>(&mut self, line: &Line, section: Section) -> u64
+        requires line { self.old.seat.table_id ≡ line.now.table.shared.table_id }
+        requires plan { J.plan ≡ line.now.table.shared.key }
+        requires word { J.word ≡ block_on section.rear (Out section.way) }
+        requires sits { Sits J.plan self.old.seat.me.0 }
+        requires section { IsSection line.now.table.shared.key section }
+        ensures same { self.new.seat.table_id ≡ self.old.seat.table_id }
+        ensures posts { self.new.seat.me.0.posts ≡ self.old.seat.me.0.posts }
+        ensures told { Saw J.plan J.word 1 self.old.seat.me.0.room self.old.seat.me.0 result self.new.seat.me.0 }
+    {
+        let word = line.block(section.rear, Link::Out(section.way));
+        line.table.shared.load::<Glance<J>>(&mut self.seat, word)
+    }
+
+    /// Looks at the instrument of a section, for no call; the post need hold no box. It has then seen all that was done
+    /// on the line until the look, and the word that it gives is the instrument's after that. It makes no entry, takes
+    /// no memory and waits for nobody.
+    pub fn glance(&mut self, line: &Line, section: Section) -> u64
+        requires line { self.old.seat.table_id ≡ line.now.table.shared.table_id }
+        requires sits { Sits line.now.table.shared.key self.old.seat.me.0 }
+        requires section { IsSection line.now.table.shared.key section }
+        ensures same { self.new.seat.table_id ≡ self.old.seat.table_id }
+        ensures posts { self.new.seat.me.0.posts ≡ self.old.seat.me.0.posts }
+        ensures told { Saw line.now.table.shared.key (block_on section.rear (Out section.way)) 1
+            self.old.seat.me.0.room self.old.seat.me.0 result self.new.seat.me.0 }
+    {
+        self.glance_as::<Brand>(line, section)
+    }
+}

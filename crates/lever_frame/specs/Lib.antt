@@ -1,0 +1,4 @@
+pub mod LeverPlans
+pub mod Replies
+pub mod Rows
+pub mod LeverFrames

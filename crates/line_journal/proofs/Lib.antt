@@ -1,0 +1,16 @@
+pub mod WordFits
+pub mod PairFits
+pub mod WordMoves
+pub mod PairMoves
+pub mod Exchange
+pub mod Legal
+pub mod Settled
+pub mod LineSettled
+pub mod Orders
+pub mod Deciding
+pub mod Lefts
+pub mod Looping
+pub mod Deciders
+pub mod Skipping
+pub mod Opening
+pub mod Nearby

@@ -1,0 +1,15 @@
+use Rattle.line_journal.specs.Keepers.{AreRests, NoneOpenBelow}
+use Rattle.line_journal.specs.Lists.{count_left}
+use Rattle.line_journal.specs.Merging.{Merges}
+use Rattle.line_journal.specs.Order.{lists_of}
+use Rattle.line_journal.proofs.merging.merge.Given as goal
+
+abbrev pub invariant-loop-box_no : goal.invariant-loop-box_no
+invariant-loop-box_no l = record {
+  merges : Merges l.plan (lists_of l.ended.registers) l.entries.items l.pairs.items l.left;
+  rests : AreRests l.plan l.left l.rests.items;
+  below : NoneOpenBelow l.plan l.pairs.items l.left l.from;
+}
+
+abbrev pub decreases-loop-box_no : goal.decreases-loop-box_no
+decreases-loop-box_no l = count_left l.left

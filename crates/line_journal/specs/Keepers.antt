@@ -1,0 +1,102 @@
+-- Of one box's remaining entries the first of a kind on a word decides for all of them whether they keep an entry back.
+use Rattle.std.specs.Prelude.{ℕ, ◌+◌, ◌-◌, ◌*◌, ◌==◌, ◌≡◌, ◌<◌, ◌⊎◌, false}
+use Rattle.std.specs.Prelude.{List, ◌∷◌, Option, Some, None, length, take, slice_index_or}
+use Rattle.std.specs.List.{find}
+use Rattle.line_plan.specs.Plans.{PlanFields}
+use Rattle.line_law.specs.declared.call.Entry.{Entry}
+use Rattle.line_law.specs.declared.call.Reply.{Reply}
+use Rattle.line_law.specs.declared.call.Reply.TheVariants.{Rung, BellBusy, Heard, Silent}
+use Rattle.line_law.specs.declared.call.Reply.TheVariants.{BellNotYet, Turned, Seen, BlockNotYet}
+use Rattle.line_law.specs.declared.call.Reply.TheVariants.{PulledUnder, HeldByInstrument, Entered, SectionFull}
+use Rattle.line_law.specs.declared.call.Reply.TheVariants.{TrainNotYet, Berthed, NoTrainAt, Cleared}
+use Rattle.word_laws.specs.Footprint.{way_at}
+use Rattle.line_law.specs.Replies.{way_number}
+use Rattle.line_law.specs.declared.state.PairState.{PairState}
+use Rattle.line_journal.specs.Order.{Each, keeps_back, list_at}
+use Rattle.line_journal.specs.Halves.{Fits}
+
+-- the kind of a reply that may keep others back: of a busy bell, of one that has nothing, of an instrument at its rear,
+-- of a full section, or of a train that isn't there; 0 for any other
+abbrev pub keeper_no : Reply → ℕ
+keeper_no (BellBusy k code) = 1
+keeper_no (Silent k) = 2
+keeper_no (BellNotYet k shown) = 2
+keeper_no (PulledUnder v) = 3
+keeper_no (HeldByInstrument way v shown spent) = 3
+keeper_no (Seen v) = 3
+keeper_no (BlockNotYet v shown) = 3
+keeper_no (SectionFull k) = 4
+keeper_no (NoTrainAt j) = 5
+keeper_no (TrainNotYet j) = 5
+keeper_no reply = 0
+
+-- the kind of reply that may keep this one back; 0 for none
+abbrev pub kept_by : Reply → ℕ
+kept_by (Heard k code) = 1
+kept_by (Rung k) = 2
+kept_by (Turned v) = 3
+kept_by (Berthed j train) = 4
+kept_by (Cleared j train) = 4
+kept_by (Entered k train) = 5
+kept_by reply = 0
+
+-- a kind of reply, and the way of its word, as one number below 12
+abbrev pub keeper_slot : PlanFields → Entry → ℕ
+keeper_slot plan e = 2 * keeper_no e.reply + way_number (way_at plan e.box_no e.call)
+
+-- the number of the entries that may keep this one back
+abbrev pub kept_slot : PlanFields → Entry → ℕ
+kept_slot plan e = 2 * kept_by e.reply + way_number (way_at plan e.box_no e.call)
+
+-- the first of these entries that may keep an entry back
+abbrev pub first_keeper : PlanFields → Entry → List Entry → Option Entry
+first_keeper plan e list = find (λ x. keeper_slot plan x == kept_slot plan e) list
+
+-- it doesn't keep the entry back, if there is one
+abbrev pub LetsPass : PlanFields → Entry → Option Entry → Type 0
+LetsPass plan e None = Unit {0}
+LetsPass plan e (Some x) = keeps_back plan e x ≡ false
+
+-- ---- what the merge keeps of them
+
+-- how many numbers of keepers there are
+abbrev pub slots : ℕ
+slots = 12
+
+-- none of these entries has the number, but for as many at the end
+abbrev pub Skips : PlanFields → ℕ → List Entry → ℕ → Type 0
+Skips plan slot list rest = Each (λ x. (keeper_slot plan x == slot) ≡ false) (take (length list - rest) list)
+
+-- for each box and each number, how many of its remaining entries are left from some place on before which none has the
+-- number
+pub record AreRests (plan : PlanFields) (lists : List (List Entry)) (rests : List ℕ) : Type 0 where
+  pub each : length rests ≡ slots * length lists
+  pub skips : (b slot : ℕ) → b < length lists → slot < slots
+      → Skips plan slot (list_at lists b) (slice_index_or rests (slots * b + slot) 0)
+
+-- for each box and each number all of its entries are left
+pub record AreOpening (lists : List (List Entry)) (rests : List ℕ) : Type 0 where
+  pub each : length rests ≡ slots * length lists
+  pub all : (b slot : ℕ) → b < length lists → slot < slots
+      → slice_index_or rests (slots * b + slot) 0 ≡ length (list_at lists b)
+
+-- the first keepers of both neighbours let an entry of box b pass
+abbrev pub IsPassed : PlanFields → List (List Entry) → ℕ → Entry → Type 0
+IsPassed plan lists b e = (c : ℕ) → (c + 1 ≡ b) ⊎ (c ≡ b + 1) → LetsPass plan e (first_keeper plan e (list_at lists c))
+
+-- the next entry of box b fits its word, and the first keepers of both neighbours let it pass
+pub record IsOpen (plan : PlanFields) (pairs : List PairState) (lists : List (List Entry)) (b : ℕ) : Type 0 where
+  pub entry : Entry
+  pub rest : List Entry
+  pub next : list_at lists b ≡ entry ∷ rest
+  pub fits : Fits plan pairs entry
+  pub passed : IsPassed plan lists b entry
+
+-- of no box below this number
+abbrev pub NoneOpenBelow : PlanFields → List PairState → List (List Entry) → ℕ → Type 0
+NoneOpenBelow plan pairs lists n = (c : ℕ) → c < n → IsOpen plan pairs lists c → ⊥
+
+-- the lowest box of which that is so, if there is one
+abbrev pub IsLowestOpen : PlanFields → List PairState → List (List Entry) → Option ℕ → Type 0
+IsLowestOpen plan pairs lists None = (b : ℕ) → IsOpen plan pairs lists b → ⊥
+IsLowestOpen plan pairs lists (Some b) = IsOpen plan pairs lists b × ((c : ℕ) → c < b → IsOpen plan pairs lists c → ⊥)

@@ -1,0 +1,12 @@
+//! The journal of a line that has ended: the registers of its boxes merged in one order.
+#![tactic(auto)]
+
+mod fitting;
+mod keepers;
+mod keeping;
+mod laws;
+mod left;
+mod merging;
+
+pub use laws::{exchange_law, order_law, parts_law, reply_law};
+pub use merging::merge;

@@ -1,0 +1,11 @@
+use Rattle.std.proofs.Common.{◌≡◌}
+use Rattle.instrument_rule.specs.Views.{caller_of}
+use Rattle.rule_tests.specs.Hands.{Knows}
+use Rattle.rule_tests.proofs.hand.ring_all.Given as goal
+
+abbrev pub invariant-loop : goal.invariant-loop
+invariant-loop l = record {
+  same : l.hand.post.seat.table_id ≡ l.line.table.shared.table_id;
+  knows : Knows l.plan l.hand.post.seat.me.0 l.hand.rung l.hand.calls;
+  whose : caller_of l.hand.post.seat.me.0.posts ≡ l.hand.box_no;
+}

@@ -1,0 +1,4 @@
+pub mod Standings
+pub mod TrainsHere
+pub mod Bringing
+pub mod Moves
