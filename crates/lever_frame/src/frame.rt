@@ -7,8 +7,8 @@ ghost use Rattle.locking_table.specs.Places.{IsLever, at_ends, end_at};
 ghost use Rattle.locking_table.specs.Sound.{RowFits};
 ghost use Rattle.tappet_compiler.specs.Compiled.{compiled};
 ghost use Rattle.line_plan.specs.Frames.{frame_size};
-ghost use Rattle.lever_frame.specs.LeverFrames.{HasPlacesOf, IsFrameOf, is_off, lock_reply, moved_by, passed, pull_reply};
-ghost use Rattle.lever_frame.specs.LeverFrames.{pulled, put_back, put_reply};
+ghost use Rattle.lever_frame.specs.LeverFrames.{HasPlacesOf, IsFrameOf, is_off, lock_reply, moved_by, passed};
+ghost use Rattle.lever_frame.specs.LeverFrames.{pull_reply, pulled, put_back, put_reply};
 
 use crate::lever_plan::{LeverPlan, lever_plans};
 use crate::reply::{LeverReply, track_reply};
@@ -26,6 +26,8 @@ use track_circuits::Tracks;
 ///
 /// Contracts see it as the rows, what is kept of the levers' plans, the ends at which the levers stand, and which arms
 /// are off.
+///
+/// The calls that take track circuits need that these have every place that locks the lever.
 #[derive(Drop)]
 pub struct LeverFrame {
     frame: Frame,
@@ -146,8 +148,6 @@ impl LeverFrame {
     }
 
     /// What `pull_local` would answer. Nothing moves.
-    ///
-    /// The track circuits have every place that locks the lever, in this call and the next two.
     pub fn pull_test(&self, lever: u32, tracks: &Tracks) -> LeverReply
         requires lever { IsLever (length self.now.ends) lever }
         requires tracks { HasPlacesOf self.now lever tracks.now }

@@ -20,7 +20,7 @@ use Rattle.line_law.proofs.Sides.{call_within}
 use Rattle.line_journal.specs.Fits.{FitsWord, word_made}
 use Rattle.line_journal.specs.Order.{Each, keeps_back, kept_back, on_one_word, same_kind, without}
 use Rattle.line_journal.specs.Halves.{FitFrom, Fits, FitsPair, Stands, found_at, made, pair_for, pair_made}
-use Rattle.line_journal.specs.Exchanges.{ChangePlaces, IsLost, IsLostOnWord, MayChangePlaces}
+use Rattle.line_journal.specs.Exchanges.{AreOnOtherWords, ChangePlaces, IsLost, IsLostOnWord, MayChangePlaces}
 use Rattle.line_journal.proofs.PairMoves.{OppositeEnds, PairMoves, apart_lost, apart_swap}
 use Rattle.line_journal.proofs.PairMoves.{lost_stays, one_or_two, opposite_ends, pair_moves, word_lost}
 
@@ -139,6 +139,13 @@ moves_past plan pairs e x is are ne es xs f g free =
     (λ one. past_pair plan pairs e x ne es xs (is_there plan pairs e is are es) one.1 f g free (one_or_two (kind_told e.reply) (way_at plan e.box_no e.call) (kind_told x.reply) (way_at plan x.box_no x.call)))
     (λ two. inl (swaps_apart plan pairs e x two.1 f g))
     (eqb_tells (pair_for plan e) (pair_for plan x))
+
+-- on different words two entries change places
+pub apart_places : (plan : PlanFields) (pairs : List PairState) (e x : Entry) → IsPlan plan → AreOf plan pairs → Stands plan e → Fits plan pairs e → Fits plan pairs x → AreOnOtherWords plan e x → MayChangePlaces plan pairs e x
+apart_places plan pairs e x is are es f g (inl ne) = swaps_apart plan pairs e x ne f g
+apart_places plan pairs e x is are es f g (inr one) =
+    swaps_in plan pairs e x one.0 (is_there plan pairs e is are es)
+    (apart_swap (kind_told e.reply) (way_at plan e.box_no e.call) e.call.act e.reply (kind_told x.reply) (way_at plan x.box_no x.call) x.call.act x.reply _ one.1 f (found_there plan pairs e x one.0 g))
 
 -- ---- what is lost
 

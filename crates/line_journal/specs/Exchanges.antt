@@ -1,5 +1,5 @@
 -- Entries of two boxes that change places on the shared words of a line, and replies that are lost.
-use Rattle.std.specs.Prelude.{◌≡◌, ◌<◌, false, List, None}
+use Rattle.std.specs.Prelude.{◌≡◌, ◌≢◌, ◌<◌, ◌⊎◌, false, List, None}
 use Rattle.block_words.specs.declared.Way.{Way}
 use Rattle.line_plan.specs.Plans.{PlanFields}
 use Rattle.line_law.specs.declared.call.Entry.{Entry}
@@ -13,7 +13,7 @@ use Rattle.line_law.specs.declared.state.Passage.{Passage}
 use Rattle.line_law.specs.Arrivals.{first_train}
 use Rattle.line_law.specs.Trains.{holds}
 use Rattle.line_law.specs.Ways.{of_way}
-use Rattle.word_laws.specs.Footprint.{Kind, Tally, BellWord, BlockWord, PlainLineWord, way_at}
+use Rattle.word_laws.specs.Footprint.{Kind, Tally, BellWord, BlockWord, PlainLineWord, Apart, way_at}
 use Rattle.word_laws.specs.TellsWord.{kind_told}
 use Rattle.line_journal.specs.Halves.{Fits, found_at, made, pair_for}
 
@@ -29,6 +29,13 @@ pub record ChangePlaces {W : Type 0} (F G : W → Type 0) (m n : W → W) (w : W
 abbrev pub MayChangePlaces : PlanFields → List PairState → Entry → Entry → Type 0
 MayChangePlaces plan pairs e x =
     ChangePlaces (λ ps. Fits plan ps e) (λ ps. Fits plan ps x) (λ ps. made plan ps e) (λ ps. made plan ps x) pairs
+
+-- two entries were decided on different words
+abbrev pub AreOnOtherWords : PlanFields → Entry → Entry → Type 0
+AreOnOtherWords plan e x =
+    (pair_for plan e ≢ pair_for plan x)
+    ⊎ ((pair_for plan e ≡ pair_for plan x)
+    × Apart (kind_told e.reply) (way_at plan e.box_no e.call) (kind_told x.reply) (way_at plan x.box_no x.call))
 
 -- ---- what is lost
 

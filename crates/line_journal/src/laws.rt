@@ -12,7 +12,7 @@ ghost use Rattle.line_law.specs.History.{IsLegal, IsLegalFrom, after_entry, part
 ghost use Rattle.line_law.specs.Law.{decide};
 ghost use Rattle.line_law.specs.States.{IsStateOf, LineState, box_at};
 ghost use Rattle.train_register.specs.Registers.{AreParts, RegisterFields};
-ghost use Rattle.line_journal.specs.Exchanges.{IsLost, MayChangePlaces};
+ghost use Rattle.line_journal.specs.Exchanges.{AreOnOtherWords, IsLost, MayChangePlaces};
 ghost use Rattle.line_journal.specs.Lists.{HaveEnded};
 ghost use Rattle.line_journal.specs.Merging.{Remains, SomeReady};
 ghost use Rattle.line_journal.specs.Order.{IsBoxReady, IsOrder, IsOrderFrom, keeps_back};
@@ -40,10 +40,13 @@ pub fn parts_law()
         → IsLegalFrom plan state es }
 {}
 
-/// A law of two entries of different boxes that both fit their words, the first of which the second doesn't keep back:
-/// they change places, on different words always; or else the first is lost once the second is made. What is lost stays
-/// lost whatever the other boxes do, and doesn't fit its word.
+/// A law of two entries of different boxes that both fit their words. On different words they change places. On one
+/// word, where the second doesn't keep the first back, they change places, or the first is lost once the second is made.
+/// What is lost stays lost whatever the other boxes do, and doesn't fit its word.
 pub fn exchange_law()
+    ensures apart { (plan : PlanFields) (pairs : List PairState) (e x : Entry) → IsPlan plan
+        → length pairs ≡ length plan.boxes - 1 → Stands plan e → Fits plan pairs e → Fits plan pairs x
+        → AreOnOtherWords plan e x → MayChangePlaces plan pairs e x }
     ensures places { (plan : PlanFields) (pairs : List PairState) (e x : Entry) → IsPlan plan
         → length pairs ≡ length plan.boxes - 1 → e.box_no ≢ x.box_no → Stands plan e → Stands plan x
         → Fits plan pairs e → Fits plan pairs x → keeps_back plan e x ≡ false

@@ -1,12 +1,11 @@
 -- What a signalman's hand on the bells knows after each of its calls.
-use Rattle.std.proofs.Common.{◌≡◌, ◌≢◌, ℕ, ◌+◌, ◌<◌, ◌≤◌, Bool, true, false, not, ◌&&◌, if◌then◌else◌, inl, inr, ⊎_elim}
+use Rattle.std.proofs.Common.{◌≡◌, ℕ, ◌+◌, ◌<◌, ◌≤◌, Bool, true, false, not, ◌&&◌, if◌then◌else◌, inl, inr}
 use Rattle.std.proofs.Common.{List, [], ◌∷◌, ◌++◌, length, Option, Some, None, refl, sym, ap, subst, ◌∙◌, arith}
 use Rattle.std.proofs.Common.{length-append}
 use Rattle.std.specs.Prelude.{◌==◌, IfSome}
 use Rattle.std.proofs.lemmas.Bool.Decides.{eqb_tells}
 use Rattle.std.proofs.lemmas.List.{get_or-set_same}
 use Rattle.block_words.specs.Bells.{bell_code, bell_word}
-use Rattle.block_words.specs.Ways.{opposite}
 use Rattle.block_words.specs.declared.Way.{Way}
 use Rattle.block_words.specs.declared.Way.TheVariants.{Down}
 use Rattle.block_words.specs.declared.WordOp.{WordOp}
@@ -29,13 +28,13 @@ use Rattle.line_law.specs.States.{IsStateOf, LineState, box_at, no_state, openin
 use Rattle.line_law.proofs.Histories.{history_states, state_grows}
 use Rattle.line_law.proofs.Opens.{opening_at}
 use Rattle.line_law.proofs.Sides.{call_within}
-use Rattle.word_laws.specs.WordNumbers.{BellAgrees, IsCodeNo, Word, code_number, number_after}
+use Rattle.word_laws.specs.WordNumbers.{BellAgrees, IsCodeNo, Word, code_number}
 use Rattle.word_laws.proofs.Agreements.{met_agrees}
 use Rattle.instrument_rule.specs.declared.view.View.{View}
-use Rattle.instrument_rule.specs.Calls.{MayStep, OpFits, Sits, WasSeen, bell_on, op_word}
+use Rattle.instrument_rule.specs.Calls.{MayStep, OpFits, Sits}
 use Rattle.instrument_rule.specs.Rule.{most_entries}
 use Rattle.instrument_rule.specs.Told.{Made, MadeOrSaw, Saw, Tells}
-use Rattle.instrument_rule.specs.Views.{caller_of, seeing, with_post}
+use Rattle.instrument_rule.specs.Views.{caller_of, with_post}
 use Rattle.instrument_rule.proofs.Doing.{caller_held}
 use Rattle.instrument_rule.proofs.Parts.{eqb_no, eqb_yes, own_box, part_grows}
 use Rattle.rule_tests.specs.Hands.{Knows, rung_after}
@@ -100,7 +99,7 @@ module _ (plan : PlanFields) (is : IsPlan plan) (v : View) (r n : ℕ) (k : Know
       own_box plan (caller_of v.posts) v.seen log is seen.begins legal
       (seen.own (caller_of v.posts) (caller_held v.posts k.holds))
 
-  same_part : (log : List Entry) → Rattle.instrument_rule.specs.Rule.Seen log v.posts v.seen
+  pub same_part : (log : List Entry) → Rattle.instrument_rule.specs.Rule.Seen log v.posts v.seen
       → length (part_of (caller_of v.posts) log) ≡ n
   same_part log seen =
       ap (λ (es : List Entry). length es) (seen.own (caller_of v.posts) (caller_held v.posts k.holds)) ∙ k.counted

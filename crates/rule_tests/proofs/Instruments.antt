@@ -1,12 +1,11 @@
 -- The first turns of an instrument, and a pull of its starter, in a box that has done nothing.
-use Rattle.std.proofs.Common.{◌≡◌, ℕ, ◌+◌, ◌-◌, ◌<◌, Bool, true, false, if◌then◌else◌, inl, List, [], ◌∷◌, length}
+use Rattle.std.proofs.Common.{◌≡◌, ℕ, ◌+◌, ◌-◌, ◌<◌, Bool, false, if◌then◌else◌, inl, List, [], ◌∷◌, length}
 use Rattle.std.proofs.Common.{Option, Some, None, refl, sym, ap, subst, ◌∙◌, arith, replicate}
 use Rattle.block_words.specs.Instruments.{block_word}
 use Rattle.block_words.specs.declared.Position.{Position}
 use Rattle.block_words.specs.declared.Position.TheVariants as shows
 use Rattle.block_words.specs.declared.Way.TheVariants.{Down}
 use Rattle.block_words.specs.declared.WelwynState.TheVariants as welwyn
-use Rattle.block_words.specs.declared.WordOp.{WordOp}
 use Rattle.block_words.specs.declared.WordOp.TheVariants as ops
 use Rattle.locking_table.specs.Meaning.{holder_of}
 use Rattle.locking_table.specs.declared.places.End.TheVariants as ends
@@ -22,7 +21,6 @@ use Rattle.line_law.specs.declared.call.Reply.TheVariants.{AlreadyReversed, Alre
 use Rattle.line_law.specs.declared.link.Link.TheVariants.{In}
 use Rattle.line_law.specs.declared.state.Block.{Block}
 use Rattle.line_law.specs.declared.state.BoxState.{BoxState}
-use Rattle.line_law.specs.declared.state.Control.{Control}
 use Rattle.line_law.specs.declared.state.Control.TheVariants.{Absolute}
 use Rattle.line_law.specs.declared.tracks.Standing.{Standing}
 use Rattle.line_law.specs.Decisions.{Decision, OnBlock, on_pair, or_later, unless}
@@ -31,14 +29,14 @@ use Rattle.line_law.specs.Instruments.{clearing_refusal, control_refusal, home_r
 use Rattle.line_law.specs.Instruments.{turn, turn_refusal, turned, welwyn_refusal}
 use Rattle.line_law.specs.Known.{KnowsCall}
 use Rattle.line_law.specs.Law.{at_moment, box_plan_of, decide}
-use Rattle.line_law.specs.LeverEnds.{first_reversed, is_pulled, is_reversed_end}
+use Rattle.line_law.specs.LeverEnds.{first_reversed, is_reversed_end}
 use Rattle.line_law.specs.Levers.{lock_refusal, pull_at, pull_refusal, pulled, pulled_under, row_refusal, spare_refusal}
 use Rattle.line_law.specs.Levers.{starter_way, track_refusal}
 use Rattle.line_law.specs.Links.{pair_no}
 use Rattle.line_law.specs.States.{box_at, control_of, opening_box, opening_control, pair_at}
 use Rattle.line_law.specs.Tracks.{first_standing, standing_at}
 use Rattle.line_law.proofs.Opens.{all_one, opening_at}
-use Rattle.word_laws.specs.Footprint.{BlockWord, Kind as WordKind, kind_of as word_kind}
+use Rattle.word_laws.specs.Footprint.{Kind as WordKind, kind_of as word_kind}
 use Rattle.word_laws.specs.Operations.{first_by, first_on, pull_op}
 use Rattle.word_laws.specs.WordNumbers.{Agrees, BlockAgrees}
 use Rattle.word_laws.proofs.Agreements.{met_agrees}
@@ -46,7 +44,6 @@ use Rattle.instrument_rule.specs.declared.view.View.{View}
 use Rattle.instrument_rule.specs.Calls.{OpFits, Sits}
 use Rattle.instrument_rule.specs.Told.{Made}
 use Rattle.instrument_rule.specs.Views.{caller_of, with_post}
-use Rattle.rule_tests.specs.Hands.{Knows}
 use Rattle.rule_tests.specs.Instruments.{Fresh, Given, IsAbsolute, IsFreeStarter}
 use Rattle.rule_tests.proofs.Hands.{fresh, made, same_own}
 

@@ -1,2 +1,4 @@
 pub mod Hands
 pub mod Instruments
+pub mod Joins
+pub mod Sections

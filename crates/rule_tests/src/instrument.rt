@@ -10,16 +10,16 @@ use instrument_rule::{Line, Post};
 use line_law::{Act, Call, knows, knows_outgoing, starter_way};
 use line_plan::{BoxPlan, Kind, Plan, Section};
 
-// The plan of a box.
-fn plan_of_box(plan: &Plan, box_no: u32) -> &BoxPlan
+/// The plan of a box.
+pub fn plan_of_box(plan: &Plan, box_no: u32) -> &BoxPlan
     requires { box_no < length plan.now.boxes }
     ensures { result.now ≡ box_plan_of plan.now box_no }
 {
     &plan.boxes.as_slice()[box_no as usize]
 }
 
-// Whether the down line of a box is absolute, and has a berth there.
-fn is_absolute(plan: &Plan, box_no: u32) -> bool
+/// Whether the down line of a box is absolute, and has a berth there.
+pub fn is_absolute(plan: &Plan, box_no: u32) -> bool
     requires { box_no < length plan.now.boxes }
     ensures { result ≡ true → IsAbsolute plan.now box_no }
 {

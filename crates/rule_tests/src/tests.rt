@@ -3,5 +3,7 @@
 mod bells;
 mod desk;
 mod instruments;
+mod joined;
 mod posts;
+mod sections;
 mod threads;

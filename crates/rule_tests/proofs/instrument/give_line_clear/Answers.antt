@@ -1,4 +1,4 @@
-use Rattle.std.proofs.Common.{◌≡◌, ℕ, refl, sym, ap, ◌∙◌, subst, true}
+use Rattle.std.proofs.Common.{ℕ, refl, sym, ap, ◌∙◌, subst, true}
 use Rattle.block_words.specs.declared.Position.TheVariants.{LineClear}
 use Rattle.block_words.specs.declared.Way.TheVariants.{Down}
 use Rattle.block_words.specs.declared.WordOp.TheVariants as ops
