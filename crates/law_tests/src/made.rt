@@ -3,7 +3,7 @@
 ghost use Rattle.line_maker.specs.MadeCalls.{AreLineScripts};
 
 use crate::facts::{holds, is_text};
-use line_maker::make_line;
+use line_maker::{MakeError, make_line};
 use line_plan::Plan;
 use plan_text::print_plan;
 use rail_text::NoMemory;
@@ -110,4 +110,23 @@ fn two_hundred_trains(rt: HostRuntime) -> Result<(), Fail> {
     holds(&rt, "two hundred trains", are_trains);
     holds(&rt, "their calls", have_calls);
     Ok(())
+}
+
+// Whether there is no line of so many trains.
+fn is_out_of_range(alloc: Global, n: u32) -> bool {
+    match make_line(alloc, n) {
+        Ok(made) => {
+            drop(made);
+            false
+        }
+        Err(error) => error == MakeError::OutOfRange { n },
+    }
+}
+
+#[test]
+fn trains_out_of_range(rt: HostRuntime) {
+    let none = is_out_of_range(rt.alloc(), 0);
+    let many = is_out_of_range(rt.alloc(), 201);
+    let most = is_out_of_range(rt.alloc(), u32::MAX);
+    holds(&rt, "no line of 0, 201 or more trains", none & many & most);
 }

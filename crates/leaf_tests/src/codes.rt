@@ -94,14 +94,18 @@ fn add(rt: &impl Abort, table: &mut CodeTable, word: &str) -> Result<CodeNo, Add
     table.add(code_of(rt, word))
 }
 
+// Whether the table has the code of this word under this number.
+fn has_code(rt: &impl Abort, table: &CodeTable, no: CodeNo, word: &str) -> bool {
+    1 <= no
+        && no as usize <= table.len()
+        && number_of(rt, table, word) == Some(no)
+        && table.code(no) == code_of(rt, word)
+}
+
 fn is_opening(rt: &impl Abort, table: &CodeTable, copy: &CodeTable) {
     let mut next = 1;
     for (no, word) in OPENING.iter() {
-        hold(
-            rt,
-            word,
-            *no == next && number_of(rt, table, word) == Some(*no),
-        );
+        hold(rt, word, *no == next && has_code(rt, table, *no, word));
         next = no.saturating_add(1);
     }
     assert!(rt; table.len() == 10);

@@ -126,3 +126,25 @@ fn a_permit_is_released_unless_its_train_comes(rt: HostRuntime) {
         ],
     );
 }
+
+#[test]
+fn a_permit_without_delay_is_released_at_its_moment(rt: HostRuntime) {
+    let mut permit = Permit::new(2);
+    permit.give();
+    let ready_at = permit.wind(610, 0);
+    let again = permit.wind(610, 0);
+    let early = permit.release(609);
+    let is_out = permit.out() == 1;
+    let reply = permit.release(610);
+    let too_soon = ReleaseReply::TooSoon { ready_at: 610 };
+    all_hold(
+        &rt,
+        &[
+            ("ready at once", ready_at == Some(610)),
+            ("it begins once", again.is_none()),
+            ("too soon", early == too_soon && is_out),
+            ("released", reply == ReleaseReply::Released),
+            ("new again", permit == Permit::new(2)),
+        ],
+    );
+}
