@@ -32,7 +32,7 @@ use Rattle.line_law.specs.Law.{MayCall, at_moment, decide, link_of, box_plan_of}
 use Rattle.line_law.specs.Levers.{starter_link, starter_way}
 use Rattle.line_law.specs.Links.{pair_no, way_of}
 use Rattle.word_laws.specs.Operations.{FirstDecides, FirstOn, MovesWord, SecondDecides, enter_op, first_by, first_on}
-use Rattle.word_laws.specs.Operations.{first_op, look_op, next_lane, second_by, second_op, train_at_signal}
+use Rattle.word_laws.specs.Operations.{first_op, look_op, next_lane, op_decides, second_by, second_op, train_at_signal}
 use Rattle.line_law.specs.Outcomes.{Passes, Overruns, Outcome, Refused, Rings, Hears, AwaitsBell, Turns, AwaitsBlock}
 use Rattle.line_law.specs.Outcomes.{Pulls, PullsStarter, Puts, Brings, GoesTo, GoesAway, Enters, AwaitsTrain, Berths}
 use Rattle.line_law.specs.Outcomes.{Parts, Clears, Winds, Releases}
@@ -50,7 +50,7 @@ use Rattle.word_laws.proofs.WordHistory.{moves_word}
 use Rattle.word_laws.proofs.WordsInPlace.{place_within, word_within}
 use Rattle.instrument_rule.specs.declared.view.View.{View}
 use Rattle.instrument_rule.specs.Calls.{DecidedAt, MayStep, OpFits, Sits, WasSeen, bell_on, block_on, here_at, line_on}
-use Rattle.instrument_rule.specs.Calls.{looks_by, op_decides, op_word, room_seen}
+use Rattle.instrument_rule.specs.Calls.{looks_by, op_word, room_seen}
 use Rattle.instrument_rule.specs.Rule.{Fits, Kept, LaneFree, Roomy, most_entries}
 use Rattle.instrument_rule.specs.Told.{MadeOrSaw, Met, Tells, done, glanced}
 use Rattle.instrument_rule.specs.Views.{caller_of, held, seeing}

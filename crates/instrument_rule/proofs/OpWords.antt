@@ -22,13 +22,13 @@ use Rattle.line_law.specs.Law.{link_of}
 use Rattle.line_law.specs.Levers.{starter_link, starter_way}
 use Rattle.line_law.specs.Links.{pair_no, way_of}
 use Rattle.word_laws.specs.Operations.{FirstDecides, FirstOn, SecondOn, enter_op, first_by, first_on, look_op}
-use Rattle.word_laws.specs.Operations.{next_lane, pull_op, second_by, second_on, train_at_signal}
+use Rattle.word_laws.specs.Operations.{next_lane, op_decides, pull_op, second_by, second_on, train_at_signal}
 use Rattle.line_law.specs.Outcomes.{Passes, Overruns, Outcome, Refused, Rings, Hears, AwaitsBell, Turns, AwaitsBlock}
 use Rattle.line_law.specs.Outcomes.{Pulls, PullsStarter, Puts, Brings, GoesTo, GoesAway, Enters, AwaitsTrain, Berths}
 use Rattle.line_law.specs.Outcomes.{Parts, Clears, Winds, Releases}
 use Rattle.line_law.specs.Ways.{of_way}
 use Rattle.word_laws.specs.WordNumbers.{Word, word_named}
-use Rattle.instrument_rule.specs.Calls.{line_on, block_on, op_decides, op_word}
+use Rattle.instrument_rule.specs.Calls.{line_on, block_on, op_word}
 
 -- the word on which a decision is made
 abbrev pub decided_on : BoxFields → ℕ → Act → Decision → Word

@@ -1,9 +1,6 @@
--- Which operation a call may take, on which word, and whether it decides the call.
-use Rattle.std.specs.Prelude.{◌≡◌, ◌≢◌, ℕ, ◌<◌, ◌==◌, nat_lt, Bool, true, not, ◌&&◌, ◌||◌, ◌⊎◌}
-use Rattle.std.specs.Prelude.{List, [], length, Option, Some}
+-- Which operation a call may take, and on which word.
+use Rattle.std.specs.Prelude.{◌≡◌, ◌≢◌, ℕ, ◌<◌, ◌⊎◌, List, [], length, Option, Some}
 use Rattle.block_words.specs.Bells.{bell_code}
-use Rattle.block_words.specs.Instruments.{block_position}
-use Rattle.block_words.specs.Sections.{lane}
 use Rattle.block_words.specs.Ways.{opposite}
 use Rattle.block_words.specs.declared.Way.{Way}
 use Rattle.block_words.specs.declared.WordOp.{WordOp}
@@ -17,13 +14,11 @@ use Rattle.line_law.specs.declared.call.Entry.{Entry}
 use Rattle.line_law.specs.declared.link.Link.{Link}
 use Rattle.line_law.specs.declared.link.Link.TheVariants.{Out, In}
 use Rattle.line_law.specs.declared.state.BoxState.{BoxState}
-use Rattle.line_law.specs.Arrivals.{next_number}
 use Rattle.line_law.specs.History.{part_of, state_of}
-use Rattle.line_law.specs.Instruments.{same_position}
 use Rattle.line_law.specs.Law.{MayCall, at_moment, link_of, box_plan_of}
 use Rattle.line_law.specs.Links.{pair_no, way_of}
 use Rattle.line_law.specs.States.{box_at}
-use Rattle.word_laws.specs.Operations.{AtFirst, AtSecond, first_op, next_lane, second_op}
+use Rattle.word_laws.specs.Operations.{AtFirst, AtSecond, first_op, second_op}
 use Rattle.word_laws.specs.WordNumbers.{BellOf, BlockOf, PlainLineOf, TallyOf, Word, number_after}
 use Rattle.instrument_rule.specs.declared.view.View.{View}
 use Rattle.instrument_rule.specs.Rule.{most_entries}
@@ -62,27 +57,7 @@ op_word b act (ops.LookSection way) = line_on b (look_link act way)
 op_word b act (ops.Enter way bits) = line_on b (Out way)
 op_word b act (ops.TakeOut way mask) = line_on b (In way)
 
--- ---- where a call is decided
-
--- A look decides its call by the word that it meets: of an await of a bell the last look, where another code or none is
--- there; of an await of an instrument or a train the look that finds it, and the last; of a train at a starter the look
--- that finds its lane taken; of every other call the one look.
-abbrev pub look_decides : BoxFields → Act → BoxState → Bool → ℕ → Bool
-look_decides box_plan (AwaitBell side code) here last word = last && not (bell_code word == code)
-look_decides box_plan (AwaitBlock way position) here last word = last || same_position (block_position word) position
-look_decides box_plan (AwaitTrain way) here last word = last || nat_lt 0 (lane word (next_number here way))
-look_decides box_plan (Pass lever) here last word =
-    nat_lt 0 (next_lane here (way_of (link_of box_plan (Pass lever))) word)
-look_decides box_plan (Overrun lever) here last word =
-    nat_lt 0 (next_lane here (way_of (link_of box_plan (Overrun lever))) word)
-look_decides box_plan act here last word = true
-
--- every other operation decides its call, whatever it meets
-abbrev pub op_decides : BoxFields → Act → BoxState → WordOp → Bool → ℕ → Bool
-op_decides box_plan act here (ops.LookBell side) last word = look_decides box_plan act here last word
-op_decides box_plan act here (ops.LookBlock way) last word = look_decides box_plan act here last word
-op_decides box_plan act here (ops.LookSection way) last word = look_decides box_plan act here last word
-op_decides box_plan act here op last word = true
+-- ---- looks
 
 -- a look of an await is counted
 abbrev pub look_count : Act → ℕ

@@ -9,9 +9,10 @@ use Rattle.line_law.specs.declared.call.Call.{Call}
 use Rattle.line_law.specs.declared.call.Entry.{Entry}
 use Rattle.line_law.specs.History.{IsLegal, entry_of, state_of}
 use Rattle.line_law.specs.Law.{box_plan_of}
+use Rattle.word_laws.specs.Operations.{op_decides}
 use Rattle.word_laws.specs.WordNumbers.{Word, number_after, word_of}
 use Rattle.instrument_rule.specs.declared.view.View.{View}
-use Rattle.instrument_rule.specs.Calls.{DecidedAt, here_at, looks_by, op_decides, op_word, room_seen}
+use Rattle.instrument_rule.specs.Calls.{DecidedAt, here_at, looks_by, op_word, room_seen}
 use Rattle.instrument_rule.specs.Rule.{AllSeen, Seen}
 use Rattle.instrument_rule.specs.Views.{caller_of, seeing, settled, with_post}
 

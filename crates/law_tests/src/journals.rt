@@ -8,7 +8,7 @@ ghost use Rattle.script_text.specs.Entries.{IsSpelled};
 
 use crate::chains::{chain, told_in_turn, worked_from_the_end};
 use crate::facts::holds;
-use crate::lines::{absolute, upwards};
+use crate::lines::{absolute, in_seconds, permissive, upwards};
 use line_journal::{exchange_law, merge, order_law, parts_law, reply_law};
 use line_law::Journal;
 use line_maker::make_line;
@@ -21,7 +21,7 @@ use std::test::Fail;
 use train_register::Ended;
 
 // Histories on the down line that are merged as they were worked.
-const AS_WORKED: [&str; 9] = [
+const AS_WORKED: [&str; 15] = [
     "journal 1\n\
 1 Ash 10:00 ring down 1 -> rung 1\n\
 2 Beech 10:00 await_bell up 1 -> heard 1 1\n\
@@ -53,6 +53,58 @@ end\n",
 6 Ash 10:00 bring t2 -> brought\n\
 7 Ash 10:00 pass 8 -> at_danger\n\
 8 Ash 10:00 overrun 8 -> entered 2 t2\n\
+end\n",
+    // Rows of the locking hold a lever whose points are reversed, and points whose lever is.
+    "journal 1\n\
+1 Ash 10:00 pull 5 -> pulled\n\
+2 Ash 10:00 pull 2 -> held_by_lever 5 row 1\n\
+3 Ash 10:00 put 5 -> put\n\
+4 Ash 10:00 pull 2 -> pulled\n\
+5 Ash 10:00 pull 2 -> already_reversed\n\
+6 Ash 10:00 pull 5 -> held_by_lever 2 row 1\n\
+end\n",
+    // Points that are locked both ways.
+    "journal 1\n\
+1 Ash 10:00 pull 4 -> pulled\n\
+2 Ash 10:00 pull 3 -> pulled\n\
+3 Ash 10:00 put 4 -> held_by_lever 3 row 2\n\
+4 Ash 10:00 put 3 -> put\n\
+5 Ash 10:00 put 4 -> put\n\
+6 Ash 10:00 put 4 -> already_normal\n\
+end\n",
+    // Points that would bring a condition about.
+    "journal 1\n\
+1 Ash 10:00 pull 1 -> pulled\n\
+2 Ash 10:00 pull 2 -> pulled\n\
+3 Ash 10:00 pull 6 -> held_by_lever 1 row 3\n\
+end\n",
+    // A spare lever, a signal without a train, and trains that stand at their places.
+    "journal 1\n\
+1 Ash 10:00 pull 7 -> spare\n\
+2 Ash 10:00 put 7 -> already_normal\n\
+3 Ash 10:00 pass 8 -> no_train\n\
+4 Ash 10:00 bring t3 -> brought\n\
+5 Ash 10:00 bring t3 -> already_brought\n\
+6 Ash 10:00 pull 3 -> held_by_track Q t3\n\
+7 Ash 10:00 bring t1 -> brought\n\
+8 Ash 10:00 bring t2 -> occupied P t1\n\
+end\n",
+    // Nothing comes to Beech.
+    "journal 1\n\
+1 Beech 10:00 berth down -> no_train 1\n\
+2 Beech 10:00 pull 1 -> pulled\n\
+3 Beech 10:00 overrun 1 -> no_train\n\
+4 Beech 10:00 hear up -> silent 0\n\
+end\n",
+    // The starter is held until Line Clear is given.
+    "journal 1\n\
+1 Ash 10:00 pull 8 -> held_by_instrument down 0 normal unspent\n\
+2 Ash 10:00 pull 8 -> held_by_instrument down 0 normal spent\n\
+3 Ash 10:00 ring down 1 -> rung 1\n\
+4 Beech 10:00 await_bell up 1 -> heard 1 1\n\
+5 Beech 10:00 turn down line_clear -> turned 1\n\
+6 Ash 10:00 await_block down line_clear -> seen 1\n\
+7 Ash 10:00 pull 8 -> pulled_under 1\n\
 end\n",
     // One Line Clear gives one pull.
     "journal 1\n\
@@ -259,6 +311,33 @@ end\n",
     ),
 ];
 
+// Two Line Clears are out at once, and no third.
+const TWO_LINE_CLEARS_ON_A_PERMISSIVE_LINE: &str = "journal 1\n\
+1 Beech 10:00 turn down line_clear -> turned 1\n\
+2 Beech 10:00 turn down normal -> turned 2\n\
+3 Beech 10:00 turn down line_clear -> turned 3\n\
+4 Beech 10:00 turn down normal -> turned 4\n\
+5 Beech 10:00 turn down line_clear -> count_full 2\n\
+6 Beech 10:00 wind down -> winding 10:02\n\
+7 Beech 10:02 release down -> released\n\
+8 Beech 10:02 turn down line_clear -> turned 5\n\
+end\n";
+
+// The control is released after the delay, and not a second before.
+const A_RELEASE_IN_SECONDS: &str = "journal 2\n\
+1 Beech 10:00:00 turn down line_clear -> turned 1\n\
+2 Beech 10:00:00 turn down normal -> turned 2\n\
+3 Beech 10:00:00 wind down -> winding 10:02:00\n\
+4 Beech 10:01:59 release down -> too_soon 10:02:00\n\
+5 Beech 10:02:00 release down -> released\n\
+end\n";
+
+// A code that the higher box rings to the lower one, at the far end of a line of three.
+const A_CODE_FROM_THE_LAST_BOX: &str = "journal 1\n\
+1 Cedar 10:00 ring up 1 -> rung 1\n\
+2 Beech 10:00 await_bell down 1 -> heard 1 1\n\
+end\n";
+
 // One train through the three boxes of a made line.
 const A_TRAIN_THROUGH_THREE_BOXES: &str = "journal 1\n\
 1 Ash 06:00 bring t1 -> brought\n\
@@ -426,13 +505,32 @@ fn an_up_line_is_merged(rt: HostRuntime) -> Result<(), Fail> {
 }
 
 #[test]
+fn a_permissive_line_is_merged(rt: HostRuntime) -> Result<(), Fail> {
+    let plan = permissive(rt.alloc())?;
+    let table = [TWO_LINE_CLEARS_ON_A_PERMISSIVE_LINE];
+    let stays = each_stays(&rt, rt.alloc(), &plan, &table);
+    drop(plan);
+    stays?;
+    Ok(())
+}
+
+#[test]
+fn a_line_in_seconds_is_merged(rt: HostRuntime) -> Result<(), Fail> {
+    let plan = in_seconds(rt.alloc())?;
+    let stays = each_stays(&rt, rt.alloc(), &plan, &[A_RELEASE_IN_SECONDS]);
+    drop(plan);
+    stays?;
+    Ok(())
+}
+
+#[test]
 fn a_made_line_is_merged(rt: HostRuntime) -> Result<(), Fail> {
     let (plan, scripts) = make_line(rt.alloc(), 1)?;
     drop(scripts);
-    let text = A_TRAIN_THROUGH_THREE_BOXES;
-    let merges = merges(rt.alloc(), &plan, text, text);
+    let table = [A_TRAIN_THROUGH_THREE_BOXES, A_CODE_FROM_THE_LAST_BOX];
+    let stays = each_stays(&rt, rt.alloc(), &plan, &table);
     drop(plan);
-    holds(&rt, "the journal of one train", merges?);
+    stays?;
     Ok(())
 }
 

@@ -28,7 +28,7 @@ use Rattle.line_law.specs.Links.{pair_no, way_of}
 use Rattle.line_law.specs.Replies.{way_number}
 use Rattle.line_law.specs.SectionFacts.{HasLink}
 use Rattle.line_law.specs.States.{IsStateOf, LineState, box_at, opening_state, pair_at}
-use Rattle.word_laws.specs.TellsWord.{NeverFalls, count_before, count_met, kind_told}
+use Rattle.word_laws.specs.TellsWord.{IsInReply, IsOutReply, IsReplyAt, NeverFalls, count_before, count_met, kind_told}
 use Rattle.line_law.specs.Trains.{holds}
 use Rattle.line_law.specs.Ways.{of_way}
 use Rattle.line_law.proofs.Histories.{history_states, legal_then, prefix_legal, state_grows}
@@ -39,7 +39,7 @@ use Rattle.word_laws.proofs.TellsKind.{kind_is_told}
 use Rattle.line_journal.specs.Fits.{FitsPlainLine, FitsWord}
 use Rattle.line_journal.specs.Keepers.{LetsPass, first_keeper, keeper_no, keeper_slot, kept_by, kept_slot}
 use Rattle.line_journal.specs.Order.{Each, keeps_back, kept_back, same_kind}
-use Rattle.line_journal.specs.Halves.{Fits, IsInReply, IsOutReply, IsReplyAt, Stands, pair_for}
+use Rattle.line_journal.specs.Halves.{Fits, Stands, pair_for}
 use Rattle.line_journal.proofs.PairMoves.{OppositeEnds, OutIn, InOut, opposite_ends}
 use Rattle.line_journal.proofs.Exchange.{part_other, part_own}
 use Rattle.line_journal.proofs.Legal.{fits_in}
@@ -64,12 +64,14 @@ IsCounted (NoTrainAt j) = 0 < j
 IsCounted (TrainNotYet j) = 0 < j
 IsCounted reply = Unit {0}
 
-rung_told : (k : ℕ) (q : Reply) → IsCounted q → kept_back (Rung k) q ≡ true → (keeper_no q ≡ kept_by (Rung k)) × Test (Rung k) (count_before q)
+rung_told : (k : ℕ) (q : Reply) → IsCounted q → kept_back (Rung k) q ≡ true
+    → (keeper_no q ≡ kept_by (Rung k)) × Test (Rung k) (count_before q)
 rung_told k (Silent n) at kept = (refl, omega (arith, eqb-true (n + 1) k kept))
 rung_told k (BellNotYet n shown) at kept = (refl, omega (arith, eqb-true (n + 1) k kept))
 rung_told k q at kept = absurd cc
 
-rung_kept : (k : ℕ) (q : Reply) → IsCounted q → keeper_no q ≡ kept_by (Rung k) → Test (Rung k) (count_before q) → kept_back (Rung k) q ≡ true
+rung_kept : (k : ℕ) (q : Reply) → IsCounted q → keeper_no q ≡ kept_by (Rung k) → Test (Rung k) (count_before q)
+    → kept_back (Rung k) q ≡ true
 rung_kept k (Silent n) at is test = eq-eqb (n + 1) k test
 rung_kept k (BellNotYet n shown) at is test = eq-eqb (n + 1) k test
 rung_kept k (BellBusy n held) at is test = absurd (omega (arith, is))
@@ -82,11 +84,13 @@ rung_kept k (NoTrainAt n) at is test = absurd (omega (arith, is))
 rung_kept k (TrainNotYet n) at is test = absurd (omega (arith, is))
 rung_kept k q at is test = absurd (omega (arith, is))
 
-heard_told : (k : ℕ) (code : ℕ) (q : Reply) → IsCounted q → kept_back (Heard k code) q ≡ true → (keeper_no q ≡ kept_by (Heard k code)) × Test (Heard k code) (count_before q)
+heard_told : (k : ℕ) (code : ℕ) (q : Reply) → IsCounted q → kept_back (Heard k code) q ≡ true
+    → (keeper_no q ≡ kept_by (Heard k code)) × Test (Heard k code) (count_before q)
 heard_told k code (BellBusy n held) at kept = (refl, eqb-true n k kept)
 heard_told k code q at kept = absurd cc
 
-heard_kept : (k : ℕ) (code : ℕ) (q : Reply) → IsCounted q → keeper_no q ≡ kept_by (Heard k code) → Test (Heard k code) (count_before q) → kept_back (Heard k code) q ≡ true
+heard_kept : (k : ℕ) (code : ℕ) (q : Reply) → IsCounted q → keeper_no q ≡ kept_by (Heard k code)
+    → Test (Heard k code) (count_before q) → kept_back (Heard k code) q ≡ true
 heard_kept k code (BellBusy n held) at is test = eq-eqb n k test
 heard_kept k code (Silent n) at is test = absurd (omega (arith, is))
 heard_kept k code (BellNotYet n shown) at is test = absurd (omega (arith, is))
@@ -99,14 +103,16 @@ heard_kept k code (NoTrainAt n) at is test = absurd (omega (arith, is))
 heard_kept k code (TrainNotYet n) at is test = absurd (omega (arith, is))
 heard_kept k code q at is test = absurd (omega (arith, is))
 
-turned_told : (v : ℕ) (q : Reply) → IsCounted q → kept_back (Turned v) q ≡ true → (keeper_no q ≡ kept_by (Turned v)) × Test (Turned v) (count_before q)
+turned_told : (v : ℕ) (q : Reply) → IsCounted q → kept_back (Turned v) q ≡ true
+    → (keeper_no q ≡ kept_by (Turned v)) × Test (Turned v) (count_before q)
 turned_told v (PulledUnder n) at kept = (refl, ltb-true n v kept)
 turned_told v (HeldByInstrument way n shown spent) at kept = (refl, ltb-true n v kept)
 turned_told v (Seen n) at kept = (refl, ltb-true n v kept)
 turned_told v (BlockNotYet n shown) at kept = (refl, ltb-true n v kept)
 turned_told v q at kept = absurd cc
 
-turned_kept : (v : ℕ) (q : Reply) → IsCounted q → keeper_no q ≡ kept_by (Turned v) → Test (Turned v) (count_before q) → kept_back (Turned v) q ≡ true
+turned_kept : (v : ℕ) (q : Reply) → IsCounted q → keeper_no q ≡ kept_by (Turned v) → Test (Turned v) (count_before q)
+    → kept_back (Turned v) q ≡ true
 turned_kept v (PulledUnder n) at is test = lt-ltb n v test
 turned_kept v (HeldByInstrument way n shown spent) at is test = lt-ltb n v test
 turned_kept v (Seen n) at is test = lt-ltb n v test
@@ -119,12 +125,14 @@ turned_kept v (NoTrainAt n) at is test = absurd (omega (arith, is))
 turned_kept v (TrainNotYet n) at is test = absurd (omega (arith, is))
 turned_kept v q at is test = absurd (omega (arith, is))
 
-entered_told : (k : ℕ) (train : ℕ) (q : Reply) → IsCounted q → kept_back (Entered k train) q ≡ true → (keeper_no q ≡ kept_by (Entered k train)) × Test (Entered k train) (count_before q)
+entered_told : (k : ℕ) (train : ℕ) (q : Reply) → IsCounted q → kept_back (Entered k train) q ≡ true
+    → (keeper_no q ≡ kept_by (Entered k train)) × Test (Entered k train) (count_before q)
 entered_told k train (NoTrainAt j) at kept = (refl, let e = eqb-true j k kept in omega (arith, e, at))
 entered_told k train (TrainNotYet j) at kept = (refl, let e = eqb-true j k kept in omega (arith, e, at))
 entered_told k train q at kept = absurd cc
 
-entered_kept : (k : ℕ) (train : ℕ) (q : Reply) → IsCounted q → keeper_no q ≡ kept_by (Entered k train) → Test (Entered k train) (count_before q) → kept_back (Entered k train) q ≡ true
+entered_kept : (k : ℕ) (train : ℕ) (q : Reply) → IsCounted q → keeper_no q ≡ kept_by (Entered k train)
+    → Test (Entered k train) (count_before q) → kept_back (Entered k train) q ≡ true
 entered_kept k train (NoTrainAt j) at is test = eq-eqb j k (omega (arith, test, at))
 entered_kept k train (TrainNotYet j) at is test = eq-eqb j k (omega (arith, test, at))
 entered_kept k train (BellBusy n held) at is test = absurd (omega (arith, is))
@@ -137,11 +145,13 @@ entered_kept k train (BlockNotYet n shown) at is test = absurd (omega (arith, is
 entered_kept k train (SectionFull n) at is test = absurd (omega (arith, is))
 entered_kept k train q at is test = absurd (omega (arith, is))
 
-berthed_told : (j : ℕ) (train : ℕ) (q : Reply) → IsCounted q → kept_back (Berthed j train) q ≡ true → (keeper_no q ≡ kept_by (Berthed j train)) × Test (Berthed j train) (count_before q)
+berthed_told : (j : ℕ) (train : ℕ) (q : Reply) → IsCounted q → kept_back (Berthed j train) q ≡ true
+    → (keeper_no q ≡ kept_by (Berthed j train)) × Test (Berthed j train) (count_before q)
 berthed_told j train (SectionFull k) at kept = (refl, let e = eqb-true k (j + 4) kept in omega (arith, e))
 berthed_told j train q at kept = absurd cc
 
-berthed_kept : (j : ℕ) (train : ℕ) (q : Reply) → IsCounted q → keeper_no q ≡ kept_by (Berthed j train) → Test (Berthed j train) (count_before q) → kept_back (Berthed j train) q ≡ true
+berthed_kept : (j : ℕ) (train : ℕ) (q : Reply) → IsCounted q → keeper_no q ≡ kept_by (Berthed j train)
+    → Test (Berthed j train) (count_before q) → kept_back (Berthed j train) q ≡ true
 berthed_kept j train (SectionFull k) at is test = eq-eqb k (j + 4) (omega (arith, test))
 berthed_kept j train (BellBusy n held) at is test = absurd (omega (arith, is))
 berthed_kept j train (Silent n) at is test = absurd (omega (arith, is))
@@ -154,11 +164,13 @@ berthed_kept j train (NoTrainAt n) at is test = absurd (omega (arith, is))
 berthed_kept j train (TrainNotYet n) at is test = absurd (omega (arith, is))
 berthed_kept j train q at is test = absurd (omega (arith, is))
 
-cleared_told : (j : ℕ) (train : ℕ) (q : Reply) → IsCounted q → kept_back (Cleared j train) q ≡ true → (keeper_no q ≡ kept_by (Cleared j train)) × Test (Cleared j train) (count_before q)
+cleared_told : (j : ℕ) (train : ℕ) (q : Reply) → IsCounted q → kept_back (Cleared j train) q ≡ true
+    → (keeper_no q ≡ kept_by (Cleared j train)) × Test (Cleared j train) (count_before q)
 cleared_told j train (SectionFull k) at kept = (refl, let e = eqb-true k (j + 4) kept in omega (arith, e))
 cleared_told j train q at kept = absurd cc
 
-cleared_kept : (j : ℕ) (train : ℕ) (q : Reply) → IsCounted q → keeper_no q ≡ kept_by (Cleared j train) → Test (Cleared j train) (count_before q) → kept_back (Cleared j train) q ≡ true
+cleared_kept : (j : ℕ) (train : ℕ) (q : Reply) → IsCounted q → keeper_no q ≡ kept_by (Cleared j train)
+    → Test (Cleared j train) (count_before q) → kept_back (Cleared j train) q ≡ true
 cleared_kept j train (SectionFull k) at is test = eq-eqb k (j + 4) (omega (arith, test))
 cleared_kept j train (BellBusy n held) at is test = absurd (omega (arith, is))
 cleared_kept j train (Silent n) at is test = absurd (omega (arith, is))
@@ -337,10 +349,12 @@ one_end (NoTrainAt n) p out at is some = out
 one_end (TrainNotYet n) p out at is some = out
 one_end q p out at is some = omega (arith, some)
 
-same_end : (l m : Link) (q p : Reply) → IsReplyAt l q → IsReplyAt m p → keeper_no q ≡ keeper_no p → 0 < keeper_no q → way_of l ≡ way_of m → l ≡ m
+same_end : (l m : Link) (q p : Reply) → IsReplyAt l q → IsReplyAt m p → keeper_no q ≡ keeper_no p → 0 < keeper_no q
+    → way_of l ≡ way_of m → l ≡ m
 same_end (Out v) (Out u) q p at there is some e = ap (λ (w : Way). Out w) e
 same_end (Out v) (In u) q p at there is some e = absurd (one_end q p at there is some)
-same_end (In v) (Out u) q p at there is some e = let other : 0 < keeper_no p = omega (arith, is, some) in absurd (one_end p q there at (sym is) other)
+same_end (In v) (Out u) q p at there is some e =
+    let other : 0 < keeper_no p = omega (arith, is, some) in absurd (one_end p q there at (sym is) other)
 same_end (In v) (In u) q p at there is some e = ap (λ (w : Way). In w) e
 
 slot_parts : (a b : ℕ) (v u : Way) → 2 * a + way_number v ≡ 2 * b + way_number u → (a ≡ b) × (v ≡ u)
@@ -358,10 +372,14 @@ link_in plan e = link_of (box_plan_of plan e.box_no) e.call.act
 abbrev counted : Kind → Link → ℕ → LineState → ℕ
 counted k l b t = count_met k l (box_at t b) (pair_at t (pair_no b l))
 
-told_count : (plan : PlanFields) (t : LineState) (x : Entry) → IsPlan plan → IsStateOf plan t → KnowsCall plan x.box_no x.call → x.reply ≡ (step plan t x.box_no x.call).reply → count_before x.reply ≡ counted (kind_told x.reply) (link_in plan x) x.box_no t
+told_count : (plan : PlanFields) (t : LineState) (x : Entry) → IsPlan plan → IsStateOf plan t
+    → KnowsCall plan x.box_no x.call → x.reply ≡ (step plan t x.box_no x.call).reply
+    → count_before x.reply ≡ counted (kind_told x.reply) (link_in plan x) x.box_no t
 told_count plan t x is are known told =
-    let kind : kind_at plan t x.box_no x.call ≡ kind_told x.reply = sym (kind_is_told plan t x.box_no x.call) ∙ ap kind_told (sym told) in
-    ap count_before told ∙ (count_is_told plan t x.box_no x.call is are known).before ∙ ap (λ (k : Kind). counted k (link_in plan x) x.box_no t) kind
+    let kind : kind_at plan t x.box_no x.call ≡ kind_told x.reply =
+    sym (kind_is_told plan t x.box_no x.call) ∙ ap kind_told (sym told) in
+    ap count_before told ∙ (count_is_told plan t x.box_no x.call is are known).before
+    ∙ ap (λ (k : Kind). counted k (link_in plan x) x.box_no t) kind
 
 counts_rise : (k : Kind) (l : Link) (b : ℕ) (s t : LineState) → NeverFalls s t → counted k l b s ≤ counted k l b t
 counts_rise Tally l b s t falls = omega arith
@@ -380,7 +398,13 @@ falls_on r s t f g =
     }
 
 falls_self : (s : LineState) → NeverFalls s s
-falls_self s = record { rung = λ p way. omega arith; turns = λ p way. omega arith; sent = λ p way. omega arith; taken = λ p way. omega arith }
+falls_self s =
+    record {
+      rung = λ p way. omega arith;
+      turns = λ p way. omega arith;
+      sent = λ p way. omega arith;
+      taken = λ p way. omega arith;
+    }
 
 -- ---- a keeper tells enough
 
@@ -413,12 +437,19 @@ or_above a b true e = inl (ltb-true a b e)
 or_above a b false e = let h = ltb-false a b e in inr (omega (arith, h))
 
 -- a train on the line wasn't taken
-held_above : (taken sent k : ℕ) (line : List Passage) → AreNumbered taken sent line → holds line k ≡ true → taken < k - 4
-held_above taken sent k line n full = ⊎_elim (λ (h : taken < k - 4). h) (λ (h : k - 4 ≤ taken). absurd (gone taken sent k line n h full)) (or_above taken (k - 4) (nat_lt taken (k - 4)) refl)
+held_above : (taken sent k : ℕ) (line : List Passage) → AreNumbered taken sent line → holds line k ≡ true
+    → taken < k - 4
+held_above taken sent k line n full =
+    ⊎_elim (λ (h : taken < k - 4). h) (λ (h : k - 4 ≤ taken). absurd (gone taken sent k line n h full))
+    (or_above taken (k - 4) (nat_lt taken (k - 4)) refl)
 
-entered_enough : (k : ℕ) (q : Reply) (taken sent : ℕ) (line : List Passage) → IsInReply q → keeper_no q ≡ 5 → k - 1 ≤ sent → count_before q ≡ taken → FitsPlainLine q line → AreNumbered taken sent line → k ≤ count_before q + 1
-entered_enough k (NoTrainAt j) taken sent line at is low told fits n = let all = empty_line taken sent j line n (omega (arith, told, at)) fits in omega (arith, all, low, told)
-entered_enough k (TrainNotYet j) taken sent line at is low told fits n = let all = empty_line taken sent j line n (omega (arith, told, at)) fits in omega (arith, all, low, told)
+entered_enough : (k : ℕ) (q : Reply) (taken sent : ℕ) (line : List Passage) → IsInReply q → keeper_no q ≡ 5
+    → k - 1 ≤ sent → count_before q ≡ taken → FitsPlainLine q line → AreNumbered taken sent line
+    → k ≤ count_before q + 1
+entered_enough k (NoTrainAt j) taken sent line at is low told fits n =
+    let all = empty_line taken sent j line n (omega (arith, told, at)) fits in omega (arith, all, low, told)
+entered_enough k (TrainNotYet j) taken sent line at is low told fits n =
+    let all = empty_line taken sent j line n (omega (arith, told, at)) fits in omega (arith, all, low, told)
 entered_enough k (BellBusy m held) taken sent line at is low told fits n = absurd (omega (arith, is))
 entered_enough k (Silent m) taken sent line at is low told fits n = absurd (omega (arith, is))
 entered_enough k (BellNotYet m shown) taken sent line at is low told fits n = absurd (omega (arith, is))
@@ -429,8 +460,10 @@ entered_enough k (BlockNotYet m shown) taken sent line at is low told fits n = a
 entered_enough k (SectionFull m) taken sent line at is low told fits n = absurd (omega (arith, is))
 entered_enough k q taken sent line at is low told fits n = absurd (omega (arith, is))
 
-full_enough : (j : ℕ) (q : Reply) (taken sent : ℕ) (line : List Passage) → keeper_no q ≡ 4 → j - 1 ≤ taken → 0 < j → FitsPlainLine q line → AreNumbered taken sent line → j + 3 ≤ count_before q
-full_enough j (SectionFull k) taken sent line is low pos fits n = let above = held_above taken sent k line n fits in omega (arith, above, low, pos)
+full_enough : (j : ℕ) (q : Reply) (taken sent : ℕ) (line : List Passage) → keeper_no q ≡ 4 → j - 1 ≤ taken → 0 < j
+    → FitsPlainLine q line → AreNumbered taken sent line → j + 3 ≤ count_before q
+full_enough j (SectionFull k) taken sent line is low pos fits n =
+    let above = held_above taken sent k line n fits in omega (arith, above, low, pos)
 full_enough j (BellBusy m held) taken sent line is low pos fits n = absurd (omega (arith, is))
 full_enough j (Silent m) taken sent line is low pos fits n = absurd (omega (arith, is))
 full_enough j (BellNotYet m shown) taken sent line is low pos fits n = absurd (omega (arith, is))
@@ -442,15 +475,20 @@ full_enough j (NoTrainAt m) taken sent line is low pos fits n = absurd (omega (a
 full_enough j (TrainNotYet m) taken sent line is low pos fits n = absurd (omega (arith, is))
 full_enough j q taken sent line is low pos fits n = absurd (omega (arith, is))
 
-out_enough : (r q : Reply) (taken sent : ℕ) (line : List Passage) → IsOutReply r → IsInReply q → kind_told r ≡ PlainLineWord → keeper_no q ≡ kept_by r → count_before r ≤ sent → count_before q ≡ taken → FitsPlainLine q line → AreNumbered taken sent line → Enough r (count_before q)
-out_enough (Entered k train) q taken sent line out at kind is low told fits n = entered_enough k q taken sent line at is low told fits n
+out_enough : (r q : Reply) (taken sent : ℕ) (line : List Passage) → IsOutReply r → IsInReply q
+    → kind_told r ≡ PlainLineWord → keeper_no q ≡ kept_by r → count_before r ≤ sent → count_before q ≡ taken
+    → FitsPlainLine q line → AreNumbered taken sent line → Enough r (count_before q)
+out_enough (Entered k train) q taken sent line out at kind is low told fits n =
+    entered_enough k q taken sent line at is low told fits n
 out_enough (Berthed j train) q taken sent line out at kind is low told fits n = absurd out
 out_enough (Cleared j train) q taken sent line out at kind is low told fits n = absurd out
 out_enough (Rung k) q taken sent line out at kind is low told fits n = cc
 out_enough (Heard k code) q taken sent line out at kind is low told fits n = cc
 out_enough r q taken sent line out at kind is low told fits n = tt
 
-in_enough : (r q : Reply) (taken sent : ℕ) (line : List Passage) → IsInReply r → kind_told r ≡ PlainLineWord → keeper_no q ≡ kept_by r → count_before r ≤ taken → FitsPlainLine q line → AreNumbered taken sent line → Enough r (count_before q)
+in_enough : (r q : Reply) (taken sent : ℕ) (line : List Passage) → IsInReply r → kind_told r ≡ PlainLineWord
+    → keeper_no q ≡ kept_by r → count_before r ≤ taken → FitsPlainLine q line → AreNumbered taken sent line
+    → Enough r (count_before q)
 in_enough (Berthed j train) q taken sent line at kind is low fits n = full_enough j q taken sent line is low at fits n
 in_enough (Cleared j train) q taken sent line at kind is low fits n = full_enough j q taken sent line is low at fits n
 in_enough (Entered k train) q taken sent line at kind is low fits n = absurd at
@@ -458,19 +496,32 @@ in_enough (Rung k) q taken sent line at kind is low fits n = cc
 in_enough (Heard k code) q taken sent line at kind is low fits n = cc
 in_enough r q taken sent line at kind is low fits n = tt
 
-line_enough : (plan : PlanFields) (t : LineState) (b c : ℕ) (l m : Link) (r q : Reply) → OppositeEnds l m → HasLink (length plan.boxes) b l → HasLink (length plan.boxes) c m → pair_no b l ≡ pair_no c m → IsReplyAt l r → IsReplyAt m q → kind_told r ≡ PlainLineWord → keeper_no q ≡ kept_by r
-    → count_before r ≤ counted PlainLineWord l b t → count_before q ≡ counted PlainLineWord m c t → FitsPlainLine q (of_way (pair_at t (pair_no c m)).lines (way_of m)) → ((section : Section) → IsSection plan section → IsSectionIn t section) → Enough r (count_before q)
+line_enough : (plan : PlanFields) (t : LineState) (b c : ℕ) (l m : Link) (r q : Reply) → OppositeEnds l m
+    → HasLink (length plan.boxes) b l → HasLink (length plan.boxes) c m → pair_no b l ≡ pair_no c m → IsReplyAt l r
+    → IsReplyAt m q → kind_told r ≡ PlainLineWord → keeper_no q ≡ kept_by r
+    → count_before r ≤ counted PlainLineWord l b t → count_before q ≡ counted PlainLineWord m c t
+    → FitsPlainLine q (of_way (pair_at t (pair_no c m)).lines (way_of m))
+    → ((section : Section) → IsSection plan section → IsSectionIn t section) → Enough r (count_before q)
 line_enough plan t b c l m r q (OutIn way) has there pair out at kind is low told fits sections =
     let section : Section = record { rear = b; way = way } in
     let one = next_is (length plan.boxes) b c way has there pair in
-    let L : ℕ → ℕ → Type 0 = λ d p. AreNumbered (of_way (box_at t d).incoming way).taken (of_way (box_at t b).sent way) (of_way (pair_at t p).lines way) in
-    let n : L c (pair_no c (In way)) = subst (λ (d : ℕ). L d (pair_no c (In way))) one (subst (λ (p : ℕ). L (next_box b way) p) pair (sections section has).numbered) in
-    out_enough r q (of_way (box_at t c).incoming way).taken (of_way (box_at t b).sent way) (of_way (pair_at t (pair_no c (In way))).lines way) out at kind is low told fits n
+    let L : ℕ → ℕ → Type 0 =
+    λ d p. AreNumbered (of_way (box_at t d).incoming way).taken (of_way (box_at t b).sent way)
+    (of_way (pair_at t p).lines way) in
+    let n : L c (pair_no c (In way)) =
+    subst (λ (d : ℕ). L d (pair_no c (In way))) one (subst (λ (p : ℕ). L (next_box b way) p) pair
+    (sections section has).numbered) in
+    out_enough r q (of_way (box_at t c).incoming way).taken (of_way (box_at t b).sent way)
+    (of_way (pair_at t (pair_no c (In way))).lines way) out at kind is low told fits n
 line_enough plan t b c l m r q (InOut way) has there pair at out kind is low told fits sections =
     let section : Section = record { rear = c; way = way } in
     let one = next_is (length plan.boxes) c b way there has (sym pair) in
-    let L : ℕ → Type 0 = λ d. AreNumbered (of_way (box_at t d).incoming way).taken (of_way (box_at t c).sent way) (of_way (pair_at t (pair_no c (Out way))).lines way) in
-    in_enough r q (of_way (box_at t b).incoming way).taken (of_way (box_at t c).sent way) (of_way (pair_at t (pair_no c (Out way))).lines way) at kind is low fits (subst L one (sections section there).numbered)
+    let L : ℕ → Type 0 =
+    λ d. AreNumbered (of_way (box_at t d).incoming way).taken (of_way (box_at t c).sent way)
+    (of_way (pair_at t (pair_no c (Out way))).lines way) in
+    in_enough r q (of_way (box_at t b).incoming way).taken (of_way (box_at t c).sent way)
+    (of_way (pair_at t (pair_no c (Out way))).lines way) at kind is low fits
+    (subst L one (sections section there).numbered)
 
 -- the state at an entry, and what holds there
 record Stage (plan : PlanFields) (t : LineState) (x : Entry) : Type 0 where
@@ -479,32 +530,57 @@ record Stage (plan : PlanFields) (t : LineState) (x : Entry) : Type 0 where
   told : x.reply ≡ (step plan t x.box_no x.call).reply
   sections : (section : Section) → IsSection plan section → IsSectionIn t section
 
-bell_enough : (plan : PlanFields) (s t : LineState) (e x : Entry) → IsPlan plan → Stage plan s e → Stage plan t x → NeverFalls s t → kind_told e.reply ≡ BellWord → kind_told x.reply ≡ kind_told e.reply → pair_for plan e ≡ pair_for plan x → way_at plan e.box_no e.call ≡ way_at plan x.box_no x.call → Enough e.reply (count_before x.reply)
+bell_enough : (plan : PlanFields) (s t : LineState) (e x : Entry) → IsPlan plan → Stage plan s e → Stage plan t x
+    → NeverFalls s t → kind_told e.reply ≡ BellWord → kind_told x.reply ≡ kind_told e.reply
+    → pair_for plan e ≡ pair_for plan x → way_at plan e.box_no e.call ≡ way_at plan x.box_no x.call
+    → Enough e.reply (count_before x.reply)
 bell_enough plan s t e x is se sx falls kind kinds pair way =
-    let low : count_before e.reply ≡ (of_way (pair_at s (pair_for plan e)).bells (way_at plan e.box_no e.call)).count = told_count plan s e is se.are se.stands.known se.told ∙ ap (λ (k : Kind). counted k (link_in plan e) e.box_no s) kind in
-    let high : count_before x.reply ≡ (of_way (pair_at t (pair_for plan x)).bells (way_at plan x.box_no x.call)).count = told_count plan t x is sx.are sx.stands.known sx.told ∙ ap (λ (k : Kind). counted k (link_in plan x) x.box_no t) (kinds ∙ kind) in
-    let same : (of_way (pair_at t (pair_for plan x)).bells (way_at plan x.box_no x.call)).count ≡ (of_way (pair_at t (pair_for plan e)).bells (way_at plan e.box_no e.call)).count =
-    ap (λ (p : ℕ). (of_way (pair_at t p).bells (way_at plan x.box_no x.call)).count) (sym pair) ∙ ap (λ (v : Way). (of_way (pair_at t (pair_for plan e)).bells v).count) (sym way) in
+    let low : count_before e.reply ≡ (of_way (pair_at s (pair_for plan e)).bells (way_at plan e.box_no e.call)).count =
+    told_count plan s e is se.are se.stands.known se.told ∙ ap (λ (k : Kind). counted k (link_in plan e) e.box_no s)
+    kind in
+    let high : count_before x.reply ≡ (of_way (pair_at t (pair_for plan x)).bells (way_at plan x.box_no x.call)).count =
+    told_count plan t x is sx.are sx.stands.known sx.told ∙ ap (λ (k : Kind). counted k (link_in plan x) x.box_no t)
+    (kinds ∙ kind) in
+    let same : (of_way (pair_at t (pair_for plan x)).bells (way_at plan x.box_no x.call)).count
+    ≡ (of_way (pair_at t (pair_for plan e)).bells (way_at plan e.box_no e.call)).count =
+    ap (λ (p : ℕ). (of_way (pair_at t p).bells (way_at plan x.box_no x.call)).count) (sym pair)
+    ∙ ap (λ (v : Way). (of_way (pair_at t (pair_for plan e)).bells v).count) (sym way) in
     let rise = falls.rung (pair_for plan e) (way_at plan e.box_no e.call) in
     enough_bell e.reply (count_before x.reply) kind (omega (arith, low, high, same, rise))
 
-line_fits : (plan : PlanFields) (t : LineState) (x : Entry) → kind_told x.reply ≡ PlainLineWord → Fits plan t.pairs x → FitsPlainLine x.reply (of_way (pair_at t (pair_for plan x)).lines (way_at plan x.box_no x.call))
-line_fits plan t x kind fits = subst (λ (k : Kind). FitsWord k (way_at plan x.box_no x.call) x.call.act x.reply (pair_at t (pair_for plan x))) kind fits
+line_fits : (plan : PlanFields) (t : LineState) (x : Entry) → kind_told x.reply ≡ PlainLineWord → Fits plan t.pairs x
+    → FitsPlainLine x.reply (of_way (pair_at t (pair_for plan x)).lines (way_at plan x.box_no x.call))
+line_fits plan t x kind fits =
+    subst (λ (k : Kind). FitsWord k (way_at plan x.box_no x.call) x.call.act x.reply (pair_at t (pair_for plan x))) kind
+    fits
 
-enough_by : (plan : PlanFields) (s t : LineState) (e x : Entry) (k : Kind) → kind_told e.reply ≡ k → IsPlan plan → Stage plan s e → Stage plan t x → NeverFalls s t → e.box_no ≢ x.box_no → kind_told x.reply ≡ kind_told e.reply → pair_for plan e ≡ pair_for plan x → way_at plan e.box_no e.call ≡ way_at plan x.box_no x.call → keeper_no x.reply ≡ kept_by e.reply
+enough_by : (plan : PlanFields) (s t : LineState) (e x : Entry) (k : Kind) → kind_told e.reply ≡ k → IsPlan plan
+    → Stage plan s e → Stage plan t x → NeverFalls s t → e.box_no ≢ x.box_no → kind_told x.reply ≡ kind_told e.reply
+    → pair_for plan e ≡ pair_for plan x → way_at plan e.box_no e.call ≡ way_at plan x.box_no x.call
+    → keeper_no x.reply ≡ kept_by e.reply
     → Enough e.reply (count_before x.reply)
-enough_by plan s t e x Tally kind is se sx falls ne kinds pair way no_is = enough_tally e.reply (count_before x.reply) kind
-enough_by plan s t e x BellWord kind is se sx falls ne kinds pair way no_is = bell_enough plan s t e x is se sx falls kind kinds pair way
-enough_by plan s t e x BlockWord kind is se sx falls ne kinds pair way no_is = enough_block e.reply (count_before x.reply) kind
+enough_by plan s t e x Tally kind is se sx falls ne kinds pair way no_is =
+    enough_tally e.reply (count_before x.reply) kind
+enough_by plan s t e x BellWord kind is se sx falls ne kinds pair way no_is =
+    bell_enough plan s t e x is se sx falls kind kinds pair way
+enough_by plan s t e x BlockWord kind is se sx falls ne kinds pair way no_is =
+    enough_block e.reply (count_before x.reply) kind
 enough_by plan s t e x PlainLineWord kind is se sx falls ne kinds pair way no_is =
     let no_tally : kind_told e.reply ≡ Tally → ⊥ = λ h. let f : PlainLineWord ≡ Tally = sym kind ∙ h in cc f in
     let has = se.stands.link no_tally in
     let there = sx.stands.link (λ h. no_tally (sym kinds ∙ h)) in
-    let ends = opposite_ends (length plan.boxes) e.box_no x.box_no (link_in plan e) (link_in plan x) ne has there pair (is_same _ _ way) in
-    let low : count_before e.reply ≡ counted PlainLineWord (link_in plan e) e.box_no s = told_count plan s e is se.are se.stands.known se.told ∙ ap (λ (k : Kind). counted k (link_in plan e) e.box_no s) kind in
+    let ends =
+    opposite_ends (length plan.boxes) e.box_no x.box_no (link_in plan e) (link_in plan x) ne has there pair
+    (is_same _ _ way) in
+    let low : count_before e.reply ≡ counted PlainLineWord (link_in plan e) e.box_no s =
+    told_count plan s e is se.are se.stands.known se.told ∙ ap (λ (k : Kind). counted k (link_in plan e) e.box_no s)
+    kind in
     let rise = counts_rise PlainLineWord (link_in plan e) e.box_no s t falls in
-    let high : count_before x.reply ≡ counted PlainLineWord (link_in plan x) x.box_no t = told_count plan t x is sx.are sx.stands.known sx.told ∙ ap (λ (k : Kind). counted k (link_in plan x) x.box_no t) (kinds ∙ kind) in
-    line_enough plan t e.box_no x.box_no (link_in plan e) (link_in plan x) e.reply x.reply ends has there pair se.stands.end sx.stands.end kind no_is (omega (arith, low, rise)) high
+    let high : count_before x.reply ≡ counted PlainLineWord (link_in plan x) x.box_no t =
+    told_count plan t x is sx.are sx.stands.known sx.told ∙ ap (λ (k : Kind). counted k (link_in plan x) x.box_no t)
+    (kinds ∙ kind) in
+    line_enough plan t e.box_no x.box_no (link_in plan e) (link_in plan x) e.reply x.reply ends has there pair
+    se.stands.end sx.stands.end kind no_is (omega (arith, low, rise)) high
     (line_fits plan t x (kinds ∙ kind) (fits_in plan t x sx.told)) sx.sections
 
 both_true : (a b : Bool) → IsTrue a → IsTrue b → IsTrue (a && b)
@@ -512,29 +588,43 @@ both_true true b p q = q
 both_true false b p q = absurd cc
 
 -- where a later entry of a box keeps an entry back, the first of its kind does
-decide_one : (plan : PlanFields) (s t u : LineState) (e x y : Entry) → IsPlan plan → Stage plan s e → Stage plan t x → Stage plan u y → NeverFalls s t → NeverFalls t u → e.box_no ≢ x.box_no → x.box_no ≡ y.box_no → keeper_slot plan x ≡ kept_slot plan e → keeps_back plan e y ≡ true → keeps_back plan e x ≡ true
+decide_one : (plan : PlanFields) (s t u : LineState) (e x y : Entry) → IsPlan plan → Stage plan s e → Stage plan t x
+    → Stage plan u y → NeverFalls s t → NeverFalls t u → e.box_no ≢ x.box_no → x.box_no ≡ y.box_no
+    → keeper_slot plan x ≡ kept_slot plan e → keeps_back plan e y ≡ true → keeps_back plan e x ≡ true
 decide_one plan s t u e x y is se sx sy falls later ne own slot keeps =
     let k = keeping plan e y keeps in
     let kinds = one_kind (kind_told e.reply) (kind_told y.reply) k.kinds in
     let ty = kept_told e.reply y.reply (is_counted (link_in plan y) y.reply sy.stands.end) k.kept in
-    let parts = slot_parts (keeper_no x.reply) (kept_by e.reply) (way_at plan x.box_no x.call) (way_at plan e.box_no e.call) slot in
+    let parts =
+    slot_parts (keeper_no x.reply) (kept_by e.reply) (way_at plan x.box_no x.call) (way_at plan e.box_no e.call)
+    slot in
     let some : 0 < kept_by e.reply = tests_some e.reply (count_before y.reply) ty.1 in
     let one : keeper_no x.reply ≡ keeper_no y.reply = parts.0 ∙ sym ty.0 in
     let some_x : 0 < keeper_no x.reply = omega (arith, parts.0, some) in
-    let links : link_in plan x ≡ link_in plan y = same_end (link_in plan x) (link_in plan y) x.reply y.reply sx.stands.end sy.stands.end one some_x (parts.1 ∙ k.ways) in
+    let links : link_in plan x ≡ link_in plan y =
+    same_end (link_in plan x) (link_in plan y) x.reply y.reply sx.stands.end sy.stands.end one some_x
+    (parts.1 ∙ k.ways) in
     let kind_x : kind_told x.reply ≡ kind_told e.reply = keeper_kind x.reply e.reply parts.0 some_x in
-    let pair_x : pair_for plan x ≡ pair_for plan y = ap (λ (b : ℕ). pair_no b (link_in plan x)) own ∙ ap (λ (l : Link). pair_no y.box_no l) links in
+    let pair_x : pair_for plan x ≡ pair_for plan y =
+    ap (λ (b : ℕ). pair_no b (link_in plan x)) own ∙ ap (λ (l : Link). pair_no y.box_no l) links in
     let pair : pair_for plan e ≡ pair_for plan x = k.pairs ∙ sym pair_x in
     let cx = told_count plan t x is sx.are sx.stands.known sx.told in
     let cy = told_count plan u y is sy.are sy.stands.known sy.told in
     let rise = counts_rise (kind_told x.reply) (link_in plan x) x.box_no t u later in
-    let same : counted (kind_told x.reply) (link_in plan x) x.box_no u ≡ counted (kind_told y.reply) (link_in plan y) y.box_no u =
-    ap (λ (q : Kind). counted q (link_in plan x) x.box_no u) (kind_x ∙ kinds.0) ∙ ap (λ (l : Link). counted (kind_told y.reply) l x.box_no u) links ∙ ap (λ (b : ℕ). counted (kind_told y.reply) (link_in plan y) b u) own in
+    let same : counted (kind_told x.reply) (link_in plan x) x.box_no u
+    ≡ counted (kind_told y.reply) (link_in plan y) y.box_no u =
+    ap (λ (q : Kind). counted q (link_in plan x) x.box_no u) (kind_x ∙ kinds.0)
+    ∙ ap (λ (l : Link). counted (kind_told y.reply) l x.box_no u) links
+    ∙ ap (λ (b : ℕ). counted (kind_told y.reply) (link_in plan y) b u) own in
     let order : count_before x.reply ≤ count_before y.reply = omega (arith, cx, cy, rise, same) in
     let enough = enough_by plan s t e x (kind_told e.reply) refl is se sx falls ne kind_x pair (sym parts.1) parts.0 in
-    let kept = test_kept e.reply x.reply (is_counted (link_in plan x) x.reply sx.stands.end) parts.0 (lower_test e.reply (count_before x.reply) (count_before y.reply) ty.1 order enough) in
-    let same_kinds : IsTrue (same_kind (kind_told e.reply) (kind_told x.reply)) = subst (λ (q : Kind). IsTrue (same_kind (kind_told e.reply) q)) (sym (kind_x ∙ kinds.0)) k.kinds in
-    both_true _ (kept_back e.reply x.reply) (both_true (same_kind (kind_told e.reply) (kind_told x.reply)) _ same_kinds (both_true (pair_for plan e == pair_for plan x) _ (eq-eqb _ _ pair) (is_same _ _ (sym parts.1)))) kept
+    let kept =
+    test_kept e.reply x.reply (is_counted (link_in plan x) x.reply sx.stands.end) parts.0
+    (lower_test e.reply (count_before x.reply) (count_before y.reply) ty.1 order enough) in
+    let same_kinds : IsTrue (same_kind (kind_told e.reply) (kind_told x.reply)) =
+    subst (λ (q : Kind). IsTrue (same_kind (kind_told e.reply) q)) (sym (kind_x ∙ kinds.0)) k.kinds in
+    both_true _ (kept_back e.reply x.reply) (both_true (same_kind (kind_told e.reply) (kind_told x.reply)) _ same_kinds
+    (both_true (pair_for plan e == pair_for plan x) _ (eq-eqb _ _ pair) (is_same _ _ (sym parts.1)))) kept
 
 -- ---- along what remains
 
@@ -542,7 +632,8 @@ false_if : (b : Bool) → (b ≡ true → ⊥) → b ≡ false
 false_if true h = absurd (h refl)
 false_if false h = refl
 
-stage : (plan : PlanFields) (first : List Entry) (x : Entry) (R : List Entry) → IsPlan plan → IsLegal plan (first ++ x ∷ R) → Stands plan x → Stage plan (state_of plan first) x
+stage : (plan : PlanFields) (first : List Entry) (x : Entry) (R : List Entry) → IsPlan plan
+    → IsLegal plan (first ++ x ∷ R) → Stands plan x → Stage plan (state_of plan first) x
 stage plan first x R is legal stands =
     record {
       are = history_states plan first;
@@ -551,80 +642,122 @@ stage plan first x R is legal stands =
       sections = (history_keeps plan first is (prefix_legal plan first (x ∷ R) legal)).sections;
     }
 
-falls_next : (plan : PlanFields) (s : LineState) (first : List Entry) (x : Entry) → IsPlan plan → Stands plan x → NeverFalls s (state_of plan first) → NeverFalls s (state_of plan (first ++ x ∷ []))
+falls_next : (plan : PlanFields) (s : LineState) (first : List Entry) (x : Entry) → IsPlan plan → Stands plan x
+    → NeverFalls s (state_of plan first) → NeverFalls s (state_of plan (first ++ x ∷ []))
 falls_next plan s first x is stands falls =
     subst (λ (t : LineState). NeverFalls s t) (sym (state_grows plan first x))
-    (falls_on s (state_of plan first) (after_entry plan (state_of plan first) x) falls (call_never_falls plan (state_of plan first) x.box_no x.call is (history_states plan first) stands.known))
+    (falls_on s (state_of plan first) (after_entry plan (state_of plan first) x) falls
+    (call_never_falls plan (state_of plan first) x.box_no x.call is (history_states plan first) stands.known))
 
-regroup : (plan : PlanFields) (first : List Entry) (x : Entry) (R : List Entry) → IsLegal plan (first ++ x ∷ R) → IsLegal plan ((first ++ x ∷ []) ++ R)
+regroup : (plan : PlanFields) (first : List Entry) (x : Entry) (R : List Entry) → IsLegal plan (first ++ x ∷ R)
+    → IsLegal plan ((first ++ x ∷ []) ++ R)
 regroup plan first x R legal = subst (λ (l : List Entry). IsLegal plan l) (sym (append_one first x R)) legal
 
 -- behind a keeper that lets an entry pass all of its box do
-all_behind : (plan : PlanFields) (s t : LineState) (e x : Entry) (first R : List Entry) → IsPlan plan → Stage plan s e → Stage plan t x → NeverFalls s t → NeverFalls t (state_of plan first) → e.box_no ≢ x.box_no → keeper_slot plan x ≡ kept_slot plan e → keeps_back plan e x ≡ false
+all_behind : (plan : PlanFields) (s t : LineState) (e x : Entry) (first R : List Entry) → IsPlan plan → Stage plan s e
+    → Stage plan t x → NeverFalls s t → NeverFalls t (state_of plan first) → e.box_no ≢ x.box_no
+    → keeper_slot plan x ≡ kept_slot plan e → keeps_back plan e x ≡ false
     → IsLegal plan (first ++ R) → Each (Stands plan) R → Each (λ y. keeps_back plan e y ≡ false) (part_of x.box_no R)
 all_behind plan s t e x first [] is se sx falls later ne slot passes legal stand = tt
 all_behind plan s t e x first (y ∷ R) is se sx falls later ne slot passes legal stand =
-    let rest = all_behind plan s t e x (first ++ y ∷ []) R is se sx falls (falls_next plan t first y is stand.0 later) ne slot passes (regroup plan first y R legal) stand.1 in
+    let rest =
+    all_behind plan s t e x (first ++ y ∷ []) R is se sx falls (falls_next plan t first y is stand.0 later) ne slot
+    passes (regroup plan first y R legal) stand.1 in
     ⊎_elim
     (λ mine.
-    subst (λ (l : List Entry). Each (λ y. keeps_back plan e y ≡ false) l) (sym (part_own y R x.box_no mine.0))
-    (false_if (keeps_back plan e y) (λ keeps. let k = decide_one plan s t (state_of plan first) e x y is se sx (stage plan first y R is legal stand.0) falls later ne (sym mine.1) slot keeps in cc (k, passes)), rest))
-    (λ other. subst (λ (l : List Entry). Each (λ y. keeps_back plan e y ≡ false) l) (sym (part_other y R x.box_no other.0)) rest)
+    subst (λ (l : List Entry). Each (λ y. keeps_back plan e y ≡ false) l) (sym (part_own y R x.box_no mine.0)) (
+      false_if (keeps_back plan e y) (λ keeps. let k = decide_one plan s t (state_of plan first) e x y is se sx
+          (stage plan first y R is legal stand.0) falls later ne (sym mine.1) slot keeps in cc (k, passes)),
+      rest,
+    ))
+    (λ other. subst (λ (l : List Entry). Each (λ y. keeps_back plan e y ≡ false) l)
+    (sym (part_other y R x.box_no other.0)) rest)
     (eqb_tells y.box_no x.box_no)
 
 -- only an entry of the kind keeps back
-slot_kept : (plan : PlanFields) (e y : Entry) → Stands plan y → keeps_back plan e y ≡ true → keeper_slot plan y ≡ kept_slot plan e
+slot_kept : (plan : PlanFields) (e y : Entry) → Stands plan y → keeps_back plan e y ≡ true
+    → keeper_slot plan y ≡ kept_slot plan e
 slot_kept plan e y stands keeps =
     let k = keeping plan e y keeps in
     let ty = kept_told e.reply y.reply (is_counted (link_in plan y) y.reply stands.end) k.kept in
-    ap (λ (n : ℕ). 2 * n + way_number (way_at plan y.box_no y.call)) ty.0 ∙ ap (λ (v : Way). 2 * kept_by e.reply + way_number v) (sym k.ways)
+    ap (λ (n : ℕ). 2 * n + way_number (way_at plan y.box_no y.call)) ty.0
+    ∙ ap (λ (v : Way). 2 * kept_by e.reply + way_number v) (sym k.ways)
 
-found_here : (plan : PlanFields) (e x : Entry) (list : List Entry) → (keeper_slot plan x == kept_slot plan e) ≡ true → first_keeper plan e (x ∷ list) ≡ Some x
+found_here : (plan : PlanFields) (e x : Entry) (list : List Entry) → (keeper_slot plan x == kept_slot plan e) ≡ true
+    → first_keeper plan e (x ∷ list) ≡ Some x
 found_here plan e x list is = rw is refl
 
-found_later : (plan : PlanFields) (e x : Entry) (list : List Entry) → (keeper_slot plan x == kept_slot plan e) ≡ false → first_keeper plan e (x ∷ list) ≡ first_keeper plan e list
+found_later : (plan : PlanFields) (e x : Entry) (list : List Entry) → (keeper_slot plan x == kept_slot plan e) ≡ false
+    → first_keeper plan e (x ∷ list) ≡ first_keeper plan e list
 found_later plan e x list is = rw is refl
 
 -- the first keeper decides for all of a box
-decides_on : (plan : PlanFields) (s : LineState) (e : Entry) (c : ℕ) (first R : List Entry) → IsPlan plan → Stage plan s e → NeverFalls s (state_of plan first) → e.box_no ≢ c → IsLegal plan (first ++ R) → Each (Stands plan) R → LetsPass plan e (first_keeper plan e (part_of c R)) → Each (λ y. keeps_back plan e y ≡ false) (part_of c R)
+decides_on : (plan : PlanFields) (s : LineState) (e : Entry) (c : ℕ) (first R : List Entry) → IsPlan plan
+    → Stage plan s e → NeverFalls s (state_of plan first) → e.box_no ≢ c → IsLegal plan (first ++ R)
+    → Each (Stands plan) R → LetsPass plan e (first_keeper plan e (part_of c R))
+    → Each (λ y. keeps_back plan e y ≡ false) (part_of c R)
 decides_on plan s e c first [] is se falls ne legal stand passes = tt
 decides_on plan s e c first (x ∷ R) is se falls ne legal stand passes =
     ⊎_elim
     (λ mine.
     let P : List Entry → Type 0 = λ l. Each (λ y. keeps_back plan e y ≡ false) l in
-    let front : LetsPass plan e (first_keeper plan e (x ∷ part_of c R)) = subst (λ (l : List Entry). LetsPass plan e (first_keeper plan e l)) (part_own x R c mine.0) passes in
+    let front : LetsPass plan e (first_keeper plan e (x ∷ part_of c R)) =
+    subst (λ (l : List Entry). LetsPass plan e (first_keeper plan e l)) (part_own x R c mine.0) passes in
     subst P (sym (part_own x R c mine.0))
     (⊎_elim
     (λ (hit : ((keeper_slot plan x == kept_slot plan e) ≡ true) × (keeper_slot plan x ≡ kept_slot plan e)).
-    let pass : keeps_back plan e x ≡ false = subst (λ (o : Option Entry). LetsPass plan e o) (found_here plan e x (part_of c R) hit.0) front in
+    let pass : keeps_back plan e x ≡ false =
+    subst (λ (o : Option Entry). LetsPass plan e o) (found_here plan e x (part_of c R) hit.0) front in
     let t : LineState = state_of plan first in
-    let behind = all_behind plan s t e x (first ++ x ∷ []) R is se (stage plan first x R is legal stand.0) falls (falls_next plan t first x is stand.0 (falls_self t)) (λ h. ne (h ∙ mine.1)) hit.1 pass (regroup plan first x R legal) stand.1 in
-    let here : Each (λ y. keeps_back plan e y ≡ false) (x ∷ part_of c R) = (pass, subst (λ (k : ℕ). Each (λ y. keeps_back plan e y ≡ false) (part_of k R)) mine.1 behind) in here)
+    let behind =
+    all_behind plan s t e x (first ++ x ∷ []) R is se (stage plan first x R is legal stand.0) falls
+    (falls_next plan t first x is stand.0 (falls_self t)) (λ h. ne (h ∙ mine.1)) hit.1 pass
+    (regroup plan first x R legal) stand.1 in
+    let here : Each (λ y. keeps_back plan e y ≡ false) (x ∷ part_of c R) =
+    (pass, subst (λ (k : ℕ). Each (λ y. keeps_back plan e y ≡ false) (part_of k R)) mine.1 behind) in here)
     (λ (miss : ((keeper_slot plan x == kept_slot plan e) ≡ false) × (keeper_slot plan x ≡ kept_slot plan e → ⊥)).
-    let later = decides_on plan s e c (first ++ x ∷ []) R is se (falls_next plan s first x is stand.0 falls) ne (regroup plan first x R legal) stand.1 (subst (λ (o : Option Entry). LetsPass plan e o) (found_later plan e x (part_of c R) miss.0) front) in
-    let here : Each (λ y. keeps_back plan e y ≡ false) (x ∷ part_of c R) = (false_if (keeps_back plan e x) (λ keeps. miss.1 (slot_kept plan e x stand.0 keeps)), later) in here)
+    let later =
+    decides_on plan s e c (first ++ x ∷ []) R is se (falls_next plan s first x is stand.0 falls) ne
+    (regroup plan first x R legal) stand.1 (subst (λ (o : Option Entry). LetsPass plan e o)
+    (found_later plan e x (part_of c R) miss.0) front) in
+    let here : Each (λ y. keeps_back plan e y ≡ false) (x ∷ part_of c R) =
+    (false_if (keeps_back plan e x) (λ keeps. miss.1 (slot_kept plan e x stand.0 keeps)), later) in here)
     (eqb_tells (keeper_slot plan x) (kept_slot plan e))))
     (λ other.
     subst (λ (l : List Entry). Each (λ y. keeps_back plan e y ≡ false) l) (sym (part_other x R c other.0))
-    (decides_on plan s e c (first ++ x ∷ []) R is se (falls_next plan s first x is stand.0 falls) ne (regroup plan first x R legal) stand.1
+    (decides_on plan s e c (first ++ x ∷ []) R is se (falls_next plan s first x is stand.0 falls) ne
+    (regroup plan first x R legal) stand.1
     (subst (λ (l : List Entry). LetsPass plan e (first_keeper plan e l)) (part_other x R c other.0) passes)))
     (eqb_tells x.box_no c)
 
 -- and where all of a box let the entry pass, the first does
-pub first_passes : (plan : PlanFields) (e : Entry) (list : List Entry) → Each (λ y. keeps_back plan e y ≡ false) list → LetsPass plan e (first_keeper plan e list)
+pub first_passes : (plan : PlanFields) (e : Entry) (list : List Entry) → Each (λ y. keeps_back plan e y ≡ false) list
+    → LetsPass plan e (first_keeper plan e list)
 first_passes plan e [] all = tt
 first_passes plan e (x ∷ list) all =
     ⊎_elim
     (λ hit. subst (λ (o : Option Entry). LetsPass plan e o) (sym (found_here plan e x list hit.0)) all.0)
-    (λ miss. subst (λ (o : Option Entry). LetsPass plan e o) (sym (found_later plan e x list miss.0)) (first_passes plan e list all.1))
+    (λ miss. subst (λ (o : Option Entry). LetsPass plan e o) (sym (found_later plan e x list miss.0))
+    (first_passes plan e list all.1))
     (eqb_tells (keeper_slot plan x) (kept_slot plan e))
 
--- an entry that the law gives where a history has come to: the first keeper of a box decides for all of its entries that remain
-pub first_decides : (plan : PlanFields) (done R : List Entry) (e : Entry) (c : ℕ) → IsPlan plan → IsLegal plan (done ++ R) → Each (Stands plan) R → Stands plan e → e.reply ≡ (step plan (state_of plan done) e.box_no e.call).reply → e.box_no ≢ c → LetsPass plan e (first_keeper plan e (part_of c R))
+-- an entry that the law gives where a history has come to: the first keeper of a box decides for all of its entries
+-- that remain
+pub first_decides : (plan : PlanFields) (done R : List Entry) (e : Entry) (c : ℕ) → IsPlan plan
+    → IsLegal plan (done ++ R) → Each (Stands plan) R → Stands plan e
+    → e.reply ≡ (step plan (state_of plan done) e.box_no e.call).reply → e.box_no ≢ c
+    → LetsPass plan e (first_keeper plan e (part_of c R))
     → Each (λ y. keeps_back plan e y ≡ false) (part_of c R)
 first_decides plan done R e c is legal stand es told ne passes =
     decides_on plan (state_of plan done) e c done R is
-    (record { are = history_states plan done; stands = es; told = told; sections = (history_keeps plan done is (prefix_legal plan done R legal)).sections }) (falls_self (state_of plan done)) ne legal stand passes
+    (record {
+      are = history_states plan done;
+      stands = es;
+      told = told;
+      sections =
+          (history_keeps plan done is (prefix_legal plan done R legal)).sections;
+    }) (falls_self (state_of plan done)) ne
+    legal stand passes
 
 -- boxes that reach one pair are neighbours
 low_or_same : (b : ℕ) (l : Link) → (pair_no b l ≡ b) ⊎ (pair_no b l ≡ b - 1)
@@ -651,11 +784,13 @@ apart_by (suc b) zero p ne (inr e) (inr f) = inl (omega (arith, e, f))
 apart_by (suc b) (suc c) p ne (inr e) (inr f) = absurd (ne (omega (arith, e, f)))
 
 -- an entry is kept back only by one of a neighbour
-pub keeper_near : (plan : PlanFields) (e y : Entry) → e.box_no ≢ y.box_no → keeps_back plan e y ≡ true → (y.box_no + 1 ≡ e.box_no) ⊎ (y.box_no ≡ e.box_no + 1)
+pub keeper_near : (plan : PlanFields) (e y : Entry) → e.box_no ≢ y.box_no → keeps_back plan e y ≡ true
+    → (y.box_no + 1 ≡ e.box_no) ⊎ (y.box_no ≡ e.box_no + 1)
 keeper_near plan e y ne keeps =
     let pair = (keeping plan e y keeps).pairs in
     apart_by e.box_no y.box_no (pair_for plan e) ne (low_or_same e.box_no (link_in plan e))
-    (⊎_elim (λ (h : pair_for plan y ≡ y.box_no). inl (pair ∙ h)) (λ (h : pair_for plan y ≡ y.box_no - 1). inr (pair ∙ h)) (low_or_same y.box_no (link_in plan y)))
+    (⊎_elim (λ (h : pair_for plan y ≡ y.box_no). inl (pair ∙ h))
+    (λ (h : pair_for plan y ≡ y.box_no - 1). inr (pair ∙ h)) (low_or_same y.box_no (link_in plan y)))
 
 -- only a reply of these kinds is kept back at all
 pub none_kept : (plan : PlanFields) (e y : Entry) → Stands plan y → kept_by e.reply ≡ 0 → keeps_back plan e y ≡ false

@@ -14,7 +14,8 @@ length_left [] counts = refl
 length_left (list ∷ lists) [] = ap suc (length_left lists [])
 length_left (list ∷ lists) (count ∷ counts) = ap suc (length_left lists counts)
 
-pub left_at : (lists : List (List Entry)) (counts : List ℕ) (b : ℕ) → length counts ≡ length lists → b < length lists → list_at (left_of lists counts) b ≡ drop (get_or counts b 0) (list_at lists b)
+pub left_at : (lists : List (List Entry)) (counts : List ℕ) (b : ℕ) → length counts ≡ length lists → b < length lists
+    → list_at (left_of lists counts) b ≡ drop (get_or counts b 0) (list_at lists b)
 left_at [] counts b e lt = absurd (omega arith)
 left_at (list ∷ lists) [] b e lt = absurd (omega arith)
 left_at (list ∷ lists) (count ∷ counts) zero e lt = refl
@@ -25,14 +26,18 @@ drop_more zero list = refl
 drop_more (suc n) [] = let e : suc n + 1 ≡ suc (n + 1) = omega arith in rw e refl
 drop_more (suc n) (x ∷ list) = let e : suc n + 1 ≡ suc (n + 1) = omega arith in rw e (drop_more n list)
 
-pub left_set : (lists : List (List Entry)) (counts : List ℕ) (b : ℕ) → length counts ≡ length lists → b < length lists → left_of lists (set counts b (get_or counts b 0 + 1)) ≡ placed (left_of lists counts) b
+pub left_set : (lists : List (List Entry)) (counts : List ℕ) (b : ℕ) → length counts ≡ length lists → b < length lists
+    → left_of lists (set counts b (get_or counts b 0 + 1)) ≡ placed (left_of lists counts) b
 left_set [] counts b e lt = absurd (omega arith)
 left_set (list ∷ lists) [] b e lt = absurd (omega arith)
-left_set (list ∷ lists) (count ∷ counts) zero e lt = ap (λ (l : List Entry). l ∷ left_of lists counts) (drop_more count list)
-left_set (list ∷ lists) (count ∷ counts) (suc b) e lt = ap (λ (rest : List (List Entry)). drop count list ∷ rest) (left_set lists counts b (omega arith) (omega arith))
+left_set (list ∷ lists) (count ∷ counts) zero e lt =
+    ap (λ (l : List Entry). l ∷ left_of lists counts) (drop_more count list)
+left_set (list ∷ lists) (count ∷ counts) (suc b) e lt =
+    ap (λ (rest : List (List Entry)). drop count list ∷ rest) (left_set lists counts b (omega arith) (omega arith))
 
 -- the entries of a register
-pub lists_at : (registers : List RegisterFields) (b : ℕ) → list_at (lists_of registers) b ≡ (register_at registers b).entries
+pub lists_at : (registers : List RegisterFields) (b : ℕ) → list_at (lists_of registers) b
+    ≡ (register_at registers b).entries
 lists_at [] b = refl
 lists_at (register ∷ registers) zero = refl
 lists_at (register ∷ registers) (suc b) = lists_at registers b
@@ -53,35 +58,60 @@ zero_at (suc n) (suc b) = zero_at n b
 
 -- ---- of the registers of a line
 
-pub lefts_length : (registers : List RegisterFields) (counts : List ℕ) → length (left_of (lists_of registers) counts) ≡ length registers
-lefts_length registers counts = length_left (lists_of registers) counts ∙ length-map registers (λ register. register.entries)
+pub lefts_length : (registers : List RegisterFields) (counts : List ℕ)
+    → length (left_of (lists_of registers) counts) ≡ length registers
+lefts_length registers counts =
+    length_left (lists_of registers) counts ∙ length-map registers (λ register. register.entries)
 
-pub lefts_at : (registers : List RegisterFields) (counts : List ℕ) (b : ℕ) → length counts ≡ length registers → b < length registers → list_at (left_of (lists_of registers) counts) b ≡ drop (get_or counts b 0) (register_at registers b).entries
+pub lefts_at : (registers : List RegisterFields) (counts : List ℕ) (b : ℕ) → length counts ≡ length registers
+    → b < length registers → list_at (left_of (lists_of registers) counts) b
+    ≡ drop (get_or counts b 0) (register_at registers b).entries
 lefts_at registers counts b e lt =
     let n = length-map registers (λ register. register.entries) in
-    left_at (lists_of registers) counts b (e ∙ sym n) (omega (arith, lt, n)) ∙ ap (λ (l : List Entry). drop (get_or counts b 0) l) (lists_at registers b)
+    left_at (lists_of registers) counts b (e ∙ sym n) (omega (arith, lt, n))
+    ∙ ap (λ (l : List Entry). drop (get_or counts b 0) l) (lists_at registers b)
 
-pub lefts_set : (registers : List RegisterFields) (counts : List ℕ) (b : ℕ) → length counts ≡ length registers → b < length registers → left_of (lists_of registers) (set counts b (get_or counts b 0 + 1)) ≡ placed (left_of (lists_of registers) counts) b
+pub lefts_set : (registers : List RegisterFields) (counts : List ℕ) (b : ℕ) → length counts ≡ length registers
+    → b < length registers → left_of (lists_of registers) (set counts b (get_or counts b 0 + 1))
+    ≡ placed (left_of (lists_of registers) counts) b
 lefts_set registers counts b e lt =
-    let n = length-map registers (λ register. register.entries) in left_set (lists_of registers) counts b (e ∙ sym n) (omega (arith, lt, n))
+    let n = length-map registers (λ register. register.entries) in
+    left_set (lists_of registers) counts b (e ∙ sym n) (omega (arith, lt, n))
 
 pub counts_first : (registers : List RegisterFields) → AreCounts registers (replicate (length registers) 0)
-counts_first registers = record { each = length-replicate (length registers) 0; within = λ b lt. let z = zero_at (length registers) b in omega (arith, z) }
+counts_first registers =
+    record {
+      each = length-replicate (length registers) 0;
+      within = λ b lt. let z = zero_at (length registers) b in
+          omega (arith, z);
+    }
 
-within_set : (registers : List RegisterFields) (counts : List ℕ) (b : ℕ) → AreCounts registers counts → b < length registers → 0 < length (list_at (left_of (lists_of registers) counts) b) → (c : ℕ) → c < length registers
+within_set : (registers : List RegisterFields) (counts : List ℕ) (b : ℕ) → AreCounts registers counts
+    → b < length registers → 0 < length (list_at (left_of (lists_of registers) counts) b) → (c : ℕ)
+    → c < length registers
     → get_or (set counts b (get_or counts b 0 + 1)) c 0 ≤ length (list_at (lists_of registers) c)
 within_set registers counts b are lt some c less =
     ⊎_elim
     (λ mine.
-    let now : get_or (set counts b (get_or counts b 0 + 1)) c 0 ≡ get_or counts b 0 + 1 = ap (λ (k : ℕ). get_or (set counts b (get_or counts b 0 + 1)) k 0) mine.1 ∙ get_or-set_same counts b _ 0 (omega (arith, are.each, lt)) in
-    let at : length (list_at (left_of (lists_of registers) counts) b) ≡ length (list_at (lists_of registers) b) - get_or counts b 0 =
-    ap (λ (l : List Entry). length l) (lefts_at registers counts b are.each lt ∙ ap (λ (l : List Entry). drop (get_or counts b 0) l) (sym (lists_at registers b))) ∙ length-drop (get_or counts b 0) (list_at (lists_of registers) b) in
-    let same : length (list_at (lists_of registers) c) ≡ length (list_at (lists_of registers) b) = ap (λ (k : ℕ). length (list_at (lists_of registers) k)) mine.1 in
+    let now : get_or (set counts b (get_or counts b 0 + 1)) c 0 ≡ get_or counts b 0 + 1 =
+    ap (λ (k : ℕ). get_or (set counts b (get_or counts b 0 + 1)) k 0) mine.1
+    ∙ get_or-set_same counts b _ 0 (omega (arith, are.each, lt)) in
+    let at : length (list_at (left_of (lists_of registers) counts) b)
+    ≡ length (list_at (lists_of registers) b) - get_or counts b 0 =
+    ap (λ (l : List Entry). length l) (lefts_at registers counts b are.each lt
+    ∙ ap (λ (l : List Entry). drop (get_or counts b 0) l) (sym (lists_at registers b)))
+    ∙ length-drop (get_or counts b 0) (list_at (lists_of registers) b) in
+    let same : length (list_at (lists_of registers) c) ≡ length (list_at (lists_of registers) b) =
+    ap (λ (k : ℕ). length (list_at (lists_of registers) k)) mine.1 in
     omega (arith, now, at, same, some))
-    (λ other. let now = get_or-set_other counts b c (get_or counts b 0 + 1) 0 other.1 in let old = are.within c less in omega (arith, now, old))
+    (λ other. let now = get_or-set_other counts b c (get_or counts b 0 + 1) 0 other.1 in let old = are.within c less in
+    omega (arith, now, old))
     (eqb_tells c b)
 
-pub counts_set : (registers : List RegisterFields) (counts : List ℕ) (b : ℕ) → AreCounts registers counts → b < length registers → 0 < length (list_at (left_of (lists_of registers) counts) b) → AreCounts registers (set counts b (get_or counts b 0 + 1))
-counts_set registers counts b are lt some = record { each = length-set counts b _ ∙ are.each; within = within_set registers counts b are lt some }
+pub counts_set : (registers : List RegisterFields) (counts : List ℕ) (b : ℕ) → AreCounts registers counts
+    → b < length registers → 0 < length (list_at (left_of (lists_of registers) counts) b)
+    → AreCounts registers (set counts b (get_or counts b 0 + 1))
+counts_set registers counts b are lt some =
+    record { each = length-set counts b _ ∙ are.each; within = within_set registers counts b are lt some }
 
 pub ruleset left_rules = (lefts_length, lefts_at, lefts_set, left_first, lists_at)

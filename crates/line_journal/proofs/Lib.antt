@@ -11,6 +11,9 @@ pub mod Deciding
 pub mod Lefts
 pub mod Looping
 pub mod Deciders
-pub mod Skipping
+pub mod Found
 pub mod Opening
 pub mod Nearby
+pub mod Passing
+pub mod Firsts
+pub mod Lines

@@ -1,4 +1,5 @@
--- Two replies told at the two ends of one word: the table keeps the first back, or the two change places, or the first is lost after the second.
+-- Two replies told at the two ends of one word: the table keeps the first back, or the two change places, or the first
+-- is lost after the second.
 use Rattle.std.proofs.Common.{ℕ, ◌+◌, ◌-◌, ◌≡◌, ◌<◌, ◌⊎◌, inl, inr, ⊎_elim, List, [], ◌∷◌, ◌++◌, Option}
 use Rattle.std.proofs.Common.{Some, None, Bool, true, false, cond, IsTrue, lt-ltb, refl, sym, ap, ◌∙◌, arith}
 use Rattle.std.specs.Prelude.{◌==◌, ◌||◌, drop, nat_lt}
@@ -14,10 +15,10 @@ use Rattle.line_law.specs.declared.state.Block.{Block}
 use Rattle.line_law.specs.declared.state.Passage.{Passage}
 use Rattle.line_law.specs.Arrivals.{first_train}
 use Rattle.line_law.specs.Trains.{holds}
+use Rattle.word_laws.specs.TellsWord.{IsInReply, IsOutReply}
 use Rattle.line_journal.specs.Fits.{FitsBell, FitsBlock, FitsPlainLine, bell_made, block_made, plain_line_made}
 use Rattle.line_journal.specs.Exchanges.{ChangePlaces, IsLostOnBell, IsLostOnBlock, IsLostOnPlainLine}
 use Rattle.line_journal.specs.Order.{kept_back}
-use Rattle.line_journal.specs.Halves.{IsInReply, IsOutReply}
 
 -- what the first owes to the second, which stands before it
 abbrev pub Moves : {W : Type 0} → Bool → (W → Type 0) → (W → Type 0) → (W → Type 0) → (W → W) → (W → W) → W → Type 0
@@ -37,7 +38,8 @@ BellMoves a c r q w = Moves (kept_back r q) (IsLostOnBell r) (FitsBell r) (FitsB
 silent_not_rung : (u : Option ℕ) (code : ℕ) → u ≡ None → u ≡ Some code → ⊥
 silent_not_rung u code e f = cc
 
-rung_past : (a c : Act) (k : ℕ) (q : Reply) (w : Bell) → IsInReply q → FitsBell (Rung k) w → FitsBell q w → BellMoves a c (Rung k) q w
+rung_past : (a c : Act) (k : ℕ) (q : Reply) (w : Bell) → IsInReply q → FitsBell (Rung k) w → FitsBell q w
+    → BellMoves a c (Rung k) q w
 rung_past a c k (Rung n) w at f g = absurd at
 rung_past a c k (BellBusy n held) w at f g = absurd at
 rung_past a c k (Heard n code) w at f g = absurd (silent_not_rung w.unheard code f.1 g.1)
@@ -45,7 +47,8 @@ rung_past a c k (Silent n) w at f g = inl (same (n + 1) k (omega (arith, f.0, g.
 rung_past a c k (BellNotYet n shown) w at f g = inl (same (n + 1) k (omega (arith, f.0, g.0)))
 rung_past a c k q w at f g = absurd g
 
-busy_past : (a c : Act) (k held : ℕ) (q : Reply) (w : Bell) → IsInReply q → FitsBell (BellBusy k held) w → FitsBell q w → BellMoves a c (BellBusy k held) q w
+busy_past : (a c : Act) (k held : ℕ) (q : Reply) (w : Bell) → IsInReply q → FitsBell (BellBusy k held) w → FitsBell q w
+    → BellMoves a c (BellBusy k held) q w
 busy_past a c k held (Rung n) w at f g = absurd at
 busy_past a c k held (BellBusy n other) w at f g = absurd at
 busy_past a c k held (Heard n code) w at f g = inr (inr refl)
@@ -53,7 +56,8 @@ busy_past a c k held (Silent n) w at f g = absurd (silent_not_rung w.unheard hel
 busy_past a c k held (BellNotYet n shown) w at f g = inr (inl (record { first = f; second = g; word = refl }))
 busy_past a c k held q w at f g = absurd g
 
-pub out_bell_moves : (a c : Act) (r q : Reply) (w : Bell) → IsOutReply r → IsInReply q → FitsBell r w → FitsBell q w → BellMoves a c r q w
+pub out_bell_moves : (a c : Act) (r q : Reply) (w : Bell) → IsOutReply r → IsInReply q → FitsBell r w → FitsBell q w
+    → BellMoves a c r q w
 out_bell_moves a c (Rung k) q w out at f g = rung_past a c k q w at f g
 out_bell_moves a c (BellBusy k held) q w out at f g = busy_past a c k held q w at f g
 out_bell_moves a c (Heard k code) q w out at f g = absurd out
@@ -61,7 +65,8 @@ out_bell_moves a c (Silent k) q w out at f g = absurd out
 out_bell_moves a c (BellNotYet k shown) q w out at f g = absurd out
 out_bell_moves a c r q w out at f g = absurd f
 
-heard_past : (a c : Act) (k code : ℕ) (q : Reply) (w : Bell) → IsOutReply q → FitsBell (Heard k code) w → FitsBell q w → BellMoves a c (Heard k code) q w
+heard_past : (a c : Act) (k code : ℕ) (q : Reply) (w : Bell) → IsOutReply q → FitsBell (Heard k code) w → FitsBell q w
+    → BellMoves a c (Heard k code) q w
 heard_past a c k code (Rung n) w at f g = absurd (silent_not_rung w.unheard code g.1 f.1)
 heard_past a c k code (BellBusy n held) w at f g = inl (same n k (sym g.0 ∙ f.0))
 heard_past a c k code (Heard n other) w at f g = absurd at
@@ -69,7 +74,8 @@ heard_past a c k code (Silent n) w at f g = absurd at
 heard_past a c k code (BellNotYet n shown) w at f g = absurd at
 heard_past a c k code q w at f g = absurd g
 
-silent_past : (a c : Act) (k : ℕ) (q : Reply) (w : Bell) → IsOutReply q → FitsBell (Silent k) w → FitsBell q w → BellMoves a c (Silent k) q w
+silent_past : (a c : Act) (k : ℕ) (q : Reply) (w : Bell) → IsOutReply q → FitsBell (Silent k) w → FitsBell q w
+    → BellMoves a c (Silent k) q w
 silent_past a c k (Rung n) w at f g = inr (inr (omega (arith, f.0, g.0)))
 silent_past a c k (BellBusy n held) w at f g = absurd (silent_not_rung w.unheard held f.1 g.1)
 silent_past a c k (Heard n other) w at f g = absurd at
@@ -77,7 +83,8 @@ silent_past a c k (Silent n) w at f g = absurd at
 silent_past a c k (BellNotYet n shown) w at f g = absurd at
 silent_past a c k q w at f g = absurd g
 
-shown_past : (a c : Act) (k : ℕ) (shown : Option ℕ) (q : Reply) (w : Bell) → IsOutReply q → FitsBell (BellNotYet k shown) w → FitsBell q w → BellMoves a c (BellNotYet k shown) q w
+shown_past : (a c : Act) (k : ℕ) (shown : Option ℕ) (q : Reply) (w : Bell) → IsOutReply q
+    → FitsBell (BellNotYet k shown) w → FitsBell q w → BellMoves a c (BellNotYet k shown) q w
 shown_past a c k shown (Rung n) w at f g = inr (inr (omega (arith, f.0, g.0)))
 shown_past a c k shown (BellBusy n held) w at f g = inr (inl (record { first = f; second = g; word = refl }))
 shown_past a c k shown (Heard n other) w at f g = absurd at
@@ -85,7 +92,8 @@ shown_past a c k shown (Silent n) w at f g = absurd at
 shown_past a c k shown (BellNotYet n other) w at f g = absurd at
 shown_past a c k shown q w at f g = absurd g
 
-pub in_bell_moves : (a c : Act) (r q : Reply) (w : Bell) → IsInReply r → IsOutReply q → FitsBell r w → FitsBell q w → BellMoves a c r q w
+pub in_bell_moves : (a c : Act) (r q : Reply) (w : Bell) → IsInReply r → IsOutReply q → FitsBell r w → FitsBell q w
+    → BellMoves a c r q w
 in_bell_moves a c (Rung k) q w at out f g = absurd at
 in_bell_moves a c (BellBusy k held) q w at out f g = absurd at
 in_bell_moves a c (Heard k code) q w at out f g = heard_past a c k code q w out f g
@@ -94,7 +102,8 @@ in_bell_moves a c (BellNotYet k shown) q w at out f g = shown_past a c k shown q
 in_bell_moves a c r q w at out f g = absurd f
 
 -- what is lost at the rear stays lost while the other end works the bell
-off_stays : (c : Act) (q : Reply) (w : Bell) → IsInReply q → FitsBell q w → w.unheard ≡ None → (bell_made c q w).unheard ≡ None
+off_stays : (c : Act) (q : Reply) (w : Bell) → IsInReply q → FitsBell q w → w.unheard ≡ None
+    → (bell_made c q w).unheard ≡ None
 off_stays c (Rung n) w at g off = absurd at
 off_stays c (BellBusy n held) w at g off = off
 off_stays c (Heard n code) w at g off = refl
@@ -111,13 +120,15 @@ count_stays c k (Silent n) w g h = h
 count_stays c k (BellNotYet n shown) w g h = h
 count_stays c k q w g h = absurd g
 
-pub out_bell_stays : (c : Act) (r q : Reply) (w : Bell) → IsOutReply r → IsInReply q → FitsBell q w → IsLostOnBell r w → IsLostOnBell r (bell_made c q w)
+pub out_bell_stays : (c : Act) (r q : Reply) (w : Bell) → IsOutReply r → IsInReply q → FitsBell q w → IsLostOnBell r w
+    → IsLostOnBell r (bell_made c q w)
 out_bell_stays c (BellBusy k held) q w out at g lost = off_stays c q w at g lost
 out_bell_stays c (Silent k) q w out at g lost = absurd out
 out_bell_stays c (BellNotYet k shown) q w out at g lost = absurd out
 out_bell_stays c r q w out at g lost = absurd lost
 
-pub in_bell_stays : (c : Act) (r q : Reply) (w : Bell) → IsInReply r → IsOutReply q → FitsBell q w → IsLostOnBell r w → IsLostOnBell r (bell_made c q w)
+pub in_bell_stays : (c : Act) (r q : Reply) (w : Bell) → IsInReply r → IsOutReply q → FitsBell q w → IsLostOnBell r w
+    → IsLostOnBell r (bell_made c q w)
 in_bell_stays c (BellBusy k held) q w at out g lost = absurd at
 in_bell_stays c (Silent k) q w at out g lost = count_stays c k q w g lost
 in_bell_stays c (BellNotYet k shown) q w at out g lost = count_stays c k q w g lost
@@ -133,7 +144,8 @@ bell_lost r w lost f = absurd lost
 -- ---- an instrument
 
 abbrev BlockMoves : Act → Act → Reply → Reply → Block → Type 0
-BlockMoves a c r q w = Moves (kept_back r q) (IsLostOnBlock r) (FitsBlock a r) (FitsBlock c q) (block_made a r) (block_made c q) w
+BlockMoves a c r q w =
+    Moves (kept_back r q) (IsLostOnBlock r) (FitsBlock a r) (FitsBlock c q) (block_made a r) (block_made c q) w
 
 -- what is told at the rear is of the turn that the instrument has
 abbrev OfTurn : Reply → ℕ → Type 0
@@ -186,10 +198,13 @@ turn_keeps : (r q : Reply) (n : ℕ) → IsTurn r n → OfTurn q n → IsTrue (k
 turn_keeps (Turned v) q n e g = turn_kept q n v g (omega (arith, e))
 turn_keeps r q n e g = absurd e
 
-pub out_block_moves : (a c : Act) (r q : Reply) (w : Block) → IsOutReply r → IsInReply q → FitsBlock a r w → FitsBlock c q w → BlockMoves a c r q w
-out_block_moves a c r q w out at f g = inr (inr (turn_loses r w.turns (block_made c q w) (of_turn a r w out f) (turn_raises c q w (is_turn c q w at g))))
+pub out_block_moves : (a c : Act) (r q : Reply) (w : Block) → IsOutReply r → IsInReply q → FitsBlock a r w
+    → FitsBlock c q w → BlockMoves a c r q w
+out_block_moves a c r q w out at f g =
+    inr (inr (turn_loses r w.turns (block_made c q w) (of_turn a r w out f) (turn_raises c q w (is_turn c q w at g))))
 
-pub in_block_moves : (a c : Act) (r q : Reply) (w : Block) → IsInReply r → IsOutReply q → FitsBlock a r w → FitsBlock c q w → BlockMoves a c r q w
+pub in_block_moves : (a c : Act) (r q : Reply) (w : Block) → IsInReply r → IsOutReply q → FitsBlock a r w
+    → FitsBlock c q w → BlockMoves a c r q w
 in_block_moves a c r q w at out f g = inl (turn_keeps r q w.turns (is_turn a r w at f) (of_turn c q w out g))
 
 turn_stays : (r : Reply) (w v : Block) → IsLostOnBlock r w → w.turns < v.turns → IsLostOnBlock r v
@@ -199,7 +214,8 @@ turn_stays (Seen n) w v lost h = omega (arith, lost, h)
 turn_stays (BlockNotYet n shown) w v lost h = omega (arith, lost, h)
 turn_stays r w v lost h = absurd lost
 
-pub out_block_stays : (c : Act) (r q : Reply) (w : Block) → IsInReply q → FitsBlock c q w → IsLostOnBlock r w → IsLostOnBlock r (block_made c q w)
+pub out_block_stays : (c : Act) (r q : Reply) (w : Block) → IsInReply q → FitsBlock c q w → IsLostOnBlock r w
+    → IsLostOnBlock r (block_made c q w)
 out_block_stays c r q w at g lost = turn_stays r w (block_made c q w) lost (turn_raises c q w (is_turn c q w at g))
 
 -- in advance nothing is lost
@@ -220,14 +236,18 @@ block_lost a r w lost f = lost
 -- ---- a plain line
 
 abbrev LineMoves : Reply → Reply → List Passage → Type 0
-LineMoves r q w = Moves (kept_back r q) (IsLostOnPlainLine r) (FitsPlainLine r) (FitsPlainLine q) (plain_line_made r) (plain_line_made q) w
+LineMoves r q w =
+    Moves (kept_back r q) (IsLostOnPlainLine r) (FitsPlainLine r) (FitsPlainLine q) (plain_line_made r)
+    (plain_line_made q) w
 
 -- a train that enters behind others leaves the first of them
-pub first_stays : (j : ℕ) (w : List Passage) (p : Passage) (train : ℕ) → first_train j w ≡ Some train → first_train j (w ++ p ∷ []) ≡ Some train
+pub first_stays : (j : ℕ) (w : List Passage) (p : Passage) (train : ℕ) → first_train j w ≡ Some train
+    → first_train j (w ++ p ∷ []) ≡ Some train
 first_stays j [] p train e = absurd cc
 first_stays j (q ∷ w) p train e = e
 
-drop_first : (j : ℕ) (w : List Passage) (p : Passage) (train : ℕ) → first_train j w ≡ Some train → drop 1 (w ++ p ∷ []) ≡ drop 1 w ++ p ∷ []
+drop_first : (j : ℕ) (w : List Passage) (p : Passage) (train : ℕ) → first_train j w ≡ Some train
+    → drop 1 (w ++ p ∷ []) ≡ drop 1 w ++ p ∷ []
 drop_first j [] p train e = absurd cc
 drop_first j (q ∷ w) p train e = refl
 
@@ -251,84 +271,119 @@ first_number j p w train e = go (p.number == j) refl e where
   go false is f = absurd cc
 
 -- a train that leaves a full line, and after which it isn't full, is the one four before
-only_first : (j k : ℕ) (w : List Passage) (train : ℕ) → first_train j w ≡ Some train → holds w k ≡ true → holds (drop 1 w) k ≡ false → j ≡ k - 4
+only_first : (j k : ℕ) (w : List Passage) (train : ℕ) → first_train j w ≡ Some train → holds w k ≡ true
+    → holds (drop 1 w) k ≡ false → j ≡ k - 4
 only_first j k [] train e full free = absurd cc
 only_first j k (p ∷ w) train e full free =
     let one : p.number ≡ k - 4 = eqb-true p.number (k - 4) (or_first (p.number == k - 4) (holds w k) full free) in
     sym (first_number j p w train e) ∙ one
 
 -- a train enters, and the first one is looked at or leaves
-enters_and_stays : (k train j t : ℕ) (q : Reply) (w : List Passage) → first_train j w ≡ Some t → holds w k ≡ false → ((v : List Passage) → plain_line_made q v ≡ v) → ((v : List Passage) → first_train j v ≡ Some t → FitsPlainLine q v)
-    → ChangePlaces (FitsPlainLine (Entered k train)) (FitsPlainLine q) (plain_line_made (Entered k train)) (plain_line_made q) w
+enters_and_stays : (k train j t : ℕ) (q : Reply) (w : List Passage) → first_train j w ≡ Some t → holds w k ≡ false
+    → ((v : List Passage) → plain_line_made q v ≡ v) → ((v : List Passage) → first_train j v ≡ Some t
+    → FitsPlainLine q v)
+    → ChangePlaces (FitsPlainLine (Entered k train)) (FitsPlainLine q) (plain_line_made (Entered k train))
+    (plain_line_made q) w
 enters_and_stays k train j t q w e free still fits =
     record {
       first = ap (λ (v : List Passage). holds v k) (still w) ∙ free;
       second = fits (plain_line_made (Entered k train) w) (first_stays j w _ t e);
-      word = still (plain_line_made (Entered k train) w) ∙ ap (λ (v : List Passage). plain_line_made (Entered k train) v) (sym (still w));
+      word =
+          still (plain_line_made (Entered k train) w) ∙ ap (λ (v : List Passage). plain_line_made (Entered k train) v)
+          (sym (still w));
     }
 
-enters_and_leaves : (k train j t : ℕ) (q : Reply) (w : List Passage) → first_train j w ≡ Some t → holds w k ≡ false → ((v : List Passage) → plain_line_made q v ≡ drop 1 v) → ((v : List Passage) → first_train j v ≡ Some t → FitsPlainLine q v)
-    → ChangePlaces (FitsPlainLine (Entered k train)) (FitsPlainLine q) (plain_line_made (Entered k train)) (plain_line_made q) w
+enters_and_leaves : (k train j t : ℕ) (q : Reply) (w : List Passage) → first_train j w ≡ Some t → holds w k ≡ false
+    → ((v : List Passage) → plain_line_made q v ≡ drop 1 v) → ((v : List Passage) → first_train j v ≡ Some t
+    → FitsPlainLine q v)
+    → ChangePlaces (FitsPlainLine (Entered k train)) (FitsPlainLine q) (plain_line_made (Entered k train))
+    (plain_line_made q) w
 enters_and_leaves k train j t q w e free leaves fits =
     record {
       first = ap (λ (v : List Passage). holds v k) (leaves w) ∙ free_stays k w free;
       second = fits (plain_line_made (Entered k train) w) (first_stays j w _ t e);
-      word = leaves (plain_line_made (Entered k train) w) ∙ drop_first j w _ t e ∙ ap (λ (v : List Passage). plain_line_made (Entered k train) v) (sym (leaves w));
+      word =
+          leaves (plain_line_made (Entered k train) w) ∙ drop_first j w _ t e
+          ∙ ap (λ (v : List Passage). plain_line_made (Entered k train) v) (sym (leaves w));
     }
 
 -- a train enters, and no train j is found: it was the first, or the line is as it was for the other
-alone_by : (j k train : ℕ) (is : Bool) → (k == j) ≡ is → (j ≡ k) ⊎ (first_train j (record { number = k; train = train } ∷ []) ≡ None)
+alone_by : (j k train : ℕ) (is : Bool) → (k == j) ≡ is → (j ≡ k)
+    ⊎ (first_train j (record { number = k; train = train } ∷ []) ≡ None)
 alone_by j k train true e = inl (sym (eqb-true k j e))
 alone_by j k train false e = inr (rw e refl)
 
-unfound_by : (j k train : ℕ) (w : List Passage) → first_train j w ≡ None → (j ≡ k) ⊎ (first_train j (w ++ record { number = k; train = train } ∷ []) ≡ None)
+unfound_by : (j k train : ℕ) (w : List Passage) → first_train j w ≡ None
+    → (j ≡ k) ⊎ (first_train j (w ++ record { number = k; train = train } ∷ []) ≡ None)
 unfound_by j k train [] e = alone_by j k train (k == j) refl
 unfound_by j k train (p ∷ w) e = inr e
 
-first_alone : (j k train : ℕ) (w : List Passage) → first_train j w ≡ None → j ≡ k → (first_train j (w ++ record { number = k; train = train } ∷ []) ≡ None → ⊥) ⊎ (first_train j (w ++ record { number = k; train = train } ∷ []) ≡ None)
+first_alone : (j k train : ℕ) (w : List Passage) → first_train j w ≡ None → j ≡ k
+    → (first_train j (w ++ record { number = k; train = train } ∷ []) ≡ None → ⊥)
+    ⊎ (first_train j (w ++ record { number = k; train = train } ∷ []) ≡ None)
 first_alone j k train [] e f = inl (λ h. found (k == j) (eq-eqb k j (sym f)) h) where
   found : (is : Bool) → is ≡ true → cond is (Some train) None ≡ None → ⊥
   found true t h = cc
   found false t h = cc
 first_alone j k train (p ∷ w) e f = inr e
 
-entered_past : (k train : ℕ) (q : Reply) (w : List Passage) → IsInReply q → FitsPlainLine (Entered k train) w → FitsPlainLine q w → LineMoves (Entered k train) q w
-entered_past k train (Approaching j t) w at f g = inr (inl (enters_and_stays k train j t (Approaching j t) w g f (λ v. refl) (λ v e. e)))
-entered_past k train (PartBerthed j t) w at f g = inr (inl (enters_and_stays k train j t (PartBerthed j t) w g f (λ v. refl) (λ v e. e)))
-entered_past k train (Berthed j t) w at f g = inr (inl (enters_and_leaves k train j t (Berthed j t) w g f (λ v. refl) (λ v e. e)))
-entered_past k train (Cleared j t) w at f g = inr (inl (enters_and_leaves k train j t (Cleared j t) w g f (λ v. refl) (λ v e. e)))
+entered_past : (k train : ℕ) (q : Reply) (w : List Passage) → IsInReply q → FitsPlainLine (Entered k train) w
+    → FitsPlainLine q w → LineMoves (Entered k train) q w
+entered_past k train (Approaching j t) w at f g =
+    inr (inl (enters_and_stays k train j t (Approaching j t) w g f (λ v. refl) (λ v e. e)))
+entered_past k train (PartBerthed j t) w at f g =
+    inr (inl (enters_and_stays k train j t (PartBerthed j t) w g f (λ v. refl) (λ v e. e)))
+entered_past k train (Berthed j t) w at f g =
+    inr (inl (enters_and_leaves k train j t (Berthed j t) w g f (λ v. refl) (λ v e. e)))
+entered_past k train (Cleared j t) w at f g =
+    inr (inl (enters_and_leaves k train j t (Cleared j t) w g f (λ v. refl) (λ v e. e)))
 entered_past k train (NoTrainAt j) w at f g =
-    ⊎_elim (λ (e : j ≡ k). inl (same j k e)) (λ (e : first_train j (w ++ record { number = k; train = train } ∷ []) ≡ None). inr (inl (record { first = f; second = e; word = refl }))) (unfound_by j k train w g)
+    ⊎_elim (λ (e : j ≡ k). inl (same j k e))
+    (λ (e : first_train j (w ++ record { number = k; train = train } ∷ []) ≡ None).
+    inr (inl (record { first = f; second = e; word = refl }))) (unfound_by j k train w g)
 entered_past k train (TrainNotYet j) w at f g =
-    ⊎_elim (λ (e : j ≡ k). inl (same j k e)) (λ (e : first_train j (w ++ record { number = k; train = train } ∷ []) ≡ None). inr (inl (record { first = f; second = e; word = refl }))) (unfound_by j k train w g)
+    ⊎_elim (λ (e : j ≡ k). inl (same j k e))
+    (λ (e : first_train j (w ++ record { number = k; train = train } ∷ []) ≡ None).
+    inr (inl (record { first = f; second = e; word = refl }))) (unfound_by j k train w g)
 entered_past k train (Entered n t) w at f g = absurd at
 entered_past k train (SectionFull n) w at f g = absurd at
 entered_past k train q w at f g = absurd g
 
 -- a line that is full, and the first train leaves it: it stays full, or the train was the fourth before
-full_and_leaves : (k j t : ℕ) (q : Reply) (w : List Passage) (is : Bool) → holds (drop 1 w) k ≡ is → holds w k ≡ true → first_train j w ≡ Some t → 0 < j → ((v : List Passage) → plain_line_made q v ≡ drop 1 v) → FitsPlainLine q w
-    → ChangePlaces (FitsPlainLine (SectionFull k)) (FitsPlainLine q) (plain_line_made (SectionFull k)) (plain_line_made q) w ⊎ ((k ≡ j + 4) × (holds (plain_line_made q w) k ≡ false))
-full_and_leaves k j t q w true still full e pos leaves g = inl (record { first = ap (λ (v : List Passage). holds v k) (leaves w) ∙ still; second = g; word = refl })
+full_and_leaves : (k j t : ℕ) (q : Reply) (w : List Passage) (is : Bool) → holds (drop 1 w) k ≡ is → holds w k ≡ true
+    → first_train j w ≡ Some t → 0 < j → ((v : List Passage) → plain_line_made q v ≡ drop 1 v) → FitsPlainLine q w
+    → ChangePlaces (FitsPlainLine (SectionFull k)) (FitsPlainLine q) (plain_line_made (SectionFull k))
+    (plain_line_made q) w ⊎ ((k ≡ j + 4) × (holds (plain_line_made q w) k ≡ false))
+full_and_leaves k j t q w true still full e pos leaves g =
+    inl (record { first = ap (λ (v : List Passage). holds v k) (leaves w) ∙ still; second = g; word = refl })
 full_and_leaves k j t q w false still full e pos leaves g =
     let one = only_first j k w t e full still in
     inr (omega (arith, one, pos), ap (λ (v : List Passage). holds v k) (leaves w) ∙ still)
 
-full_past_one : (k j t : ℕ) (q : Reply) (w : List Passage) → ChangePlaces (FitsPlainLine (SectionFull k)) (FitsPlainLine q) (plain_line_made (SectionFull k)) (plain_line_made q) w ⊎ ((k ≡ j + 4) × (holds (plain_line_made q w) k ≡ false)) → LineMoves (SectionFull k) q w
+full_past_one : (k j t : ℕ) (q : Reply) (w : List Passage) → ChangePlaces (FitsPlainLine (SectionFull k))
+    (FitsPlainLine q) (plain_line_made (SectionFull k)) (plain_line_made q) w
+    ⊎ ((k ≡ j + 4) × (holds (plain_line_made q w) k ≡ false)) → LineMoves (SectionFull k) q w
 full_past_one k j t q w (inl s) = inr (inl s)
 full_past_one k j t q w (inr lost) = inr (inr lost.1)
 
-full_past : (k : ℕ) (q : Reply) (w : List Passage) → IsInReply q → FitsPlainLine (SectionFull k) w → FitsPlainLine q w → LineMoves (SectionFull k) q w
+full_past : (k : ℕ) (q : Reply) (w : List Passage) → IsInReply q → FitsPlainLine (SectionFull k) w → FitsPlainLine q w
+    → LineMoves (SectionFull k) q w
 full_past k (Approaching j t) w at f g = inr (inl (record { first = f; second = g; word = refl }))
 full_past k (PartBerthed j t) w at f g = inr (inl (record { first = f; second = g; word = refl }))
 full_past k (NoTrainAt j) w at f g = inr (inl (record { first = f; second = g; word = refl }))
 full_past k (TrainNotYet j) w at f g = inr (inl (record { first = f; second = g; word = refl }))
-full_past k (Berthed j t) w at f g = full_past_one k j t (Berthed j t) w (full_and_leaves k j t (Berthed j t) w (holds (drop 1 w) k) refl f g at (λ v. refl) g)
-full_past k (Cleared j t) w at f g = full_past_one k j t (Cleared j t) w (full_and_leaves k j t (Cleared j t) w (holds (drop 1 w) k) refl f g at (λ v. refl) g)
+full_past k (Berthed j t) w at f g =
+    full_past_one k j t (Berthed j t) w (full_and_leaves k j t (Berthed j t) w (holds (drop 1 w) k) refl f g at
+    (λ v. refl) g)
+full_past k (Cleared j t) w at f g =
+    full_past_one k j t (Cleared j t) w (full_and_leaves k j t (Cleared j t) w (holds (drop 1 w) k) refl f g at
+    (λ v. refl) g)
 full_past k (Entered n t) w at f g = absurd at
 full_past k (SectionFull n) w at f g = absurd at
 full_past k q w at f g = absurd g
 
-pub out_line_moves : (r q : Reply) (w : List Passage) → IsOutReply r → IsInReply q → FitsPlainLine r w → FitsPlainLine q w → LineMoves r q w
+pub out_line_moves : (r q : Reply) (w : List Passage) → IsOutReply r → IsInReply q → FitsPlainLine r w
+    → FitsPlainLine q w → LineMoves r q w
 out_line_moves (Entered k train) q w out at f g = entered_past k train q w at f g
 out_line_moves (SectionFull k) q w out at f g = full_past k q w at f g
 out_line_moves (Approaching j train) q w out at f g = absurd out
@@ -343,9 +398,12 @@ out_line_moves r q w out at f g = absurd f
 turned_round : {W : Type 0} → (F G : W → Type 0) (m n : W → W) (w : W) → ChangePlaces F G m n w → ChangePlaces G F n m w
 turned_round F G m n w s = record { first = s.second; second = s.first; word = sym s.word }
 
-stays_and_enters : (r : Reply) (j t : ℕ) (q : Reply) (w : List Passage) → FitsPlainLine r w → first_train j w ≡ Some t → IsOutReply q → FitsPlainLine q w → ((v : List Passage) → plain_line_made r v ≡ v) → ((v : List Passage) → first_train j v ≡ Some t → FitsPlainLine r v) → LineMoves r q w
+stays_and_enters : (r : Reply) (j t : ℕ) (q : Reply) (w : List Passage) → FitsPlainLine r w → first_train j w ≡ Some t
+    → IsOutReply q → FitsPlainLine q w → ((v : List Passage) → plain_line_made r v ≡ v)
+    → ((v : List Passage) → first_train j v ≡ Some t → FitsPlainLine r v) → LineMoves r q w
 stays_and_enters r j t (Entered k train) w f e out g still fits =
-    inr (inl (turned_round (FitsPlainLine (Entered k train)) (FitsPlainLine r) (plain_line_made (Entered k train)) (plain_line_made r) w (enters_and_stays k train j t r w e g still fits)))
+    inr (inl (turned_round (FitsPlainLine (Entered k train)) (FitsPlainLine r) (plain_line_made (Entered k train))
+    (plain_line_made r) w (enters_and_stays k train j t r w e g still fits)))
 stays_and_enters r j t (SectionFull k) w f e out g still fits =
     inr (inl (record { first = f; second = ap (λ (v : List Passage). holds v k) (still w) ∙ g; word = refl }))
 stays_and_enters r j t (Approaching k train) w f e out g still fits = absurd out
@@ -356,18 +414,30 @@ stays_and_enters r j t (NoTrainAt k) w f e out g still fits = absurd out
 stays_and_enters r j t (Cleared k train) w f e out g still fits = absurd out
 stays_and_enters r j t q w f e out g still fits = absurd g
 
-berthed_full : (j t k : ℕ) (w : List Passage) → ChangePlaces (FitsPlainLine (SectionFull k)) (FitsPlainLine (Berthed j t)) (plain_line_made (SectionFull k)) (plain_line_made (Berthed j t)) w ⊎ ((k ≡ j + 4) × (holds (plain_line_made (Berthed j t) w) k ≡ false)) → LineMoves (Berthed j t) (SectionFull k) w
-berthed_full j t k w (inl s) = inr (inl (turned_round (FitsPlainLine (SectionFull k)) (FitsPlainLine (Berthed j t)) (plain_line_made (SectionFull k)) (plain_line_made (Berthed j t)) w s))
+berthed_full : (j t k : ℕ) (w : List Passage) → ChangePlaces (FitsPlainLine (SectionFull k))
+    (FitsPlainLine (Berthed j t)) (plain_line_made (SectionFull k)) (plain_line_made (Berthed j t)) w
+    ⊎ ((k ≡ j + 4) × (holds (plain_line_made (Berthed j t) w) k ≡ false)) → LineMoves (Berthed j t) (SectionFull k) w
+berthed_full j t k w (inl s) =
+    inr (inl (turned_round (FitsPlainLine (SectionFull k)) (FitsPlainLine (Berthed j t))
+    (plain_line_made (SectionFull k)) (plain_line_made (Berthed j t)) w s))
 berthed_full j t k w (inr kept) = inl (same k (j + 4) kept.0)
 
-cleared_full : (j t k : ℕ) (w : List Passage) → ChangePlaces (FitsPlainLine (SectionFull k)) (FitsPlainLine (Cleared j t)) (plain_line_made (SectionFull k)) (plain_line_made (Cleared j t)) w ⊎ ((k ≡ j + 4) × (holds (plain_line_made (Cleared j t) w) k ≡ false)) → LineMoves (Cleared j t) (SectionFull k) w
-cleared_full j t k w (inl s) = inr (inl (turned_round (FitsPlainLine (SectionFull k)) (FitsPlainLine (Cleared j t)) (plain_line_made (SectionFull k)) (plain_line_made (Cleared j t)) w s))
+cleared_full : (j t k : ℕ) (w : List Passage) → ChangePlaces (FitsPlainLine (SectionFull k))
+    (FitsPlainLine (Cleared j t)) (plain_line_made (SectionFull k)) (plain_line_made (Cleared j t)) w
+    ⊎ ((k ≡ j + 4) × (holds (plain_line_made (Cleared j t) w) k ≡ false)) → LineMoves (Cleared j t) (SectionFull k) w
+cleared_full j t k w (inl s) =
+    inr (inl (turned_round (FitsPlainLine (SectionFull k)) (FitsPlainLine (Cleared j t))
+    (plain_line_made (SectionFull k)) (plain_line_made (Cleared j t)) w s))
 cleared_full j t k w (inr kept) = inl (same k (j + 4) kept.0)
 
-berthed_past : (j t : ℕ) (q : Reply) (w : List Passage) → 0 < j → FitsPlainLine (Berthed j t) w → IsOutReply q → FitsPlainLine q w → LineMoves (Berthed j t) q w
+berthed_past : (j t : ℕ) (q : Reply) (w : List Passage) → 0 < j → FitsPlainLine (Berthed j t) w → IsOutReply q
+    → FitsPlainLine q w → LineMoves (Berthed j t) q w
 berthed_past j t (Entered k train) w pos f out g =
-    inr (inl (turned_round (FitsPlainLine (Entered k train)) (FitsPlainLine (Berthed j t)) (plain_line_made (Entered k train)) (plain_line_made (Berthed j t)) w (enters_and_leaves k train j t (Berthed j t) w f g (λ v. refl) (λ v e. e))))
-berthed_past j t (SectionFull k) w pos f out g = berthed_full j t k w (full_and_leaves k j t (Berthed j t) w (holds (drop 1 w) k) refl g f pos (λ v. refl) f)
+    inr (inl (turned_round (FitsPlainLine (Entered k train)) (FitsPlainLine (Berthed j t))
+    (plain_line_made (Entered k train)) (plain_line_made (Berthed j t)) w
+    (enters_and_leaves k train j t (Berthed j t) w f g (λ v. refl) (λ v e. e))))
+berthed_past j t (SectionFull k) w pos f out g =
+    berthed_full j t k w (full_and_leaves k j t (Berthed j t) w (holds (drop 1 w) k) refl g f pos (λ v. refl) f)
 berthed_past j t (Approaching k train) w pos f out g = absurd out
 berthed_past j t (TrainNotYet k) w pos f out g = absurd out
 berthed_past j t (Berthed k train) w pos f out g = absurd out
@@ -376,10 +446,14 @@ berthed_past j t (NoTrainAt k) w pos f out g = absurd out
 berthed_past j t (Cleared k train) w pos f out g = absurd out
 berthed_past j t q w pos f out g = absurd g
 
-cleared_past : (j t : ℕ) (q : Reply) (w : List Passage) → 0 < j → FitsPlainLine (Cleared j t) w → IsOutReply q → FitsPlainLine q w → LineMoves (Cleared j t) q w
+cleared_past : (j t : ℕ) (q : Reply) (w : List Passage) → 0 < j → FitsPlainLine (Cleared j t) w → IsOutReply q
+    → FitsPlainLine q w → LineMoves (Cleared j t) q w
 cleared_past j t (Entered k train) w pos f out g =
-    inr (inl (turned_round (FitsPlainLine (Entered k train)) (FitsPlainLine (Cleared j t)) (plain_line_made (Entered k train)) (plain_line_made (Cleared j t)) w (enters_and_leaves k train j t (Cleared j t) w f g (λ v. refl) (λ v e. e))))
-cleared_past j t (SectionFull k) w pos f out g = cleared_full j t k w (full_and_leaves k j t (Cleared j t) w (holds (drop 1 w) k) refl g f pos (λ v. refl) f)
+    inr (inl (turned_round (FitsPlainLine (Entered k train)) (FitsPlainLine (Cleared j t))
+    (plain_line_made (Entered k train)) (plain_line_made (Cleared j t)) w
+    (enters_and_leaves k train j t (Cleared j t) w f g (λ v. refl) (λ v e. e))))
+cleared_past j t (SectionFull k) w pos f out g =
+    cleared_full j t k w (full_and_leaves k j t (Cleared j t) w (holds (drop 1 w) k) refl g f pos (λ v. refl) f)
 cleared_past j t (Approaching k train) w pos f out g = absurd out
 cleared_past j t (TrainNotYet k) w pos f out g = absurd out
 cleared_past j t (Berthed k train) w pos f out g = absurd out
@@ -388,11 +462,15 @@ cleared_past j t (NoTrainAt k) w pos f out g = absurd out
 cleared_past j t (Cleared k train) w pos f out g = absurd out
 cleared_past j t q w pos f out g = absurd g
 
-unfound_past : (j : ℕ) (q : Reply) (w : List Passage) → FitsPlainLine (NoTrainAt j) w → IsOutReply q → FitsPlainLine q w → LineMoves (NoTrainAt j) q w
+unfound_past : (j : ℕ) (q : Reply) (w : List Passage) → FitsPlainLine (NoTrainAt j) w → IsOutReply q → FitsPlainLine q w
+    → LineMoves (NoTrainAt j) q w
 unfound_past j (Entered k train) w f out g =
     ⊎_elim
-    (λ (e : j ≡ k). ⊎_elim (λ (lost : first_train j (w ++ record { number = k; train = train } ∷ []) ≡ None → ⊥). inr (inr lost)) (λ (h : first_train j (w ++ record { number = k; train = train } ∷ []) ≡ None). inr (inl (record { first = h; second = g; word = refl }))) (first_alone j k train w f e))
-    (λ (h : first_train j (w ++ record { number = k; train = train } ∷ []) ≡ None). inr (inl (record { first = h; second = g; word = refl })))
+    (λ (e : j ≡ k). ⊎_elim (λ (lost : first_train j (w ++ record { number = k; train = train } ∷ []) ≡ None → ⊥).
+    inr (inr lost)) (λ (h : first_train j (w ++ record { number = k; train = train } ∷ []) ≡ None).
+    inr (inl (record { first = h; second = g; word = refl }))) (first_alone j k train w f e))
+    (λ (h : first_train j (w ++ record { number = k; train = train } ∷ []) ≡ None).
+    inr (inl (record { first = h; second = g; word = refl })))
     (unfound_by j k train w f)
 unfound_past j (SectionFull k) w f out g = inr (inl (record { first = f; second = g; word = refl }))
 unfound_past j (Approaching k train) w f out g = absurd out
@@ -403,11 +481,15 @@ unfound_past j (NoTrainAt k) w f out g = absurd out
 unfound_past j (Cleared k train) w f out g = absurd out
 unfound_past j q w f out g = absurd g
 
-unseen_past : (j : ℕ) (q : Reply) (w : List Passage) → FitsPlainLine (TrainNotYet j) w → IsOutReply q → FitsPlainLine q w → LineMoves (TrainNotYet j) q w
+unseen_past : (j : ℕ) (q : Reply) (w : List Passage) → FitsPlainLine (TrainNotYet j) w → IsOutReply q
+    → FitsPlainLine q w → LineMoves (TrainNotYet j) q w
 unseen_past j (Entered k train) w f out g =
     ⊎_elim
-    (λ (e : j ≡ k). ⊎_elim (λ (lost : first_train j (w ++ record { number = k; train = train } ∷ []) ≡ None → ⊥). inr (inr lost)) (λ (h : first_train j (w ++ record { number = k; train = train } ∷ []) ≡ None). inr (inl (record { first = h; second = g; word = refl }))) (first_alone j k train w f e))
-    (λ (h : first_train j (w ++ record { number = k; train = train } ∷ []) ≡ None). inr (inl (record { first = h; second = g; word = refl })))
+    (λ (e : j ≡ k). ⊎_elim (λ (lost : first_train j (w ++ record { number = k; train = train } ∷ []) ≡ None → ⊥).
+    inr (inr lost)) (λ (h : first_train j (w ++ record { number = k; train = train } ∷ []) ≡ None).
+    inr (inl (record { first = h; second = g; word = refl }))) (first_alone j k train w f e))
+    (λ (h : first_train j (w ++ record { number = k; train = train } ∷ []) ≡ None).
+    inr (inl (record { first = h; second = g; word = refl })))
     (unfound_by j k train w f)
 unseen_past j (SectionFull k) w f out g = inr (inl (record { first = f; second = g; word = refl }))
 unseen_past j (Approaching k train) w f out g = absurd out
@@ -418,11 +500,14 @@ unseen_past j (NoTrainAt k) w f out g = absurd out
 unseen_past j (Cleared k train) w f out g = absurd out
 unseen_past j q w f out g = absurd g
 
-pub in_line_moves : (r q : Reply) (w : List Passage) → IsInReply r → IsOutReply q → FitsPlainLine r w → FitsPlainLine q w → LineMoves r q w
+pub in_line_moves : (r q : Reply) (w : List Passage) → IsInReply r → IsOutReply q → FitsPlainLine r w
+    → FitsPlainLine q w → LineMoves r q w
 in_line_moves (Entered k train) q w at out f g = absurd at
 in_line_moves (SectionFull k) q w at out f g = absurd at
-in_line_moves (Approaching j t) q w at out f g = stays_and_enters (Approaching j t) j t q w f f out g (λ v. refl) (λ v e. e)
-in_line_moves (PartBerthed j t) q w at out f g = stays_and_enters (PartBerthed j t) j t q w f f out g (λ v. refl) (λ v e. e)
+in_line_moves (Approaching j t) q w at out f g =
+    stays_and_enters (Approaching j t) j t q w f f out g (λ v. refl) (λ v e. e)
+in_line_moves (PartBerthed j t) q w at out f g =
+    stays_and_enters (PartBerthed j t) j t q w f f out g (λ v. refl) (λ v e. e)
 in_line_moves (Berthed j t) q w at out f g = berthed_past j t q w at f out g
 in_line_moves (Cleared j t) q w at out f g = cleared_past j t q w at f out g
 in_line_moves (NoTrainAt j) q w at out f g = unfound_past j q w f out g
@@ -430,27 +515,31 @@ in_line_moves (TrainNotYet j) q w at out f g = unseen_past j q w f out g
 in_line_moves r q w at out f g = absurd f
 
 -- a line that is free of a train stays so while the other end works it
-pub free_after : (k : ℕ) (q : Reply) (w : List Passage) → IsInReply q → holds w k ≡ false → holds (plain_line_made q w) k ≡ false
+pub free_after : (k : ℕ) (q : Reply) (w : List Passage) → IsInReply q → holds w k ≡ false
+    → holds (plain_line_made q w) k ≡ false
 free_after k (Entered n t) w at e = absurd at
 free_after k (Berthed j t) w at e = free_stays k w e
 free_after k (Cleared j t) w at e = free_stays k w e
 free_after k q w at e = e
 
 -- a first train stays there
-found_after : (j : ℕ) (q : Reply) (w : List Passage) → IsOutReply q → (first_train j w ≡ None → ⊥) → first_train j (plain_line_made q w) ≡ None → ⊥
+found_after : (j : ℕ) (q : Reply) (w : List Passage) → IsOutReply q → (first_train j w ≡ None → ⊥)
+    → first_train j (plain_line_made q w) ≡ None → ⊥
 found_after j (Entered k t) [] out found e = found refl
 found_after j (Entered k t) (p ∷ w) out found e = found e
 found_after j (Berthed k t) w out found e = out
 found_after j (Cleared k t) w out found e = out
 found_after j q w out found e = found e
 
-pub out_line_stays : (r q : Reply) (w : List Passage) → IsOutReply r → IsInReply q → IsLostOnPlainLine r w → IsLostOnPlainLine r (plain_line_made q w)
+pub out_line_stays : (r q : Reply) (w : List Passage) → IsOutReply r → IsInReply q → IsLostOnPlainLine r w
+    → IsLostOnPlainLine r (plain_line_made q w)
 out_line_stays (SectionFull k) q w out at lost = free_after k q w at lost
 out_line_stays (NoTrainAt j) q w out at lost = absurd out
 out_line_stays (TrainNotYet j) q w out at lost = absurd out
 out_line_stays r q w out at lost = absurd lost
 
-pub in_line_stays : (r q : Reply) (w : List Passage) → IsInReply r → IsOutReply q → IsLostOnPlainLine r w → IsLostOnPlainLine r (plain_line_made q w)
+pub in_line_stays : (r q : Reply) (w : List Passage) → IsInReply r → IsOutReply q → IsLostOnPlainLine r w
+    → IsLostOnPlainLine r (plain_line_made q w)
 in_line_stays (SectionFull k) q w at out lost = absurd at
 in_line_stays (NoTrainAt j) q w at out lost = found_after j q w out lost
 in_line_stays (TrainNotYet j) q w at out lost = found_after j q w out lost

@@ -39,6 +39,11 @@ abbrev pub same_mark : Bool → Bool → Bool
 same_mark true mark = mark
 same_mark false mark = not mark
 
+-- a word of this kind is a shared one
+abbrev pub is_word : Kind → Bool
+is_word Tally = false
+is_word kind = true
+
 -- a reply fits a bell
 abbrev pub fits_bell : Reply → Bell → Bool
 fits_bell (Rung k) bell = is_next bell.count k && same_number bell.unheard None

@@ -1,16 +1,9 @@
 -- The two halves of a legal history: what its entries make of the shared words, and what each box may do by itself.
-use Rattle.std.specs.Prelude.{ℕ, ◌≡◌, ◌≢◌, ◌<◌, ◌≤◌, ◌↔◌, List, [], ◌∷◌, length, slice_index_or, slice_set}
+use Rattle.std.specs.Prelude.{ℕ, ◌≡◌, ◌≢◌, ◌≤◌, ◌↔◌, List, [], ◌∷◌, length, slice_index_or, slice_set}
 use Rattle.block_words.specs.declared.Way.{Way}
 use Rattle.line_plan.specs.Plans.{PlanFields}
 use Rattle.line_law.specs.declared.call.Act.{Act}
 use Rattle.line_law.specs.declared.call.Entry.{Entry}
-use Rattle.line_law.specs.declared.call.Reply.{Reply}
-use Rattle.line_law.specs.declared.call.Reply.TheVariants.{Rung, BellBusy, Heard, Silent, BellNotYet}
-use Rattle.line_law.specs.declared.call.Reply.TheVariants.{Turned, Seen, BlockNotYet, PulledUnder, HeldByInstrument}
-use Rattle.line_law.specs.declared.call.Reply.TheVariants.{Entered, SectionFull, Approaching, TrainNotYet, Berthed}
-use Rattle.line_law.specs.declared.call.Reply.TheVariants.{PartBerthed, NoTrainAt, Cleared}
-use Rattle.line_law.specs.declared.link.Link.{Link}
-use Rattle.line_law.specs.declared.link.Link.TheVariants.{Out, In}
 use Rattle.line_law.specs.declared.state.BoxState.{BoxState}
 use Rattle.line_law.specs.declared.state.PairState.{PairState}
 use Rattle.line_law.specs.Decisions.{Decision, on_pair}
@@ -19,7 +12,7 @@ use Rattle.line_law.specs.Known.{KnowsCall}
 use Rattle.line_law.specs.Law.{link_of, pair_of, box_plan_of, step_at}
 use Rattle.line_law.specs.SectionFacts.{HasLink}
 use Rattle.line_law.specs.States.{opening_pair}
-use Rattle.word_laws.specs.TellsWord.{kind_told}
+use Rattle.word_laws.specs.TellsWord.{IsReplyAt, kind_told}
 use Rattle.line_journal.specs.Fits.{FitsWord, word_made}
 
 -- ---- the words
@@ -69,43 +62,7 @@ MayDoAll plan here (e ∷ es) =
     (first : MayDo plan here e)
     × MayDoAll plan (step_at plan (box_plan_of plan e.box_no) e.call here first.pair).here es
 
--- ---- the ends of a word
-
--- a reply is told at the rear end of a word, or in the box alone; trains are numbered from 1
-abbrev pub IsOutReply : Reply → Type 0
-IsOutReply (Heard k code) = ⊥
-IsOutReply (Silent k) = ⊥
-IsOutReply (BellNotYet k shown) = ⊥
-IsOutReply (Turned v) = ⊥
-IsOutReply (Approaching j train) = ⊥
-IsOutReply (TrainNotYet j) = ⊥
-IsOutReply (Berthed j train) = ⊥
-IsOutReply (PartBerthed j train) = ⊥
-IsOutReply (NoTrainAt j) = ⊥
-IsOutReply (Cleared j train) = ⊥
-IsOutReply (Entered k train) = 0 < k
-IsOutReply reply = Unit {0}
-
--- a reply is told at the end of a word in advance, or in the box alone; trains are numbered from 1
-abbrev pub IsInReply : Reply → Type 0
-IsInReply (Rung k) = ⊥
-IsInReply (BellBusy k code) = ⊥
-IsInReply (Seen v) = ⊥
-IsInReply (BlockNotYet v shown) = ⊥
-IsInReply (PulledUnder v) = ⊥
-IsInReply (HeldByInstrument way v shown spent) = ⊥
-IsInReply (Entered k train) = ⊥
-IsInReply (SectionFull k) = ⊥
-IsInReply (TrainNotYet j) = 0 < j
-IsInReply (NoTrainAt j) = 0 < j
-IsInReply (Berthed j train) = 0 < j
-IsInReply (Cleared j train) = 0 < j
-IsInReply reply = Unit {0}
-
--- a reply is told at the end of a line
-abbrev pub IsReplyAt : Link → Reply → Type 0
-IsReplyAt (Out way) reply = IsOutReply reply
-IsReplyAt (In way) reply = IsInReply reply
+-- ---- where an entry stands
 
 -- an entry stands at its end of its word, and its line leads to a neighbour
 pub record Stands (plan : PlanFields) (e : Entry) : Type 0 where

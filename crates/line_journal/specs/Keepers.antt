@@ -1,6 +1,6 @@
 -- Of one box's remaining entries the first of a kind on a word decides for all of them whether they keep an entry back.
-use Rattle.std.specs.Prelude.{ℕ, ◌+◌, ◌-◌, ◌*◌, ◌==◌, ◌≡◌, ◌<◌, ◌⊎◌, false}
-use Rattle.std.specs.Prelude.{List, ◌∷◌, Option, Some, None, length, take, slice_index_or}
+use Rattle.std.specs.Prelude.{ℕ, ◌+◌, ◌-◌, ◌*◌, ◌==◌, ◌≡◌, ◌<◌, ◌≤◌, ◌⊎◌, Bool, true, false, slice_set}
+use Rattle.std.specs.Prelude.{List, ◌∷◌, Option, Some, None, length, drop, take, slice_index_or, nat_lt, if◌then◌else◌}
 use Rattle.std.specs.List.{find}
 use Rattle.line_plan.specs.Plans.{PlanFields}
 use Rattle.line_law.specs.declared.call.Entry.{Entry}
@@ -10,10 +10,14 @@ use Rattle.line_law.specs.declared.call.Reply.TheVariants.{BellNotYet, Turned, S
 use Rattle.line_law.specs.declared.call.Reply.TheVariants.{PulledUnder, HeldByInstrument, Entered, SectionFull}
 use Rattle.line_law.specs.declared.call.Reply.TheVariants.{TrainNotYet, Berthed, NoTrainAt, Cleared}
 use Rattle.word_laws.specs.Footprint.{way_at}
+use Rattle.word_laws.specs.TellsWord.{kind_told}
 use Rattle.line_law.specs.Replies.{way_number}
+use Rattle.line_law.specs.Law.{link_of, box_plan_of}
+use Rattle.line_law.specs.declared.link.Link.{Link}
 use Rattle.line_law.specs.declared.state.PairState.{PairState}
 use Rattle.line_journal.specs.Order.{Each, keeps_back, list_at}
-use Rattle.line_journal.specs.Halves.{Fits}
+use Rattle.line_journal.specs.Halves.{Fits, pair_for}
+use Rattle.line_journal.specs.FitTests.{is_word}
 
 -- the kind of a reply that may keep others back: of a busy bell, of one that has nothing, of an instrument at its rear,
 -- of a full section, or of a train that isn't there; 0 for any other
@@ -74,15 +78,26 @@ pub record AreRests (plan : PlanFields) (lists : List (List Entry)) (rests : Lis
   pub skips : (b slot : ℕ) → b < length lists → slot < slots
       → Skips plan slot (list_at lists b) (slice_index_or rests (slots * b + slot) 0)
 
--- for each box and each number all of its entries are left
-pub record AreOpening (lists : List (List Entry)) (rests : List ℕ) : Type 0 where
-  pub each : length rests ≡ slots * length lists
-  pub all : (b slot : ℕ) → b < length lists → slot < slots
-      → slice_index_or rests (slots * b + slot) 0 ≡ length (list_at lists b)
+-- the same of the boxes below this number
+pub record AreRestsBelow (plan : PlanFields) (lists : List (List Entry)) (n : ℕ) (rests : List ℕ) : Type 0 where
+  pub each : length rests ≡ slots * n
+  pub skips : (b slot : ℕ) → b < n → slot < slots
+      → Skips plan slot (list_at lists b) (slice_index_or rests (slots * b + slot) 0)
+
+-- the same of one list, as far as it is seen from its end on; of replies that keep none back nothing is told
+pub record AreFirsts (plan : PlanFields) (list : List Entry) (at : ℕ) (firsts : List ℕ) : Type 0 where
+  pub within : at ≤ length list
+  pub each : length firsts ≡ slots
+  pub low : (slot : ℕ) → slot < 2 → slice_index_or firsts slot 0 ≡ length list
+  pub skips : (slot : ℕ) → slot < slots → Skips plan slot (drop at list) (slice_index_or firsts slot 0)
 
 -- the first keepers of both neighbours let an entry of box b pass
 abbrev pub IsPassed : PlanFields → List (List Entry) → ℕ → Entry → Type 0
 IsPassed plan lists b e = (c : ℕ) → (c + 1 ≡ b) ⊎ (c ≡ b + 1) → LetsPass plan e (first_keeper plan e (list_at lists c))
+
+-- the other box of a pair
+abbrev pub other_box : ℕ → ℕ → ℕ
+other_box b pair = if nat_lt pair b then pair else b + 1
 
 -- the next entry of box b fits its word, and the first keepers of both neighbours let it pass
 pub record IsOpen (plan : PlanFields) (pairs : List PairState) (lists : List (List Entry)) (b : ℕ) : Type 0 where
@@ -100,3 +115,24 @@ NoneOpenBelow plan pairs lists n = (c : ℕ) → c < n → IsOpen plan pairs lis
 abbrev pub IsLowestOpen : PlanFields → List PairState → List (List Entry) → Option ℕ → Type 0
 IsLowestOpen plan pairs lists None = (b : ℕ) → IsOpen plan pairs lists b → ⊥
 IsLowestOpen plan pairs lists (Some b) = IsOpen plan pairs lists b × ((c : ℕ) → c < b → IsOpen plan pairs lists c → ⊥)
+
+-- the lowest box that an entry may open once it is placed: the lower one of the pair of its word, or where it was
+-- decided on its box's tally that box alone
+abbrev pub opens_from : PlanFields → Entry → ℕ
+opens_from plan e = if is_word (kind_told e.reply) then pair_for plan e else e.box_no
+
+-- the line of an entry's call, where that was decided on a word
+abbrev pub IsLineOf : PlanFields → Entry → Link → Type 0
+IsLineOf plan e line = is_word (kind_told e.reply) ≡ true → line ≡ link_of (box_plan_of plan e.box_no) e.call.act
+
+-- of no box that is asleep
+abbrev pub NoneAsleepOpen : PlanFields → List PairState → List (List Entry) → List Bool → Type 0
+NoneAsleepOpen plan pairs lists awake = (c : ℕ) → slice_index_or awake c true ≡ false → IsOpen plan pairs lists c → ⊥
+
+-- both boxes of a pair are awake
+abbrev pub pair_woken : ℕ → List Bool → List Bool
+pair_woken pair awake = slice_set (slice_set awake pair true) (pair + 1) true
+
+-- the boxes that are awake once an entry is placed: those of the pair of its word too
+abbrev pub woken : PlanFields → Entry → List Bool → List Bool
+woken plan e awake = if is_word (kind_told e.reply) then pair_woken (pair_for plan e) awake else awake

@@ -7,6 +7,7 @@ ghost use Rattle.word_laws.specs.TellsWord.{kind_told};
 ghost use Rattle.line_law.specs.Ways.{of_way};
 ghost use Rattle.line_journal.specs.Fits.{bell_made, block_made, code_of, plain_line_made, position_of, word_made};
 ghost use Rattle.line_journal.specs.Halves.{found_at, made, pair_for};
+ghost use Rattle.line_journal.specs.Keepers.{IsLineOf};
 ghost use Rattle.line_journal.specs.FitTests.{
   HasSpace,
   fits_bell,
@@ -15,13 +16,14 @@ ghost use Rattle.line_journal.specs.FitTests.{
   fits_plain_line,
   fits_word,
   is_next,
+  is_word,
   same_mark,
   same_number,
 };
 
 use bell_codes::CodeNo;
 use block_words::{Position, Way};
-use line_law::{Act, Bell, Block, Entry, PairState, Passage, PlainLine, Reply, link_of};
+use line_law::{Act, Bell, Block, Entry, Link, PairState, Passage, PlainLine, Reply, link_of};
 use line_plan::Plan;
 
 // Whether one number is the next after another.
@@ -152,6 +154,33 @@ fn fits_plain_line(reply: Reply, line: &PlainLine) -> bool
     }
 }
 
+/// Whether a call with this reply was decided on a word, and not on its box's own tally.
+pub fn is_on_word(reply: Reply) -> bool
+    ensures { result ≡ is_word (kind_told reply) }
+{
+    match reply {
+        Reply::Rung { .. }
+        | Reply::BellBusy { .. }
+        | Reply::Heard { .. }
+        | Reply::Silent { .. }
+        | Reply::BellNotYet { .. }
+        | Reply::Turned { .. }
+        | Reply::Seen { .. }
+        | Reply::BlockNotYet { .. }
+        | Reply::PulledUnder { .. }
+        | Reply::HeldByInstrument { .. }
+        | Reply::Entered { .. }
+        | Reply::SectionFull { .. }
+        | Reply::Approaching { .. }
+        | Reply::TrainNotYet { .. }
+        | Reply::Berthed { .. }
+        | Reply::PartBerthed { .. }
+        | Reply::NoTrainAt { .. }
+        | Reply::Cleared { .. } => true,
+        _ => false,
+    }
+}
+
 // Whether a reply of an act fits the word of that way in a pair; on its box's own tally it fits always.
 fn fits_word(pair: &PairState, way: Way, act: Act, reply: Reply) -> bool
     ensures { result ≡ fits_word (kind_told reply) way act reply pair.now }
@@ -266,35 +295,54 @@ fn make_word(pair: &mut PairState, way: Way, act: Act, reply: Reply)
     }
 }
 
+/// The line of an entry's call, where that was decided on a word.
+pub fn line_of(plan: &Plan, entry: &Entry) -> Link
+    requires { entry.now.box_no < length plan.now.boxes }
+    ensures { IsLineOf plan.now entry.now result }
+{
+    if is_on_word(entry.reply) {
+        link_of(
+            &plan.boxes.as_slice()[entry.box_no as usize],
+            entry.call.act,
+        )
+    } else {
+        Link::Out(Way::Up)
+    }
+}
+
 /// Whether an entry fits its word in the pairs of a line.
-pub fn fits(plan: &Plan, pairs: &[PairState], entry: &Entry) -> bool
-    requires plan_box { entry.now.box_no < length plan.now.boxes }
+#[tactic(auto, using(crate::proofs::Deciding::tally_fits, crate::proofs::Lines::pair_on, crate::proofs::Lines::way_on))]
+pub fn fits(plan: &Plan, pairs: &[PairState], line: Link, entry: &Entry) -> bool
+    requires line { IsLineOf plan.now entry.now line }
     requires pair { pair_for plan.now entry.now < length pairs.now }
     ensures { result ≡ fits_here plan.now pairs.now entry.now }
 {
-    let at = entry.box_no as usize;
-    let link = link_of(&plan.boxes.as_slice()[at], entry.call.act);
+    if !is_on_word(entry.reply) {
+        return true;
+    }
     fits_word(
-        &pairs[link.pair_no(at)],
-        link.way(),
+        &pairs[line.pair_no(entry.box_no as usize)],
+        line.way(),
         entry.call.act,
         entry.reply,
     )
 }
 
 /// Makes of an entry's word what its reply says.
-pub fn make(plan: &Plan, pairs: &mut [PairState], entry: &Entry)
-    requires plan_box { entry.now.box_no < length plan.now.boxes }
+#[tactic(auto, using(crate::proofs::Deciding::tally_made, crate::proofs::Lines::pair_on, crate::proofs::Lines::way_on))]
+pub fn make(plan: &Plan, pairs: &mut [PairState], line: Link, entry: &Entry)
+    requires line { IsLineOf plan.now entry.now line }
     requires pair { pair_for plan.now entry.now < length pairs.old }
     requires space { HasSpace entry.now.reply (of_way (found_at pairs.old (pair_for plan.now entry.now)).lines
         (way_at plan.now entry.now.box_no entry.now.call)) }
     ensures { pairs.new ≡ made plan.now pairs.old entry.now }
 {
-    let at = entry.box_no as usize;
-    let link = link_of(&plan.boxes.as_slice()[at], entry.call.act);
+    if !is_on_word(entry.reply) {
+        return;
+    }
     make_word(
-        &mut pairs[link.pair_no(at)],
-        link.way(),
+        &mut pairs[line.pair_no(entry.box_no as usize)],
+        line.way(),
         entry.call.act,
         entry.reply,
     );

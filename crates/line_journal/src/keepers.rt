@@ -1,12 +1,16 @@
 //! The first entries of each kind that may keep others back.
 
-ghost use Rattle.std.specs.Prelude.{◌≡◌, ◌↔◌, ◌<◌, ◌≤◌, ◌+◌, ◌-◌, ◌*◌, ◌==◌, ℕ};
+ghost use Rattle.std.specs.Prelude.{◌≡◌, ◌↔◌, ◌<◌, ◌≤◌, ◌+◌, ◌-◌, ◌*◌, ◌^◌, ◌==◌, ℕ};
 ghost use Rattle.std.specs.Prelude.{IsTrue, All, false, length, slice_get, slice_index_or, slice_set, take};
 ghost use Rattle.std.specs.List.{find};
 ghost use Rattle.word_laws.specs.Footprint.{way_at};
+ghost use Rattle.line_law.specs.Law.{link_of, box_plan_of};
+ghost use Rattle.line_law.specs.Links.{pair_no, way_of as line_way};
 ghost use Rattle.line_law.specs.Replies.{way_number};
 ghost use Rattle.line_journal.specs.Keepers.{
+  AreFirsts,
   AreRests,
+  IsLineOf,
   IsPassed,
   LetsPass,
   Skips,
@@ -14,20 +18,21 @@ ghost use Rattle.line_journal.specs.Keepers.{
   keeper_no,
   keeper_slot,
   kept_by,
-  kept_slot,
+  other_box,
   slots,
 };
+ghost use Rattle.line_journal.specs.Halves.{pair_for};
 ghost use Rattle.line_journal.specs.Lists.{AreOfBoxes};
 ghost use Rattle.line_journal.specs.Order.{Each, list_at};
 
 use crate::keeping::keeps_back;
 use crate::left::{Left, behind};
 use block_words::Way;
-use line_law::{Entry, Reply, link_of};
+use line_law::{Entry, Link, Reply, link_of};
 use line_plan::Plan;
 
-/// How many numbers of keepers there are.
-pub const SLOTS: usize = 12;
+// How many numbers of keepers there are.
+const SLOTS: usize = 12;
 
 // The kind of a reply that may keep others back; 0 for any other.
 fn keeper_no(reply: Reply) -> usize
@@ -82,22 +87,31 @@ fn way_of(plan: &Plan, entry: &Entry) -> usize
 // The number of an entry as one that may keep others back.
 fn keeper_slot(plan: &Plan, entry: &Entry) -> usize
     requires { entry.now.box_no < length plan.now.boxes }
-    ensures { result ≡ keeper_slot plan.now entry.now }
+    ensures value { result ≡ keeper_slot plan.now entry.now }
+    ensures few { result < slots }
 {
     2 * keeper_no(entry.reply) + way_of(plan, entry)
 }
 
-// The number of the entries that may keep this one back.
-fn kept_slot(plan: &Plan, entry: &Entry) -> usize
-    requires { entry.now.box_no < length plan.now.boxes }
-    ensures value { result ≡ kept_slot plan.now entry.now }
+// The number of the entries that may keep back one with this reply, which is on this line.
+fn kept_slot(reply: Reply, line: Link) -> usize
+    ensures value { result ≡ 2 * kept_by reply + way_number (line_way line) }
     ensures few { result < slots }
 {
-    2 * kept_by(entry.reply) + way_of(plan, entry)
+    2 * kept_by(reply) + way_number(line.way())
+}
+
+// Whether an entry has the number. The kind of its reply is asked first, since few replies are of a kind that does.
+#[tactic(auto, using(crate::proofs::Found::kind_first))]
+fn has_slot(plan: &Plan, entry: &Entry, slot: usize) -> bool
+    requires { entry.now.box_no < length plan.now.boxes }
+    ensures { result ≡ (keeper_slot plan.now entry.now == slot) }
+{
+    slot / 2 == keeper_no(entry.reply) && keeper_slot(plan, entry) == slot
 }
 
 // The place of the first of these entries that has the number, or that behind the last.
-#[tactic(auto, using(crate::proofs::Skipping::none_more, crate::proofs::Skipping::find_at, crate::proofs::Skipping::find_none))]
+#[tactic(auto, using(crate::proofs::Found::none_more, crate::proofs::Found::find_at, crate::proofs::Found::find_none))]
 fn seek(plan: &Plan, entries: &[Entry], slot: usize) -> usize
     requires { All (λ x. x.box_no < length plan.now.boxes) entries.now }
     ensures within { result ≤ length entries.now }
@@ -105,7 +119,7 @@ fn seek(plan: &Plan, entries: &[Entry], slot: usize) -> usize
     ensures found { find (λ x. keeper_slot plan.now x == slot) entries.now ≡ slice_get entries.now result }
 {
     for (at, entry) in entries.iter().enumerate() {
-        if keeper_slot(plan, entry) == slot {
+        if has_slot(plan, entry, slot) {
             return at;
         }
     }
@@ -121,7 +135,7 @@ fn entry_at(entries: &[Entry], at: usize) -> Option<Entry>
 
 // The first of these entries that has the number. It is sought from where so many are left, and then told how many are
 // left there.
-#[tactic(auto, using(crate::proofs::Skipping::find_skip, crate::proofs::Skipping::skips_on))]
+#[tactic(auto, using(crate::proofs::Found::find_skip, crate::proofs::Found::skips_on))]
 fn first_of(plan: &Plan, entries: &[Entry], rest: &mut usize, slot: usize) -> Option<Entry>
     requires entries { All (λ x. x.box_no < length plan.now.boxes) entries.now }
     requires skips { Skips plan.now slot entries.now rest.old }
@@ -135,7 +149,7 @@ fn first_of(plan: &Plan, entries: &[Entry], rest: &mut usize, slot: usize) -> Op
 }
 
 // The first of a box's remaining entries that has the number.
-#[tactic(auto, using(crate::proofs::Skipping::rests_set))]
+#[tactic(auto, using(crate::proofs::Found::rests_set))]
 fn first_in(
     plan: &Plan,
     left: &Left<'_>,
@@ -159,8 +173,16 @@ fn first_in(
 }
 
 // Whether the first of a box's remaining entries that may keep an entry back lets it pass.
-fn lets_pass(plan: &Plan, left: &Left<'_>, rests: &mut [usize], other: usize, entry: &Entry) -> bool
+fn lets_pass(
+    plan: &Plan,
+    left: &Left<'_>,
+    rests: &mut [usize],
+    other: usize,
+    line: Link,
+    entry: &Entry,
+) -> bool
     requires other { other < length left.now }
+    requires line { line ≡ link_of (box_plan_of plan.now entry.now.box_no) entry.now.call.act }
     requires entry { entry.now.box_no < length plan.now.boxes }
     requires boxes { AreOfBoxes plan.now left.now }
     requires rests { AreRests plan.now left.now rests.old }
@@ -168,33 +190,66 @@ fn lets_pass(plan: &Plan, left: &Left<'_>, rests: &mut [usize], other: usize, en
     ensures passes { IsTrue result
         ↔ LetsPass plan.now entry.now (first_keeper plan.now entry.now (list_at left.now other)) }
 {
-    let slot = kept_slot(plan, entry);
+    let slot = kept_slot(entry.reply, line);
     match first_in(plan, left, rests, other, slot) {
         Some(keeper) => !keeps_back(plan, entry, &keeper),
         None => true,
     }
 }
 
-/// Whether the first keepers of both neighbours of a box let its entry pass.
+/// For each number, how many of these entries are left from the first on that has it: none where no entry has it. The
+/// numbers of replies that keep none back, which nobody asks for, are not told apart: for them all entries are left.
+pub fn firsts_of(plan: &Plan, entries: &[Entry]) -> [usize; SLOTS]
+    requires { All (λ x. x.box_no < length plan.now.boxes) entries.now }
+    ensures { AreFirsts plan.now entries.now 0 result }
+{
+    let count = entries.len();
+    let mut firsts = [count, count, 0, 0, 0, 0, 0, 0, 0, 0, 0, 0];
+    let mut at = count;
+    while at > 0 {
+        at -= 1;
+        let entry = &entries[at];
+        if keeper_no(entry.reply) > 0 {
+            firsts[keeper_slot(plan, entry)] = count - at;
+        }
+    }
+    firsts
+}
+
+// The other box of the pair of a line.
+fn other_box(here: usize, line: Link) -> usize
+    requires { here < 2 ^ 32 }
+    ensures { result ≡ other_box here (pair_no here line) }
+{
+    let pair = line.pair_no(here);
+    if pair < here { pair } else { here + 1 }
+}
+
+/// Whether the first keepers of both neighbours of a box let its entry pass. Most replies are kept back by none, and
+/// the others by entries of the one neighbour alone that shares their word.
 pub fn is_passed(
     plan: &Plan,
     left: &Left<'_>,
     rests: &mut [usize],
     box_no: usize,
+    line: Link,
     entry: &Entry,
 ) -> bool
     requires box_no { box_no < length left.now }
+    requires own { entry.now.box_no ≡ box_no }
+    requires line { IsLineOf plan.now entry.now line }
     requires entry { entry.now.box_no < length plan.now.boxes }
     requires boxes { AreOfBoxes plan.now left.now }
     requires rests { AreRests plan.now left.now rests.old }
     ensures rests { AreRests plan.now left.now rests.new }
     ensures passed { IsTrue result ↔ IsPassed plan.now left.now box_no entry.now }
 {
-    if box_no > 0 && !lets_pass(plan, left, rests, box_no - 1, entry) {
-        return false;
+    if kept_by(entry.reply) == 0 {
+        return true;
     }
-    if box_no + 1 < left.boxes() && !lets_pass(plan, left, rests, box_no + 1, entry) {
-        return false;
+    let other = other_box(entry.box_no as usize, line);
+    if other >= left.boxes() {
+        return true;
     }
-    true
+    lets_pass(plan, left, rests, other, line, entry)
 }

@@ -60,12 +60,12 @@ fn is_on_one_line(plan: &Plan, entry: &Entry, other: &Entry) -> bool
     link.pair_no(here) == other_link.pair_no(there) && same_way(link.way(), other_link.way())
 }
 
-/// Whether an entry is kept back by one of another box that remains.
+/// Whether an entry is kept back by one of another box that remains. The replies are asked first, which seldom do.
 #[tactic(auto, using(crate::proofs::Deciding::keeps_short))]
 pub fn keeps_back(plan: &Plan, entry: &Entry, other: &Entry) -> bool
     requires entry { entry.now.box_no < length plan.now.boxes }
     requires other { other.now.box_no < length plan.now.boxes }
     ensures { result ≡ keeps_back plan.now entry.now other.now }
 {
-    is_on_one_line(plan, entry, other) && is_kept_back(entry.reply, other.reply)
+    is_kept_back(entry.reply, other.reply) && is_on_one_line(plan, entry, other)
 }

@@ -29,7 +29,7 @@ pub fn reply_law()
 
 /// A law: a history is legal from a state on exactly where each entry fits its word in turn, and each box may do its
 /// part.
-#[tactic(auto, using(crate::proofs::Legal::words_fit, crate::proofs::Legal::boxes_do, crate::proofs::Legal::legal_again))]
+#[tactic(auto, using(crate::proofs::Legal::words_fit, crate::proofs::Legal::boxes_do, crate::proofs::Legal::is_legal))]
 pub fn parts_law()
     ensures words { (plan : PlanFields) (state : LineState) (es : List Entry) → IsLegalFrom plan state es
         → FitFrom plan state.pairs es }
@@ -41,8 +41,8 @@ pub fn parts_law()
 {}
 
 /// A law of two entries of different boxes that both fit their words. On different words they change places. On one
-/// word, where the second doesn't keep the first back, they change places, or the first is lost once the second is made.
-/// What is lost stays lost whatever the other boxes do, and doesn't fit its word.
+/// word, where the second doesn't keep the first back, they change places, or the first is lost once the second is
+/// made. What is lost stays lost whatever the other boxes do, and doesn't fit its word.
 pub fn exchange_law()
     ensures apart { (plan : PlanFields) (pairs : List PairState) (e x : Entry) → IsPlan plan
         → length pairs ≡ length plan.boxes - 1 → Stands plan e → Fits plan pairs e → Fits plan pairs x

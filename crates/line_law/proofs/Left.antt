@@ -17,7 +17,7 @@ use Rattle.line_law.specs.Arrivals.{next_number, next_train, train_awaited, trai
 use Rattle.line_law.specs.Bells.{rung, heard, awaited}
 use Rattle.line_law.specs.Decisions.{Decision, Told, on_pair}
 use Rattle.line_law.specs.Instruments.{same_position}
-use Rattle.line_law.specs.Law.{MayCall, at_moment, link_of, pair_of, box_plan_of, step}
+use Rattle.line_law.specs.Law.{MayCall, at_moment, done_at, link_of, pair_of, box_plan_of, step, step_at}
 use Rattle.line_law.specs.Levers.{is_unspent_clear, pulled}
 use Rattle.line_law.specs.Links.{way_of}
 use Rattle.line_law.specs.Outcomes.{Outcome, Refused, Rings, Hears, AwaitsBell, Turns, AwaitsBlock, Pulls, PullsStarter, Puts, Brings, GoesTo, GoesAway, Enters, AwaitsTrain, Berths, Parts, Clears, Winds, Releases}
@@ -100,6 +100,13 @@ out_moment plan bp here pair v act d (Parts way berth e free) = parted_moment (n
 out_moment plan bp here pair v act d (Clears way free) = cleared_moment (next_train here way (of_way pair.lines v)) here way (next_number here way) (of_way pair.lines v)
 out_moment plan bp here pair v act d (Winds way free) = refl
 out_moment plan bp here pair v act d (Releases way free) = refl
+
+-- a call is decided by its box and its pair, and changes no other
+pub step_is : (plan : PlanFields) (state : LineState) (b : ℕ) (call : Call) → step plan state b call
+    ≡ done_at state b (pair_of plan b call)
+    (step_at plan (box_plan_of plan b) call (box_at state b) (pair_at state (pair_of plan b call)))
+unfolding step
+step_is plan state b call = refl
 
 -- the box that calls has the call's moment; the others stay
 pub moment_here : (plan : PlanFields) (state : LineState) (b : ℕ) (call : Call) → b < length state.boxes → (box_at (step plan state b call).after b).moment ≡ call.moment

@@ -27,7 +27,10 @@ pub use known::{
     DAY_OF_MINUTES, DAY_OF_SECONDS, is_code_no, knows, knows_arm, knows_berth, knows_lever,
     knows_outgoing, knows_side, knows_train, moments_of,
 };
-pub use laws::{box_law, history_law, outcome_law, run_law, serial_law, shape_law};
+pub use laws::{
+    box_law, growing_law, history_law, keeping_law, neighbour_law, opening_law, outcome_law,
+    run_law, section_law, serial_law, shape_law, step_law,
+};
 pub use levers::{first_reversed, starter_way};
 pub use link::Link;
 pub use plain::Plain;

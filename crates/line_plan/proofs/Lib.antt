@@ -1,3 +1,4 @@
 pub mod Named
 mod Finding
 pub mod Listed
+mod Copied

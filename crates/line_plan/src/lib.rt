@@ -4,6 +4,7 @@
 
 mod berth;
 mod box_plan;
+mod copying;
 mod frame;
 mod growing;
 mod items;
@@ -17,6 +18,7 @@ mod ways;
 
 pub use berth::Berth;
 pub use box_plan::BoxPlan;
+pub use copying::copied_names;
 pub use frame::{Kind, Lever, kind_word};
 pub use items::Items;
 pub use label::Label;

@@ -7,7 +7,7 @@ ghost use Rattle.locking_table.specs.Sound.{all_differ};
 
 use indexmap::IndexSet;
 use rail_text::NoMemory;
-use std::alloc::Global;
+use std::alloc::{AllocError, Global};
 use std::marker::Model;
 
 /// Different numbers in the order in which they came.
@@ -49,5 +49,15 @@ impl Numbers {
         ensures { result ≡ position (λ n. n == number) self.now }
     {
         self.set.get_index_of(&number)
+    }
+}
+
+impl Clone for Numbers {
+    ghost is_clone = { λ numbers copy. copy ≡ numbers };
+
+    fn clone(&self) -> Result<Numbers, AllocError> {
+        Ok(Numbers {
+            set: self.set.clone()?,
+        })
     }
 }

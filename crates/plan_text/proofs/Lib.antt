@@ -19,5 +19,4 @@ pub mod PlanGrown
 pub mod PlanSteps
 pub mod ReadSpelled
 pub mod SpellLaws
-pub mod Copied
 pub mod Upgraded

@@ -3,8 +3,8 @@
 ghost use Rattle.std.specs.Prelude.{◌≡◌, IfOk};
 ghost use Rattle.line_plan.specs.Upgrades.{upgraded};
 
-use crate::copies::{copied_boxes, copied_classes, copied_codes, copied_names, copied_trains};
-use line_plan::Plan;
+use crate::copies::{copied_boxes, copied_classes, copied_codes, copied_trains};
+use line_plan::{Plan, copied_names};
 use rail_text::NoMemory;
 use std::alloc::Global;
 
@@ -33,6 +33,6 @@ pub fn upgrade(alloc: Global, plan: &Plan) -> Result<Plan, NoMemory>
         class_names: copied_names(alloc, &plan.class_names)?,
         box_names: copied_names(alloc, &plan.box_names)?,
         train_names: copied_names(alloc, &plan.train_names)?,
-        boxes: copied_boxes(alloc, plan)?,
+        boxes: copied_boxes(alloc, plan.boxes.as_slice())?,
     })
 }

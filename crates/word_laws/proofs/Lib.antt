@@ -11,5 +11,6 @@ pub mod OperationLaws
 pub mod NumberLaws
 pub mod Agreements
 pub mod WordEndsLaws
+pub mod ReplyEnds
 pub mod WordHistory
 pub mod WordsInPlace

@@ -1,7 +1,8 @@
 -- The operations of a call on the shared words, and where it is decided at one.
-use Rattle.std.specs.Prelude.{ℕ, ◌≡◌, ◌≢◌, ◌<◌, ◌+◌, Option, Some, None, IfSome, false, List, [], ◌∷◌, ◌++◌}
+use Rattle.std.specs.Prelude.{ℕ, ◌≡◌, ◌≢◌, ◌<◌, ◌+◌, ◌==◌, nat_lt, Bool, true, false, not, ◌&&◌, ◌||◌}
+use Rattle.std.specs.Prelude.{Option, Some, None, IfSome, List, [], ◌∷◌, ◌++◌}
 use Rattle.block_words.specs.Bells.{bell_code, bell_word}
-use Rattle.block_words.specs.Instruments.{block_word}
+use Rattle.block_words.specs.Instruments.{block_position, block_word}
 use Rattle.block_words.specs.Operations.{word_after}
 use Rattle.block_words.specs.Sections.{lane, lane_bits, lane_mask}
 use Rattle.block_words.specs.declared.Way.{Way}
@@ -17,9 +18,11 @@ use Rattle.line_law.specs.declared.call.Act.TheVariants.{Wind, Release}
 use Rattle.line_law.specs.declared.call.Entry.{Entry}
 use Rattle.line_law.specs.declared.state.BoxState.{BoxState}
 use Rattle.line_law.specs.declared.state.PairState.{PairState}
+use Rattle.line_law.specs.Arrivals.{next_number}
 use Rattle.line_law.specs.Decisions.{Decision, on_pair}
 use Rattle.word_laws.specs.Footprint.{Kind, Tally, BellWord, BlockWord, PlainLineWord, kind_of}
 use Rattle.line_law.specs.History.{state_of}
+use Rattle.line_law.specs.Instruments.{same_position}
 use Rattle.line_law.specs.Law.{at_moment, decide, link_of, box_plan_of}
 use Rattle.line_law.specs.Levers.{starter_way}
 use Rattle.line_law.specs.Links.{way_of}
@@ -157,6 +160,39 @@ AtFirst plan box_plan act here word =
 abbrev pub AtSecond : PlanFields → BoxFields → Act → BoxState → ℕ → Type 0
 AtSecond plan box_plan act here word =
     SecondOn (kind_of (decide plan box_plan act here)) (SecondDecides box_plan act here word)
+
+-- ---- the same, as tests of the word
+
+-- A look decides its call by the word that it meets: of an await of a bell the last look, where another code or none is
+-- there; of an await of an instrument or a train the look that finds it, and the last; of a train at a starter the look
+-- that finds its lane taken; of every other call the one look.
+abbrev pub look_decides : BoxFields → Act → BoxState → Bool → ℕ → Bool
+look_decides box_plan (AwaitBell side code) here last word = last && not (bell_code word == code)
+look_decides box_plan (AwaitBlock way position) here last word = last || same_position (block_position word) position
+look_decides box_plan (AwaitTrain way) here last word = last || nat_lt 0 (lane word (next_number here way))
+look_decides box_plan (Pass lever) here last word =
+    nat_lt 0 (next_lane here (way_of (link_of box_plan (Pass lever))) word)
+look_decides box_plan (Overrun lever) here last word =
+    nat_lt 0 (next_lane here (way_of (link_of box_plan (Overrun lever))) word)
+look_decides box_plan act here last word = true
+
+-- every other operation decides its call, whatever it meets
+abbrev pub op_decides : BoxFields → Act → BoxState → WordOp → Bool → ℕ → Bool
+op_decides box_plan act here (ops.LookBell side) last word = look_decides box_plan act here last word
+op_decides box_plan act here (ops.LookBlock way) last word = look_decides box_plan act here last word
+op_decides box_plan act here (ops.LookSection way) last word = look_decides box_plan act here last word
+op_decides box_plan act here op last word = true
+
+-- a word satisfies a call that looks, or has the room that a train needs which would leave: of an await of a bell the
+-- bell holds the code, of an await of an instrument it shows the position, of an await of a train the lane of the next
+-- train has one; of a train at a starter its lane is empty; any other call is satisfied by every word
+abbrev pub met_by : BoxFields → Act → BoxState → ℕ → Bool
+met_by box_plan (AwaitBell side code) here word = bell_code word == code
+met_by box_plan (AwaitBlock way position) here word = same_position (block_position word) position
+met_by box_plan (AwaitTrain way) here word = nat_lt 0 (lane word (next_number here way))
+met_by box_plan (Pass lever) here word = next_lane here (way_of (link_of box_plan (Pass lever))) word == 0
+met_by box_plan (Overrun lever) here word = next_lane here (way_of (link_of box_plan (Overrun lever))) word == 0
+met_by box_plan act here word = true
 
 -- ---- what an operation makes of the word
 

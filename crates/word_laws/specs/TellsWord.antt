@@ -1,6 +1,6 @@
--- What a reply tells of the word on which its call was decided: which kind of word it is, and the word's count before
--- and after the call.
-use Rattle.std.specs.Prelude.{◌≡◌, ℕ, ◌-◌, ◌≤◌}
+-- What a reply tells of the word on which its call was decided: which kind of word it is, the word's count before and
+-- after the call, and at which end of the word it is told.
+use Rattle.std.specs.Prelude.{◌≡◌, ℕ, ◌-◌, ◌<◌, ◌≤◌}
 use Rattle.block_words.specs.declared.Way.{Way}
 use Rattle.line_plan.specs.Plans.{PlanFields}
 use Rattle.line_law.specs.declared.call.Call.{Call}
@@ -105,6 +105,44 @@ count_at plan state b call now =
 pub record TellsCount (plan : PlanFields) (state : LineState) (b : ℕ) (call : Call) : Type 0 where
   pub before : count_before (step plan state b call).reply ≡ count_at plan state b call state
   pub after : count_after (step plan state b call).reply ≡ count_at plan state b call (step plan state b call).after
+
+-- ---- the ends of a word
+
+-- a reply is told at the rear end of a word, or in the box alone; trains are numbered from 1
+abbrev pub IsOutReply : Reply → Type 0
+IsOutReply (Heard k code) = ⊥
+IsOutReply (Silent k) = ⊥
+IsOutReply (BellNotYet k shown) = ⊥
+IsOutReply (Turned v) = ⊥
+IsOutReply (Approaching j train) = ⊥
+IsOutReply (TrainNotYet j) = ⊥
+IsOutReply (Berthed j train) = ⊥
+IsOutReply (PartBerthed j train) = ⊥
+IsOutReply (NoTrainAt j) = ⊥
+IsOutReply (Cleared j train) = ⊥
+IsOutReply (Entered k train) = 0 < k
+IsOutReply reply = Unit {0}
+
+-- a reply is told at the end of a word in advance, or in the box alone; trains are numbered from 1
+abbrev pub IsInReply : Reply → Type 0
+IsInReply (Rung k) = ⊥
+IsInReply (BellBusy k code) = ⊥
+IsInReply (Seen v) = ⊥
+IsInReply (BlockNotYet v shown) = ⊥
+IsInReply (PulledUnder v) = ⊥
+IsInReply (HeldByInstrument way v shown spent) = ⊥
+IsInReply (Entered k train) = ⊥
+IsInReply (SectionFull k) = ⊥
+IsInReply (TrainNotYet j) = 0 < j
+IsInReply (NoTrainAt j) = 0 < j
+IsInReply (Berthed j train) = 0 < j
+IsInReply (Cleared j train) = 0 < j
+IsInReply reply = Unit {0}
+
+-- a reply is told at the end of a line
+abbrev pub IsReplyAt : Link → Reply → Type 0
+IsReplyAt (Out way) reply = IsOutReply reply
+IsReplyAt (In way) reply = IsInReply reply
 
 -- ---- what never falls
 

@@ -1,7 +1,8 @@
 //! Laws of the shared words: on which word a call is decided, what its reply tells of the word, and what its operations
 //! make of it.
 
-ghost use Rattle.std.specs.Prelude.{◌≡◌, ℕ, ◌<◌, ◌^◌, ◌++◌, ◌∷◌, [], List, length};
+ghost use Rattle.std.specs.Prelude.{◌≡◌, ◌≢◌, ℕ, ◌<◌, ◌^◌, ◌++◌, ◌∷◌, [], List, length};
+ghost use Rattle.block_words.specs.declared.Way.{Way};
 ghost use Rattle.line_plan.specs.Frames.{BoxFields};
 ghost use Rattle.line_plan.specs.Plans.{PlanFields, IsPlan};
 ghost use Rattle.line_plan.specs.Sections.{IsSection};
@@ -11,14 +12,17 @@ ghost use Rattle.line_law.specs.declared.call.Call.{Call};
 ghost use Rattle.line_law.specs.declared.call.Entry.{Entry};
 ghost use Rattle.line_law.specs.declared.state.BoxState.{BoxState};
 ghost use Rattle.line_law.specs.declared.state.PairState.{PairState};
-ghost use Rattle.word_laws.specs.Footprint.{kind_at, kind_of, way_at};
+ghost use Rattle.word_laws.specs.Footprint.{Tally, kind_at, kind_of, way_at};
+ghost use Rattle.line_law.specs.Decisions.{on_pair};
 ghost use Rattle.line_law.specs.History.{IsLegal, state_of};
 ghost use Rattle.line_law.specs.Known.{KnowsCall};
 ghost use Rattle.line_law.specs.Law.{at_moment, decide, link_of, pair_of, box_plan_of, step};
+ghost use Rattle.line_law.specs.Links.{way_of};
+ghost use Rattle.line_law.specs.SectionFacts.{HasLink};
 ghost use Rattle.word_laws.specs.Operations.{FollowsLaw, HasTrainNos, IsOnWord, MovesWord, word_met};
 ghost use Rattle.word_laws.specs.SameNumbers.{IsToldAlike};
 ghost use Rattle.line_law.specs.States.{IsStateOf, LineState, box_at, pair_at};
-ghost use Rattle.word_laws.specs.TellsWord.{NeverFalls, TellsCount, kind_told};
+ghost use Rattle.word_laws.specs.TellsWord.{IsReplyAt, NeverFalls, TellsCount, kind_told};
 ghost use Rattle.word_laws.specs.WordEnds.{AtEnd};
 ghost use Rattle.word_laws.specs.WordPlaces.{IsWordOf, word_count, word_place};
 ghost use Rattle.word_laws.specs.WordNumbers.{
@@ -31,12 +35,14 @@ ghost use Rattle.word_laws.specs.WordNumbers.{
   word_named,
 };
 
-/// A law: the reply of a call alone tells on which kind of word the call is decided; so an entry of a legal history
-/// does.
-#[tactic(auto, using(crate::proofs::TellsKind::kind_is_told))]
+/// A law: the reply of a call alone tells on which kind of word the call is decided, whatever the box has done and
+/// whatever its neighbours show; so an entry of a legal history does.
 pub fn kind_law()
     ensures told { (plan : PlanFields) (state : LineState) (b : ℕ) (call : Call) →
         kind_told (step plan state b call).reply ≡ kind_at plan state b call }
+    ensures decided { (plan : PlanFields) (box_plan : BoxFields) (act : Act) (here : BoxState) (way : Way)
+        (pair : PairState) → kind_told (on_pair way (decide plan box_plan act here) pair).reply
+        ≡ kind_of (decide plan box_plan act here) }
 {}
 
 /// A law: the reply of a call on a word tells the count that goes with the word: codes rung, turns, trains sent or
@@ -76,10 +82,17 @@ pub fn number_law()
 {}
 
 /// A law: each call that is decided on a word is what a box does at its end of that word, by the line on which it
-/// reaches it; and each that is decided in its box alone has a reply that tells so.
+/// reaches it; and each that is decided in its box alone has a reply that tells so. So its reply is one that is told at
+/// that end; and the line of a call that the plan knows leads to a neighbour, unless its reply is of the box alone.
 pub fn end_law()
-    ensures { (plan : PlanFields) (box_plan : BoxFields) (act : Act) (here : BoxState) →
+    ensures act { (plan : PlanFields) (box_plan : BoxFields) (act : Act) (here : BoxState) →
         AtEnd (link_of box_plan act) (decide plan box_plan act here) }
+    ensures reply { (plan : PlanFields) (box_plan : BoxFields) (act : Act) (here : BoxState) (pair : PairState) →
+        IsReplyAt (link_of box_plan act)
+        (on_pair (way_of (link_of box_plan act)) (decide plan box_plan act here) pair).reply }
+    ensures neighbour { (plan : PlanFields) (state : LineState) (b : ℕ) (call : Call) → IsPlan plan →
+        KnowsCall plan b call → kind_told (step plan state b call).reply ≢ Tally →
+        HasLink (length plan.boxes) b (link_of (box_plan_of plan b) call.act) }
 {}
 
 /// A law: after every legal history of fewer than 2^32 entries the words of each section agree with both of its boxes;

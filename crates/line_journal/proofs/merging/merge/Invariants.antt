@@ -1,4 +1,5 @@
-use Rattle.line_journal.specs.Keepers.{AreRests, NoneOpenBelow}
+use Rattle.std.proofs.Common.{◌≡◌, length}
+use Rattle.line_journal.specs.Keepers.{AreRests, NoneAsleepOpen, NoneOpenBelow}
 use Rattle.line_journal.specs.Lists.{count_left}
 use Rattle.line_journal.specs.Merging.{Merges}
 use Rattle.line_journal.specs.Order.{lists_of}
@@ -8,6 +9,9 @@ abbrev pub invariant-loop-box_no : goal.invariant-loop-box_no
 invariant-loop-box_no l = record {
   merges : Merges l.plan (lists_of l.ended.registers) l.entries.items l.pairs.items l.left;
   rests : AreRests l.plan l.left l.rests.items;
+  boxes : length l.left ≡ length l.plan.boxes;
+  each : length l.awake.items ≡ length l.left;
+  asleep : NoneAsleepOpen l.plan l.pairs.items l.left l.awake.items;
   below : NoneOpenBelow l.plan l.pairs.items l.left l.from;
 }
 

@@ -8,7 +8,7 @@ pub invariant_of-result : goal.invariant_of-result
 invariant_of-result c =
     let is = c.plan.invariant in
     let classes = c.in_ok-copied_classes.ensures ∙ c.as_slice.ensures in
-    let boxes = c.in_ok-copied_boxes.ensures ∙ ap (λ (plan : PlanFields). plan.boxes) (sym c.plan.view_is) in
+    let boxes = c.in_ok-copied_boxes.ensures ∙ c.as_slice-3.ensures in
     let trains = c.in_ok-copied_trains.ensures ∙ c.as_slice-2.ensures in
     let delay = c.delay_in_seconds.ensures ∙ ap (λ (plan : PlanFields). (upgraded plan).delay) (sym c.plan.view_is) in (
       newer_is _ _ _ _ _ _ _ is.0 delay refl c.in_ok-copied_codes.ensures classes boxes trains,

@@ -1,0 +1,14 @@
+pub mod Counting
+pub mod Counts
+pub mod Standings
+pub mod Looking
+pub mod Opens
+pub mod Keeping
+pub mod Known
+pub mod Preparing
+pub mod Wording
+pub mod Fitting
+pub mod Arriving
+pub mod Entering
+pub mod LeverLaws
+pub mod Moving

@@ -1,0 +1,4 @@
+pub mod Deciding
+pub mod Calls
+pub mod Lines
+pub mod Pulls

@@ -1,0 +1,2 @@
+pub mod DeskLines
+pub mod Workings

@@ -1,0 +1,7 @@
+//! Tests of desks, of lines of them, and of signalmen.
+
+mod journals;
+mod men;
+mod plans;
+mod words;
+mod worked;

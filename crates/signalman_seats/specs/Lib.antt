@@ -1,0 +1,4 @@
+pub mod Asking
+pub mod Notes
+pub mod Men
+pub mod Lines

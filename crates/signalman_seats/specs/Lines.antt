@@ -1,0 +1,42 @@
+-- A line with its men, as it opens and as it ends.
+use Rattle.std.specs.Prelude.{◌≡◌, ◌≢◌, ℕ, ◌<◌, List, length, slice_index, slice_index_or}
+use mathlib.Core.List.{IsPrefix}
+use Rattle.atomic_table.specs.Seated.{TableId}
+use Rattle.line_plan.specs.Plans.{PlanFields}
+use Rattle.line_law.specs.declared.call.Entry.{Entry}
+use Rattle.line_law.specs.History.{IsLegal}
+use Rattle.train_register.specs.Registers.{AreParts, RegisterFields, register_at}
+use Rattle.signalman_seats.specs.declared.opening.OpenError.{OpenError}
+use Rattle.signalman_seats.specs.declared.opening.OpenError.TheVariants.{NoMemory, PostTaken}
+use Rattle.signalman_seats.specs.Men.{IsFresh, IsOf, Man}
+
+-- ---- opening
+
+-- a man for each of these boxes, in order, who has seen and done nothing; each has the room that is asked for him
+pub record AreFresh (table_id : TableId) (plan : PlanFields) (rooms : List ℕ) (men : List Man) : Type 0 where
+  pub each : length men ≡ length rooms
+  pub fresh : (b : ℕ) (d : Man) → b < length men
+      → IsFresh table_id plan b (slice_index rooms b) (slice_index_or men b d)
+
+-- the count of posts drawn was not the number of the box
+abbrev pub WasTaken : OpenError → Type 0
+WasTaken (PostTaken box_no found) = found ≢ box_no
+WasTaken NoMemory = Unit {0}
+
+-- ---- the end
+
+-- all men of a line, in the order of the boxes
+pub record AreMen (table_id : TableId) (plan : PlanFields) (men : List Man) : Type 0 where
+  pub each : length men ≡ length plan.boxes
+  pub of_line : (b : ℕ) (d : Man) → b < length men → IsOf table_id plan (slice_index_or men b d)
+  pub box_no : (b : ℕ) (d : Man) → b < length men → (slice_index_or men b d).box_no ≡ b
+
+-- One legal history of the line: what each man had seen is a beginning of it, and each register is its box's part of it
+-- and has its man's entries.
+pub record Closed (plan : PlanFields) (men : List Man) (registers : List RegisterFields) : Type 0 where
+  pub log : List Entry
+  pub legal : IsLegal plan log
+  pub seen : (b : ℕ) (d : Man) → b < length men → IsPrefix (slice_index_or men b d).view.seen log
+  pub parts : AreParts plan log registers
+  pub entries : (b : ℕ) (d : Man) → b < length men
+      → (register_at registers b).entries ≡ (slice_index_or men b d).entries

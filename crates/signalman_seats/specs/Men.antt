@@ -1,0 +1,107 @@
+-- What contracts see of a signalman, and what one call of his does.
+use Rattle.std.specs.Prelude.{◌≡◌, ℕ, ◌+◌, ◌*◌, ◌≤◌, Bool, true, false, List, [], ◌∷◌, ◌++◌, length, Some, IfSome}
+use mathlib.Core.List.{IsPrefix}
+use Rattle.atomic_table.specs.Seated.{TableId}
+use Rattle.line_plan.specs.Plans.{PlanFields}
+use Rattle.line_law.specs.declared.call.Call.{Call}
+use Rattle.line_law.specs.declared.call.Entry.{Entry}
+use Rattle.line_law.specs.declared.call.Reply.{Reply}
+use Rattle.line_law.specs.declared.call.Reply.TheVariants.{BellNotYet, BlockNotYet, TrainNotYet}
+use Rattle.line_law.specs.History.{IsLegal, part_of, state_of}
+use Rattle.line_law.specs.States.{box_at}
+use Rattle.box_desk.specs.Desks.{DeskFields, IsDeskOf}
+use Rattle.train_register.specs.Registers.{RegisterFields}
+use Rattle.instrument_rule.specs.declared.view.View.{View}
+use Rattle.instrument_rule.specs.Rule.{most_entries}
+use Rattle.instrument_rule.specs.Views.{caller_of}
+use Rattle.signalman_seats.specs.declared.notes.PlanNotes.{PlanNotes}
+use Rattle.signalman_seats.specs.Notes.{AreNotesOf}
+
+-- a signalman: the table at which he has his seat; what he knows of the line there, with its plan, all that he has seen
+-- and how many looks he has taken; his box; his entries, how many more he has room for, and the moment of his last call
+pub record Man : Type 0 where
+  pub table_id : TableId
+  pub view : View
+  pub box_no : ℕ
+  pub entries : List Entry
+  pub spare : ℕ
+  pub moment : ℕ
+
+-- he is a man of that line
+abbrev pub IsOf : TableId → PlanFields → Man → Type 0
+IsOf table_id plan man = (man.table_id ≡ table_id) × (man.view.plan ≡ Some plan)
+
+-- a man of box b of that line as it opens: he has seen nothing and done nothing, and has room for so many entries
+pub record IsFresh (table_id : TableId) (plan : PlanFields) (b room : ℕ) (man : Man) : Type 0 where
+  pub of_line : IsOf table_id plan man
+  pub box_no : man.box_no ≡ b
+  pub seen : man.view.seen ≡ []
+  pub looks : man.view.looks ≡ 0
+  pub entries : man.entries ≡ []
+  pub spare : man.spare ≡ room
+  pub moment : man.moment ≡ 0
+
+-- a post of a line with that plan that has just drawn box b, and has seen nothing
+pub record IsDrawn (plan : PlanFields) (b : ℕ) (v : View) : Type 0 where
+  pub plan_is : v.plan ≡ Some plan
+  pub posts : v.posts ≡ b ∷ []
+  pub olds : v.olds ≡ []
+  pub seen : v.seen ≡ []
+  pub looks : v.looks ≡ 0
+
+-- ---- what the type of a signalman keeps
+
+-- a desk of box b after what was seen of a line
+pub record IsAtDesk (plan : PlanFields) (b : ℕ) (seen : List Entry) (desk : DeskFields) : Type 0 where
+  pub legal : IsLegal plan seen
+  pub desk_of : IsDeskOf plan b desk
+  pub here : desk.here ≡ box_at (state_of plan seen) b
+
+-- his post holds his box alone; what he has seen is legal, and his desk is that of the box after it; his register has
+-- his part of it, and no more room than a box has; his looks are counted, and his notes are of the line's plan
+pub record IsMan (v : View) (b : ℕ) (desk : DeskFields) (register : RegisterFields) (taken : ℕ) (notes : PlanNotes)
+    : Type 0 where
+  pub post : v.posts ≡ b ∷ []
+  pub olds : v.olds ≡ []
+  pub at_desk : IfSome v.plan (λ plan. IsAtDesk plan b v.seen desk)
+  pub box_no : register.box_no ≡ b
+  pub entries : register.entries ≡ part_of b v.seen
+  pub room : length register.entries + register.spare ≤ most_entries
+  pub calls : desk.calls ≡ length register.entries
+  pub looks : taken ≡ v.looks
+  pub few_looks : taken ≤ 4294967295 * length register.entries
+  pub noted : IfSome v.plan (λ plan. AreNotesOf plan b notes)
+
+-- ---- one call
+
+-- the entry of a call of box b with this reply
+abbrev pub answered : ℕ → Call → Reply → Entry
+answered b call reply = record { box_no = b; call = call; reply = reply }
+
+-- the reply of an await that was not satisfied
+abbrev pub is_not_yet : Reply → Bool
+is_not_yet (BellNotYet k shown) = true
+is_not_yet (BlockNotYet v shown) = true
+is_not_yet (TrainNotYet j) = true
+is_not_yet reply = false
+
+-- A call was performed. What the man has seen after it begins with all that he had seen, and is legal; its last entry
+-- is his box, this call and this reply, and it is the one entry more of his part. An await that was not satisfied has
+-- taken all its looks, and no call has taken more.
+pub record Performed (plan : PlanFields) (b : ℕ) (call : Call) (looks : ℕ) (reply : Reply) (v w : View) : Type 0 where
+  pub begins : IsPrefix v.seen w.seen
+  pub legal : IsLegal plan w.seen
+  pub last : (log : List Entry) × (w.seen ≡ log ++ answered b call reply ∷ [])
+  pub grew : part_of b w.seen ≡ part_of b v.seen ++ answered b call reply ∷ []
+  pub looked : (l : ℕ) × (w.looks ≡ v.looks + l) × (l ≤ looks) × (is_not_yet reply ≡ true → l ≡ looks)
+
+-- A call of the post's first box was answered, and performed with that reply. The post is at the same line and holds
+-- the same boxes, and the desk stands as the box after what the post has then seen, at the moment of the call.
+pub record Answered (plan : PlanFields) (call : Call) (looks : ℕ) (reply : Reply) (v w : View) (desk : DeskFields)
+    : Type 0 where
+  pub performed : Performed plan (caller_of v.posts) call looks reply v w
+  pub same_plan : w.plan ≡ v.plan
+  pub posts : w.posts ≡ v.posts
+  pub olds : w.olds ≡ []
+  pub at_desk : IsAtDesk plan (caller_of v.posts) w.seen desk
+  pub moment : desk.here.moment ≡ call.moment

@@ -1,0 +1,120 @@
+//! A line with a man at each box.
+
+ghost use Rattle.std.specs.Prelude.{◌≡◌, ◌<◌, ◌≤◌, All, IfErr, IfOk, length};
+ghost use Rattle.instrument_rule.specs.Views.{first_view};
+ghost use Rattle.signalman_seats.specs.Lines.{AreFresh, WasTaken};
+ghost use Rattle.signalman_seats.specs.Men.{IsFresh};
+
+use crate::man::Signalman;
+use instrument_rule::{Line, Post, open_words};
+use line_plan::Plan;
+use rail_text::NoMemory;
+use std::alloc::{AllocError, Global};
+
+/// Why no line was opened.
+#[derive(Debug, Drop)]
+pub enum OpenError {
+    /// A draw of the post of a box found that so many posts were drawn.
+    PostTaken { box_no: u32, found: u64 },
+    /// Memory ran out.
+    NoMemory,
+}
+
+impl From<NoMemory> for OpenError {
+    ghost use Rattle.std.specs.Prelude.{◌≡◌};
+    ghost use Rattle.signalman_seats.specs.declared.opening.OpenError.TheVariants as errors;
+
+    ghost from_gives = { λ _ e. e ≡ errors.NoMemory };
+
+    fn from(_: NoMemory) -> OpenError {
+        OpenError::NoMemory
+    }
+}
+
+impl From<AllocError> for OpenError {
+    ghost use Rattle.std.specs.Prelude.{◌≡◌};
+    ghost use Rattle.signalman_seats.specs.declared.opening.OpenError.TheVariants as errors;
+
+    ghost from_gives = { λ _ e. e ≡ errors.NoMemory };
+
+    fn from(_: AllocError) -> OpenError {
+        OpenError::NoMemory
+    }
+}
+
+// A man for a box of a line that opens, whose post is drawn next.
+fn seat_man(
+    alloc: Global,
+    plan: &Plan,
+    line: &Line,
+    first: &mut Post,
+    box_no: u32,
+    room: usize,
+) -> Result<Signalman, OpenError>
+    requires plan { line.now.table.shared.key ≡ plan.now }
+    requires table { first.old.seat.table_id ≡ line.now.table.shared.table_id }
+    requires view { first.old.seat.me.0 ≡ first_view plan.now }
+    requires known { box_no < length plan.now.boxes }
+    requires room { room ≤ 10000 }
+    ensures table { first.new.seat.table_id ≡ first.old.seat.table_id }
+    ensures view { first.new.seat.me.0 ≡ first.old.seat.me.0 }
+    ensures fresh { IfOk result (λ man. IsFresh line.now.table.shared.table_id plan.now box_no room man) }
+    ensures taken { IfErr result WasTaken }
+{
+    let mut post = first.split(line);
+    let found = post.take(line, box_no);
+    if found != box_no as u64 {
+        drop(post);
+        return Err(OpenError::PostTaken { box_no, found });
+    }
+    Ok(Signalman::at_post(alloc, plan, post, box_no, room)?)
+}
+
+// A man for each box of a line that opens, in order.
+fn seat_men(
+    alloc: Global,
+    plan: &Plan,
+    line: &Line,
+    first: &mut Post,
+    lengths: &[usize],
+) -> Result<Vec<Signalman>, OpenError>
+    requires plan { line.now.table.shared.key ≡ plan.now }
+    requires table { first.old.seat.table_id ≡ line.now.table.shared.table_id }
+    requires view { first.old.seat.me.0 ≡ first_view plan.now }
+    requires each { length lengths.now ≡ length plan.now.boxes }
+    requires boxes { length plan.now.boxes ≤ 64 }
+    requires rooms { All (λ n. n ≤ 10000) lengths.now }
+    ensures fresh { IfOk result (λ men. AreFresh line.now.table.shared.table_id plan.now lengths.now men.items) }
+    ensures taken { IfErr result WasTaken }
+{
+    let mut men = Vec::with_capacity(alloc, lengths.len())?;
+    for i in 0..lengths.len() {
+        men.push_reserved(seat_man(alloc, plan, line, first, i as u32, lengths[i])?);
+    }
+    Ok(men)
+}
+
+/// Opens the line of a plan and seats a man at each of its boxes, in their order, with room for so many calls in his
+/// register. It takes all memory that the line will need.
+///
+/// # Errors
+///
+/// `PostTaken` only where a draw of this call found that another number of posts was drawn; the line is then given up.
+/// `NoMemory` where memory runs out.
+pub fn open_line(
+    alloc: Global,
+    plan: &Plan,
+    lengths: &[usize],
+) -> Result<(Line, Vec<Signalman>), OpenError>
+    requires each { length lengths.now ≡ length plan.now.boxes }
+    requires rooms { All (λ n. n ≤ 10000) lengths.now }
+    ensures line { IfOk result (λ r. r.0.table.shared.key ≡ plan.now) }
+    ensures men { IfOk result (λ r. AreFresh r.0.table.shared.table_id plan.now lengths.now r.1.items) }
+    ensures taken { IfErr result WasTaken }
+{
+    plan.meets_conditions();
+    let (line, mut first) = open_words(alloc, plan)?;
+    let men = seat_men(alloc, plan, &line, &mut first, lengths)?;
+    drop(first);
+    Ok((line, men))
+}
