@@ -3,5 +3,6 @@
 mod journals;
 mod men;
 mod plans;
+mod threads;
 mod words;
 mod worked;

@@ -2,6 +2,7 @@
 use Rattle.std.proofs.Common.{◌≡◌, ◌≢◌, ℕ, zero, suc, ◌+◌, ◌<◌, ◌≤◌, eqb, Bool, true, false, inl, inr, ⊎_elim, List, []}
 use Rattle.std.proofs.Common.{◌∷◌, ◌++◌, length, replicate, get_or, set, Option, Some, None, IsTrue, sym, refl, ap, ◌∙◌}
 use Rattle.std.proofs.Common.{subst, arith, length-append, append-nil, length-set, get_or-set_same, get_or-set_other}
+use Rattle.std.specs.Prelude.{IfSome}
 use mathlib.Core.Option.{some, none, some-injective, some-ne-none}
 use mathlib.Core.List.{IsPrefix}
 use mathlib.Core.Logic.{dite}
@@ -347,14 +348,16 @@ module _ (plan : PlanFields) where
 
   pub takes : (slots id : ℕ) (me : M) (b : ℕ) → me.0.plan ≡ Some plan → me.0.posts ≡ [] → b < length plan.boxes
       → Allows (Kept plan) slots id me 0 (λ n. either (eqb n b) (b + 1) n) (taken (step slots 0 b (b + 1) none) me)
-  takes slots id me b has_plan free is_box s k _ at _ = let n : ℕ = get_or s.words 0 0 in dite (ℕ_discrete n b)
+  takes slots id me b has_plan free is_box s k _ at _ = let n : ℕ = get_or s.words 0 0 in
+      let counted = subst (λ (o : Option PlanFields). IfSome o (λ p. n ≤ length p.boxes)) (sym has_plan) k.drawn in
+      dite (ℕ_discrete n b)
       (λ hit. (
         with_post me.0 b,
         keeps,
         tt,
         subst (λ (h : Bool). Kept plan (stepped s 0 (either h (b + 1) n) id me.1 (with_post me.0 b) keeps))
             (sym (eqb_yes n b hit)) (draws s k id me.0 b me.1 at has_plan free is_box hit),
-        (refl, (λ _. refl), λ miss. absurd (miss hit)),
+        (refl, (λ _. refl), (λ miss. absurd (miss hit)), counted),
       ))
       (λ miss. (
         me.0,
@@ -362,5 +365,5 @@ module _ (plan : PlanFields) where
         tt,
         subst (λ (h : Bool). Kept plan (stepped s 0 (either h (b + 1) n) id me.1 me.0 keeps)) (sym (eqb_no n b miss))
             (stays plan s k id me.0 me.0 0 me.1 at (λ p. refl) (λ e. e) (k.fits id me.0 at)),
-        (refl, (λ hit. absurd (miss hit)), λ _. refl),
+        (refl, (λ hit. absurd (miss hit)), (λ _. refl), counted),
       ))

@@ -32,10 +32,10 @@ eqb_no a b ne = ⊎_elim (λ (t : ((a == b) ≡ true) × (a ≡ b)). absurd (ne 
     (λ (t : ((a == b) ≡ false) × (a ≢ b)). t.0) (eqb_tells a b)
 
 -- an entry of the box itself, and of another
-part_own : (b : ℕ) (e : Entry) (es : List Entry) → e.box_no ≡ b → part_of b (e ∷ es) ≡ e ∷ part_of b es
+pub part_own : (b : ℕ) (e : Entry) (es : List Entry) → e.box_no ≡ b → part_of b (e ∷ es) ≡ e ∷ part_of b es
 part_own b e es is = cond_yes (e.box_no == b) e (part_of b es) (eqb_yes e.box_no b is)
 
-part_other : (b : ℕ) (e : Entry) (es : List Entry) → e.box_no ≢ b → part_of b (e ∷ es) ≡ part_of b es
+pub part_other : (b : ℕ) (e : Entry) (es : List Entry) → e.box_no ≢ b → part_of b (e ∷ es) ≡ part_of b es
 part_other b e es ne = cond_no (e.box_no == b) e (part_of b es) (eqb_no e.box_no b ne)
 
 cond_append : (t : Bool) (e : Entry) (xs ys : List Entry)

@@ -1,5 +1,5 @@
 -- What a step on the shared words tells its seat.
-use Rattle.std.specs.Prelude.{◌≡◌, ◌≢◌, ℕ, ◌^◌, ◌<◌, Bool, true, false}
+use Rattle.std.specs.Prelude.{◌≡◌, ◌≢◌, ℕ, ◌^◌, ◌<◌, ◌≤◌, Bool, true, false, IfSome}
 use Rattle.std.specs.Prelude.{List, [], ◌∷◌, ◌++◌, length, Option, Some, None}
 use Rattle.atomic_table.specs.Table.{Me, Step}
 use Rattle.block_words.specs.declared.Way.{Way}
@@ -64,9 +64,12 @@ LegalFor None log = Unit {0}
 
 -- ---- what each step on the table tells: by the step, the seat before it, the number found and the seat after it
 
--- a draw of a post: the seat holds the box exactly where word 0 was its number, and else it is as it was
+-- a draw of a post: it found at most as many posts drawn as the line has boxes; the seat holds the box exactly where
+-- that was its number, and else it is as it was
 abbrev pub taken : Step (Unit {0}) → Me (Unit {0}) View → ℕ → Me (Unit {0}) View → Type 0
-taken st m n m' = (m'.1 ≡ m.1) × (n ≡ st.first → m'.0 ≡ with_post m.0 st.first) × (n ≢ st.first → m'.0 ≡ m.0)
+taken st m n m' =
+    (m'.1 ≡ m.1) × (n ≡ st.first → m'.0 ≡ with_post m.0 st.first) × (n ≢ st.first → m'.0 ≡ m.0)
+    × IfSome m.0.plan (λ plan. n ≤ length plan.boxes)
 
 -- an operation for a call
 abbrev pub done : PlanFields → Call → WordOp → Bool → Step (Unit {0}) → Me (Unit {0}) View → ℕ → Me (Unit {0}) View

@@ -1,5 +1,5 @@
 //! The posts of a line.
-ghost use Rattle.std.specs.Prelude.{◌≡◌, ◌≢◌, ◌<◌, ℕ, [], length, IfOk, replicate};
+ghost use Rattle.std.specs.Prelude.{◌≡◌, ◌≢◌, ◌<◌, ◌≤◌, ℕ, [], length, IfOk, replicate};
 ghost use Rattle.instrument_rule.specs.Calls.{Sits};
 ghost use Rattle.instrument_rule.specs.Views.{first_of, first_view, or_zero, with_post};
 
@@ -61,8 +61,9 @@ pub(crate) fn or_zero(box_no: Option<u32>) -> u32
 }
 
 impl Post {
-    /// Draws the post of a box, by one compare and exchange of the count of posts drawn. It gives the old count.
-    /// Exactly where that is the number of the box, this post then holds the box; else it is as it was.
+    /// Draws the post of a box, by one compare and exchange of the count of posts drawn. It gives the count that it
+    /// found, which is at most the number of boxes. Exactly where that is the number of the box, this post then holds
+    /// the box; else it is as it was.
     pub fn take(&mut self, line: &Line, box_no: u32) -> u64
         requires line { self.old.seat.table_id ≡ line.now.table.shared.table_id }
         requires free { Sits line.now.table.shared.key self.old.seat.me.0 × (self.old.seat.me.0.posts ≡ []) }
@@ -70,6 +71,7 @@ impl Post {
         ensures same { self.new.seat.table_id ≡ self.old.seat.table_id }
         ensures drew { result ≡ box_no → self.new.seat.me.0 ≡ with_post self.old.seat.me.0 box_no }
         ensures lost { result ≢ box_no → self.new.seat.me.0 ≡ self.old.seat.me.0 }
+        ensures counted { result ≤ length line.now.table.shared.key.boxes }
     {
         let old = box_no as u64;
         let found = line

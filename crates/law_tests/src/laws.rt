@@ -6,7 +6,7 @@ use line_law::{
     ByWay, DAY_OF_MINUTES, DAY_OF_SECONDS, Link, Reply, box_law, history_law, moments_of,
     outcome_law, replies_law, run_law, serial_law, shape_law,
 };
-use line_report::{is_refused, most_trains_law, refused_count, verdict_law};
+use line_report::{held_law, is_refused, most_trains_law, refused_count, verdict_law};
 
 #[test]
 fn ways_moments_and_replies(rt: HostRuntime) {
@@ -45,5 +45,6 @@ fn laws_hold() {
     serial_law();
     replies_law();
     verdict_law();
+    held_law();
     most_trains_law();
 }

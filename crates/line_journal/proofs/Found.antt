@@ -1,6 +1,6 @@
 -- Entries before which none has a number.
 use Rattle.std.proofs.Common.{ℕ, zero, suc, ◌+◌, ◌-◌, ◌*◌, ◌/◌, ◌==◌, ◌&&◌, ◌≡◌, ◌<◌, ◌≤◌}
-use Rattle.std.proofs.Common.{⊎_elim, List, [], ◌∷◌, Some, Bool, true, false, length, take}
+use Rattle.std.proofs.Common.{⊎_elim, List, [], ◌∷◌, Some, None, Bool, true, false, length, take}
 use Rattle.std.proofs.Common.{drop, refl, sym, ap, subst, ◌∙◌, arith, slice_index_or, slice_set}
 use Rattle.std.specs.Prelude.{slice_get}
 use Rattle.std.specs.List.{find}
@@ -37,6 +37,19 @@ pub find_skip : (plan : PlanFields) (slot : ℕ) (list : List Entry) (n : ℕ) �
 find_skip plan slot list zero none = refl
 find_skip plan slot [] (suc n) none = refl
 find_skip plan slot (x ∷ list) (suc n) none = rw none.0 (find_skip plan slot list n none.1)
+
+drop_all : (n : ℕ) (list : List Entry) → length list ≤ n → drop n list ≡ []
+drop_all zero [] h = refl
+drop_all (suc n) [] h = refl
+drop_all zero (x ∷ list) h = absurd (omega (arith, h))
+drop_all (suc n) (x ∷ list) h = drop_all n list (omega (arith, h))
+
+-- where none is left to be sought, none is found
+pub none_left : (plan : PlanFields) (slot : ℕ) (list : List Entry) (rest : ℕ) → rest ≡ 0 → Skips plan slot list rest
+    → None ≡ find (λ x. keeper_slot plan x == slot) list
+none_left plan slot list rest none skips =
+    sym (find_skip plan slot list (length list - rest) skips ∙ ap (λ (l : List Entry).
+    find (λ x. keeper_slot plan x == slot) l) (drop_all (length list - rest) list (omega (arith, none))))
 
 find_head : (plan : PlanFields) (slot : ℕ) (x : Entry) (list : List Entry) → (keeper_slot plan x == slot) ≡ true
     → find (λ x. keeper_slot plan x == slot) (x ∷ list) ≡ Some x

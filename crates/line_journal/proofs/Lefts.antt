@@ -21,17 +21,17 @@ left_at (list ∷ lists) [] b e lt = absurd (omega arith)
 left_at (list ∷ lists) (count ∷ counts) zero e lt = refl
 left_at (list ∷ lists) (count ∷ counts) (suc b) e lt = left_at lists counts b (omega arith) (omega arith)
 
-drop_more : (n : ℕ) (list : List Entry) → drop (n + 1) list ≡ drop 1 (drop n list)
-drop_more zero list = refl
-drop_more (suc n) [] = let e : suc n + 1 ≡ suc (n + 1) = omega arith in rw e refl
-drop_more (suc n) (x ∷ list) = let e : suc n + 1 ≡ suc (n + 1) = omega arith in rw e (drop_more n list)
+pub drop_next : (n : ℕ) (list : List Entry) → drop (n + 1) list ≡ drop 1 (drop n list)
+drop_next zero list = refl
+drop_next (suc n) [] = let e : suc n + 1 ≡ suc (n + 1) = omega arith in rw e refl
+drop_next (suc n) (x ∷ list) = let e : suc n + 1 ≡ suc (n + 1) = omega arith in rw e (drop_next n list)
 
 pub left_set : (lists : List (List Entry)) (counts : List ℕ) (b : ℕ) → length counts ≡ length lists → b < length lists
     → left_of lists (set counts b (get_or counts b 0 + 1)) ≡ placed (left_of lists counts) b
 left_set [] counts b e lt = absurd (omega arith)
 left_set (list ∷ lists) [] b e lt = absurd (omega arith)
 left_set (list ∷ lists) (count ∷ counts) zero e lt =
-    ap (λ (l : List Entry). l ∷ left_of lists counts) (drop_more count list)
+    ap (λ (l : List Entry). l ∷ left_of lists counts) (drop_next count list)
 left_set (list ∷ lists) (count ∷ counts) (suc b) e lt =
     ap (λ (rest : List (List Entry)). drop count list ∷ rest) (left_set lists counts b (omega arith) (omega arith))
 

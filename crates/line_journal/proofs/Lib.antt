@@ -16,4 +16,6 @@ pub mod Opening
 pub mod Nearby
 pub mod Passing
 pub mod Firsts
-pub mod Lines
+pub mod InOrder
+pub mod Answering
+pub mod Tallies

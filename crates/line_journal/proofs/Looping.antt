@@ -87,7 +87,7 @@ pair_count plan all done pairs lists m =
     ap (λ (ps : List PairState). length ps) m.words ∙ (history_states plan done).pairs
 
 -- an entry at the head of a box's list
-head_is : (x e : Entry) (xs es : List Entry) → x ∷ xs ≡ e ∷ es → x ≡ e
+pub head_is : (x e : Entry) (xs es : List Entry) → x ∷ xs ≡ e ∷ es → x ≡ e
 head_is x e xs es h = cc
 
 pub own_box : (plan : PlanFields) (lists : List (List Entry)) (b : ℕ) (e : Entry) (rest : List Entry)
@@ -367,12 +367,6 @@ grown_by plan all done pairs lists b e more written left is m lowest next x w l 
     (subst (λ (ps : List PairState). Merges plan all (done ++ e ∷ []) ps left) (sym w)
     (subst (λ (ls : List (List Entry)). Merges plan all (done ++ e ∷ []) (made plan pairs e) ls) (sym l)
     (grows plan all done pairs lists b e is m lowest next)))
-
-pub some_left : (plan : PlanFields) (pairs : List PairState) (lists : List (List Entry)) (b : ℕ)
-    → IsBoxFree plan pairs lists b → (b < length lists) × (0 < length (list_at lists b))
-some_left plan pairs lists b set =
-    let n : length (list_at lists b) ≡ length set.rest + 1 = ap (λ (l : List Entry). length l) set.next ∙ omega arith in
-    (in_range lists b set.entry set.rest set.next, omega (arith, n))
 
 pub written_back : {A : Type 0} → (n : ℕ) (new rest : List A) → length new ≡ n → take n (new ++ rest) ≡ new
 written_back {A} n new rest e = subst (λ (k : ℕ). take k (new ++ rest) ≡ new) e (take-append_seam new rest)

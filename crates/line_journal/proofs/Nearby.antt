@@ -1,10 +1,10 @@
 -- A placed entry opens no lower box but one that shares its word: the search goes on from there.
 use Rattle.std.proofs.Common.{ℕ, zero, suc, ◌+◌, ◌==◌, ◌≡◌, ◌≢◌, ◌<◌, ◌≤◌, ◌⊎◌, inl, inr, ⊎_elim, List, [], ◌∷◌}
 use Rattle.std.proofs.Common.{Some, Bool, true, false, slice_index_or, slice_set}
-use Rattle.std.proofs.Common.{cond, IsTrue, drop, length, replicate, refl, sym, ap, subst, ◌∙◌, arith}
+use Rattle.std.proofs.Common.{cond, IsTrue, drop, replicate, refl, sym, ap, subst, ◌∙◌, arith}
 use Rattle.std.specs.Prelude.{if◌then◌else◌}
 use Rattle.std.proofs.lemmas.Bool.Decides.{eqb_tells}
-use Rattle.std.proofs.lemmas.List.{get_or-set_other, get_or-set_same, length-set}
+use Rattle.std.proofs.lemmas.List.{get_or-set_other, get_or-set_same}
 use Rattle.block_words.specs.declared.Way.TheVariants.{Up, Down}
 use Rattle.line_plan.specs.Plans.{PlanFields}
 use Rattle.line_law.specs.declared.call.Entry.{Entry}
@@ -182,40 +182,6 @@ none_wakes plan pairs lists b e rest awake are first was asleep = by (is_word (k
       asleep c low.1 (aside_word plan pairs lists b c e rest are first (aside c low.1) low.0 second.0 now)
   by false tally c down now =
       asleep c down (aside_tally plan pairs lists b c e rest are first (aside c down) tally now)
-
--- a box that is asleep isn't open
-pub asleep_shut : (plan : PlanFields) (pairs : List PairState) (lists : List (List Entry)) (awake : List Bool) (b : ℕ)
-    (d : Bool) → NoneAsleepOpen plan pairs lists awake → b < length awake → slice_index_or awake b d ≡ false
-    → IsOpen plan pairs lists b → ⊥
-asleep_shut plan pairs lists awake b d asleep within down = asleep b (within_same awake b d within ∙ down) where
-  within_same : (awake : List Bool) (n : ℕ) (d : Bool) → n < length awake
-      → slice_index_or awake n true ≡ slice_index_or awake n d
-  within_same [] n d h = absurd (omega (arith, h))
-  within_same (x ∷ xs) zero d h = refl
-  within_same (x ∷ xs) (suc n) d h = within_same xs n d (omega (arith, h))
-
--- a box that was asked is as it was found
-pub asleep_set : (plan : PlanFields) (pairs : List PairState) (lists : List (List Entry)) (awake : List Bool) (b : ℕ)
-    (is : Bool) → NoneAsleepOpen plan pairs lists awake → b < length awake → (IsOpen plan pairs lists b → IsTrue is)
-    → NoneAsleepOpen plan pairs lists (slice_set awake b is)
-asleep_set plan pairs lists awake b is asleep within tells = λ c down. ⊎_elim
-    (λ mine. shut c mine.1
-    (sym (get_or-set_same awake b is true within)
-    ∙ ap (λ (k : ℕ). slice_index_or (slice_set awake b is) k true) (sym mine.1) ∙ down))
-    (λ other. asleep c (sym (get_or-set_other awake b c is true other.1) ∙ down))
-    (eqb_tells c b) where
-      untrue : (is : Bool) → is ≡ false → IsTrue is → ⊥
-      untrue is e t = let no : true ≡ false = sym t ∙ e in absurd cc
-
-      shut : (c : ℕ) → c ≡ b → is ≡ false → IsOpen plan pairs lists c → ⊥
-      shut c same e was = untrue is e (tells (subst (λ (k : ℕ). IsOpen plan pairs lists k) same was))
-
-pub woken_length : (plan : PlanFields) (e : Entry) (awake : List Bool) → length (woken plan e awake) ≡ length awake
-woken_length plan e awake = by (is_word (kind_told e.reply)) where
-  by : (w : Bool) → length (if w then pair_woken (pair_for plan e) awake else awake) ≡ length awake
-  by true = length-set (slice_set awake (pair_for plan e) true) (pair_for plan e + 1) true
-      ∙ length-set awake (pair_for plan e) true
-  by false = refl
 
 -- where all boxes are awake none is asleep
 pub all_awake : (n b : ℕ) → slice_index_or (replicate n true) b true ≡ false → ⊥

@@ -135,14 +135,3 @@ below_next P n below here c less p =
     (λ mine. here (subst P mine.1 p))
     (λ other. below c (omega (arith, less, other.1)) p)
     (eqb_tells c n)
-
-not_open : (plan : PlanFields) (pairs : List PairState) (lists : List (List Entry)) (b : ℕ) (is : Bool)
-    → (IsOpen plan pairs lists b → IsTrue is) → is ≡ false → IsOpen plan pairs lists b → ⊥
-not_open plan pairs lists b true h e was = cc e
-not_open plan pairs lists b false h e was = let t = h was in cc t
-
-pub none_below : (plan : PlanFields) (pairs : List PairState) (lists : List (List Entry)) (n : ℕ) (is : Bool)
-    → (IsOpen plan pairs lists n → IsTrue is) → is ≡ false → ((c : ℕ) → c < n → IsOpen plan pairs lists c → ⊥) → (c : ℕ)
-    → c < n + 1 → IsOpen plan pairs lists c → ⊥
-none_below plan pairs lists n is h e below =
-    below_next (λ c. IsOpen plan pairs lists c) n below (not_open plan pairs lists n is h e)

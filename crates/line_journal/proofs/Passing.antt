@@ -1,7 +1,7 @@
 -- Entries that nothing keeps back.
 use Rattle.std.proofs.Common.{ℕ, ◌+◌, ◌==◌, ◌&&◌, ◌≡◌, ◌≢◌, ◌<◌, ◌≤◌, ◌⊎◌, inl, inr, ⊎_elim, List, [], Option}
 use Rattle.std.proofs.Common.{Some, None, Bool, true, false, All, length, refl, sym, ap, subst, ◌∙◌, arith}
-use Rattle.std.specs.Prelude.{◌∷◌, drop, slice_index_or, nat_lt, if◌then◌else◌}
+use Rattle.std.specs.Prelude.{nat_lt, if◌then◌else◌}
 use Rattle.std.proofs.lemmas.Bool.{ltb-true, ltb-false}
 use Rattle.std.proofs.lemmas.Bool.Decides.{eqb_tells}
 use Rattle.std.proofs.lemmas.List.{get_or_past}
@@ -111,16 +111,12 @@ pub none_passes : (plan : PlanFields) (lists : List (List Entry)) (other : ℕ) 
 none_passes plan lists other e past =
     subst (λ (l : List Entry). LetsPass plan e (first_keeper plan e l)) (sym (get_or_past lists other [] past)) tt
 
--- what is kept back was decided on a word
-pub kept_word : (r : Reply) → (kept_by r ≡ 0 → ⊥) → is_word (kind_told r) ≡ true
-kept_word (Heard k code) some = refl
-kept_word (Rung k) some = refl
-kept_word (Turned v) some = refl
-kept_word (Berthed j train) some = refl
-kept_word (Cleared j train) some = refl
-kept_word (Entered k train) some = refl
-kept_word r some = absurd (some refl)
-
-pub head_next : (list : List Entry) (d : Entry) → 0 < length list → list ≡ slice_index_or list 0 d ∷ drop 1 list
-head_next [] d some = absurd (omega (arith, some))
-head_next (x ∷ xs) d some = refl
+-- what was decided on its box's tally is kept back by none
+pub unkept_tally : (r : Reply) → is_word (kind_told r) ≡ false → kept_by r ≡ 0
+unkept_tally (Heard k code) tally = absurd (cc tally)
+unkept_tally (Rung k) tally = absurd (cc tally)
+unkept_tally (Turned v) tally = absurd (cc tally)
+unkept_tally (Berthed j train) tally = absurd (cc tally)
+unkept_tally (Cleared j train) tally = absurd (cc tally)
+unkept_tally (Entered k train) tally = absurd (cc tally)
+unkept_tally r tally = refl

@@ -12,11 +12,9 @@ use Rattle.line_law.specs.declared.call.Reply.TheVariants.{TrainNotYet, Berthed,
 use Rattle.word_laws.specs.Footprint.{way_at}
 use Rattle.word_laws.specs.TellsWord.{kind_told}
 use Rattle.line_law.specs.Replies.{way_number}
-use Rattle.line_law.specs.Law.{link_of, box_plan_of}
-use Rattle.line_law.specs.declared.link.Link.{Link}
 use Rattle.line_law.specs.declared.state.PairState.{PairState}
-use Rattle.line_journal.specs.Order.{Each, keeps_back, list_at}
-use Rattle.line_journal.specs.Halves.{Fits, pair_for}
+use Rattle.line_journal.specs.Order.{Each, keeps_back, list_at, placed}
+use Rattle.line_journal.specs.Halves.{Fits, made, pair_for}
 use Rattle.line_journal.specs.FitTests.{is_word}
 
 -- the kind of a reply that may keep others back: of a busy bell, of one that has nothing, of an instrument at its rear,
@@ -121,10 +119,6 @@ IsLowestOpen plan pairs lists (Some b) = IsOpen plan pairs lists b × ((c : ℕ)
 abbrev pub opens_from : PlanFields → Entry → ℕ
 opens_from plan e = if is_word (kind_told e.reply) then pair_for plan e else e.box_no
 
--- the line of an entry's call, where that was decided on a word
-abbrev pub IsLineOf : PlanFields → Entry → Link → Type 0
-IsLineOf plan e line = is_word (kind_told e.reply) ≡ true → line ≡ link_of (box_plan_of plan e.box_no) e.call.act
-
 -- of no box that is asleep
 abbrev pub NoneAsleepOpen : PlanFields → List PairState → List (List Entry) → List Bool → Type 0
 NoneAsleepOpen plan pairs lists awake = (c : ℕ) → slice_index_or awake c true ≡ false → IsOpen plan pairs lists c → ⊥
@@ -136,3 +130,24 @@ pair_woken pair awake = slice_set (slice_set awake pair true) (pair + 1) true
 -- the boxes that are awake once an entry is placed: those of the pair of its word too
 abbrev pub woken : PlanFields → Entry → List Bool → List Bool
 woken plan e awake = if is_word (kind_told e.reply) then pair_woken (pair_for plan e) awake else awake
+
+-- the first box from a number on that is awake, if there is one
+abbrev pub IsFirstAwake : List Bool → ℕ → Option ℕ → Type 0
+IsFirstAwake awake from None = (c : ℕ) → from ≤ c → c < length awake → slice_index_or awake c true ≡ false
+IsFirstAwake awake from (Some b) =
+    (from ≤ b) × (b < length awake) × (slice_index_or awake b true ≡ true)
+    × ((c : ℕ) → from ≤ c → c < b → slice_index_or awake c true ≡ false)
+
+-- the next entry of box b was open, and is placed: what became of the pairs and of what remains
+pub record IsPlacing (plan : PlanFields) (pairs : List PairState) (lists : List (List Entry)) (b : ℕ) (e : Entry)
+    (after : List PairState) (left : List (List Entry)) : Type 0 where
+  pub opens : IsOpen plan pairs lists b
+  pub next : list_at lists b ≡ e ∷ drop 1 (list_at lists b)
+  pub words : after ≡ made plan pairs e
+  pub rest : left ≡ placed lists b
+
+-- the same of the entry that was placed, if there is one; else all is as it was, and the search goes on behind the box
+abbrev pub IsPlaced : PlanFields → List PairState → List (List Entry) → ℕ → Option Entry → List PairState
+    → List (List Entry) → ℕ → Type 0
+IsPlaced plan pairs lists b None after left from = (after ≡ pairs) × (left ≡ lists) × (from ≡ b + 1)
+IsPlaced plan pairs lists b (Some e) after left from = IsPlacing plan pairs lists b e after left

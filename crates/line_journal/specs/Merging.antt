@@ -1,10 +1,12 @@
 -- What the merge keeps: what is done so far, and what remains.
-use Rattle.std.specs.Prelude.{ℕ, ◌≡◌, List, ◌++◌}
-use Rattle.line_plan.specs.Plans.{PlanFields}
+use Rattle.std.specs.Prelude.{ℕ, ◌≡◌, ◌≤◌, List, ◌++◌, Bool, length}
+use Rattle.line_plan.specs.Plans.{IsPlan, PlanFields}
 use Rattle.line_law.specs.declared.call.Entry.{Entry}
 use Rattle.line_law.specs.History.{IsLegal, part_of, state_of}
 use Rattle.line_law.specs.States.{LineState, opening_state}
 use Rattle.line_law.specs.declared.state.PairState.{PairState}
+use Rattle.line_journal.specs.Keepers.{AreRests, NoneAsleepOpen, NoneOpenBelow}
+use Rattle.line_journal.specs.Lists.{count_left}
 use Rattle.line_journal.specs.Order.{IsBoxReady, IsOrderFrom, list_at}
 
 -- these entries are done, and what remains are the parts of what a legal history goes on with after them
@@ -33,3 +35,20 @@ pub record Merges (plan : PlanFields) (all : List (List Entry)) (done : List Ent
     (lists : List (List Entry)) : Type 0 where
   pub merged : IsMerged plan all done (state_of plan done) lists
   pub words : pairs ≡ (state_of plan done).pairs
+
+-- what the merge keeps where it looks at box b: no lower box is open, nor one that is asleep
+pub record IsKept (plan : PlanFields) (all : List (List Entry)) (done : List Entry) (pairs : List PairState)
+    (lists : List (List Entry)) (b : ℕ) (awake : List Bool) (rests : List ℕ) : Type 0 where
+  pub merges : Merges plan all done pairs lists
+  pub below : NoneOpenBelow plan pairs lists b
+  pub asleep : NoneAsleepOpen plan pairs lists awake
+  pub are_rests : AreRests plan lists rests
+
+-- more is done, and these lists are left: all that is kept as the merge looks at box b. The pairs stay as they are
+pub record KeepsMerging (b : ℕ) (done : List Entry) (lists : List (List Entry)) (more : List Entry)
+    (left : List (List Entry)) : Type 0 where
+  pub count : length left ≡ length lists
+  pub fewer : count_left left ≤ count_left lists
+  pub keeps : (plan : PlanFields) (all : List (List Entry)) (pairs : List PairState) (awake : List Bool)
+      (rests : List ℕ) → IsPlan plan → IsKept plan all done pairs lists b awake rests
+      → IsKept plan all more pairs left b awake rests

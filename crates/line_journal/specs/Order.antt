@@ -1,7 +1,8 @@
 -- The order of the journal: the next entry is that of the lowest-numbered ready box. A box is ready where the law gives
 -- the reply of its next entry, and no remaining entry of the other box on the same word keeps that one back.
 use Rattle.std.specs.Prelude.{ℕ, ◌+◌, ◌≡◌, ◌≢◌, ◌<◌, ◌==◌, ◌&&◌, nat_lt, Bool, true}
-use Rattle.std.specs.Prelude.{false, List, [], ◌∷◌, slice_index_or, slice_set, drop, map, if◌then◌else◌}
+use Rattle.std.specs.Prelude.{false, List, [], ◌∷◌, slice_index_or, slice_set, drop, length, map, if◌then◌else◌}
+use Rattle.std.specs.List.{range_with_len}
 use Rattle.line_plan.specs.Frames.{same_way}
 use Rattle.line_plan.specs.Plans.{PlanFields}
 use Rattle.line_law.specs.declared.call.Entry.{Entry}
@@ -11,7 +12,7 @@ use Rattle.line_law.specs.declared.call.Reply.TheVariants.{BellNotYet, Turned, S
 use Rattle.line_law.specs.declared.call.Reply.TheVariants.{PulledUnder, HeldByInstrument, Entered, SectionFull}
 use Rattle.line_law.specs.declared.call.Reply.TheVariants.{TrainNotYet, Berthed, NoTrainAt, Cleared}
 use Rattle.word_laws.specs.Footprint.{Kind, BellWord, BlockWord, PlainLineWord, way_at}
-use Rattle.line_law.specs.History.{after_entry}
+use Rattle.line_law.specs.History.{after_entry, part_of}
 use Rattle.line_law.specs.Law.{pair_of, step}
 use Rattle.line_law.specs.States.{LineState, opening_state}
 use Rattle.word_laws.specs.TellsWord.{kind_told}
@@ -101,6 +102,14 @@ IsOrderFrom plan state lists (e ∷ es) =
 -- the entries of registers, in their order
 abbrev pub lists_of : List RegisterFields → List (List Entry)
 lists_of registers = map (λ register. register.entries) registers
+
+-- the parts of a history, one for each box of a plan, in order
+abbrev pub parts_of : PlanFields → List Entry → List (List Entry)
+parts_of plan es = map (λ b. part_of b es) (range_with_len 0 (length plan.boxes))
+
+-- a journal stands in the order of its own parts
+abbrev pub IsInOrder : PlanFields → List Entry → Type 0
+IsInOrder plan es = IsOrderFrom plan (opening_state plan) (parts_of plan es) es
 
 -- a journal is the order of the entries of a line's registers
 abbrev pub IsOrder : PlanFields → List RegisterFields → List Entry → Type 0

@@ -4,10 +4,11 @@ ghost use Rattle.std.specs.Prelude.{◌≡◌, ◌+◌, ◌<◌, length, slice_i
 ghost use Rattle.word_laws.specs.Footprint.{way_at};
 ghost use Rattle.line_law.specs.Instruments.{same_position};
 ghost use Rattle.word_laws.specs.TellsWord.{kind_told};
+ghost use Rattle.line_law.specs.Law.{box_plan_of, link_of};
+ghost use Rattle.line_law.specs.Levers.{lever_link};
 ghost use Rattle.line_law.specs.Ways.{of_way};
 ghost use Rattle.line_journal.specs.Fits.{bell_made, block_made, code_of, plain_line_made, position_of, word_made};
 ghost use Rattle.line_journal.specs.Halves.{found_at, made, pair_for};
-ghost use Rattle.line_journal.specs.Keepers.{IsLineOf};
 ghost use Rattle.line_journal.specs.FitTests.{
   HasSpace,
   fits_bell,
@@ -23,8 +24,8 @@ ghost use Rattle.line_journal.specs.FitTests.{
 
 use bell_codes::CodeNo;
 use block_words::{Position, Way};
-use line_law::{Act, Bell, Block, Entry, Link, PairState, Passage, PlainLine, Reply, link_of};
-use line_plan::Plan;
+use line_law::{Act, Bell, Block, Entry, Link, PairState, Passage, PlainLine, Reply, starter_way};
+use line_plan::{BoxPlan, Plan};
 
 // Whether one number is the next after another.
 fn is_next(number: u64, next: u64) -> bool
@@ -79,31 +80,31 @@ fn same_mark(mark: bool, other: bool) -> bool
     if mark { other } else { !other }
 }
 
-// The code that a call rings.
-fn code_of(act: Act) -> CodeNo
-    ensures { result ≡ code_of act }
+// The code that an entry's call rings.
+fn code_of(entry: &Entry) -> CodeNo
+    ensures { result ≡ code_of entry.now.call.act }
 {
-    match act {
+    match entry.call.act {
         Act::Ring { side: _, code } => code,
         _ => 0,
     }
 }
 
-// The position to which a call turns an instrument, or for which it looks there.
-fn position_of(act: Act) -> Position
-    ensures { result ≡ position_of act }
+// The position to which an entry's call turns an instrument, or for which it looks there.
+fn position_of(entry: &Entry) -> Position
+    ensures { result ≡ position_of entry.now.call.act }
 {
-    match act {
+    match entry.call.act {
         Act::Turn { way: _, position } | Act::AwaitBlock { way: _, position } => position,
         _ => Position::Normal,
     }
 }
 
-// Whether a reply fits a bell.
-fn fits_bell(reply: Reply, bell: Bell) -> bool
-    ensures { result ≡ fits_bell reply bell }
+// Whether an entry's reply fits a bell.
+fn fits_bell(entry: &Entry, bell: Bell) -> bool
+    ensures { result ≡ fits_bell entry.now.reply bell }
 {
-    match reply {
+    match entry.reply {
         Reply::Rung { k } => is_next(bell.count, k) && shows(bell.unheard, None),
         Reply::BellBusy { k, code } => bell.count == k && shows(bell.unheard, Some(code)),
         Reply::Heard { k, code } => bell.count == k && shows(bell.unheard, Some(code)),
@@ -113,13 +114,13 @@ fn fits_bell(reply: Reply, bell: Bell) -> bool
     }
 }
 
-// Whether a reply of an act fits an instrument.
-fn fits_block(act: Act, reply: Reply, block: Block) -> bool
-    ensures { result ≡ fits_block act reply block }
+// Whether an entry's reply fits an instrument.
+fn fits_block(entry: &Entry, block: Block) -> bool
+    ensures { result ≡ fits_block entry.now.call.act entry.now.reply block }
 {
-    match reply {
+    match entry.reply {
         Reply::Turned { v } => is_next(block.turns, v),
-        Reply::Seen { v } => block.turns == v && same_position(block.position, position_of(act)),
+        Reply::Seen { v } => block.turns == v && same_position(block.position, position_of(entry)),
         Reply::BlockNotYet { v, shown } => {
             block.turns == v && same_position(block.position, shown)
         }
@@ -137,11 +138,11 @@ fn fits_block(act: Act, reply: Reply, block: Block) -> bool
     }
 }
 
-// Whether a reply fits a plain line.
-fn fits_plain_line(reply: Reply, line: &PlainLine) -> bool
-    ensures { result ≡ fits_plain_line reply line.now }
+// Whether an entry's reply fits a plain line.
+fn fits_plain_line(entry: &Entry, line: &PlainLine) -> bool
+    ensures { result ≡ fits_plain_line entry.now.reply line.now }
 {
-    match reply {
+    match entry.reply {
         Reply::Entered { k, train: _ } => !line.holds(k),
         Reply::SectionFull { k } => line.holds(k),
         Reply::Approaching { j, train } => is_train(line.first_train(j), Some(train)),
@@ -154,11 +155,11 @@ fn fits_plain_line(reply: Reply, line: &PlainLine) -> bool
     }
 }
 
-/// Whether a call with this reply was decided on a word, and not on its box's own tally.
-pub fn is_on_word(reply: Reply) -> bool
-    ensures { result ≡ is_word (kind_told reply) }
+/// Whether an entry's call was decided on a word, and not on its box's own tally.
+pub fn is_on_word(entry: &Entry) -> bool
+    ensures { result ≡ is_word (kind_told entry.now.reply) }
 {
-    match reply {
+    match entry.reply {
         Reply::Rung { .. }
         | Reply::BellBusy { .. }
         | Reply::Heard { .. }
@@ -181,21 +182,21 @@ pub fn is_on_word(reply: Reply) -> bool
     }
 }
 
-// Whether a reply of an act fits the word of that way in a pair; on its box's own tally it fits always.
-fn fits_word(pair: &PairState, way: Way, act: Act, reply: Reply) -> bool
-    ensures { result ≡ fits_word (kind_told reply) way act reply pair.now }
+// Whether an entry fits the word of that way in a pair; on its box's own tally it fits always.
+fn fits_word(pair: &PairState, way: Way, entry: &Entry) -> bool
+    ensures { result ≡ fits_word (kind_told entry.now.reply) way entry.now.call.act entry.now.reply pair.now }
 {
-    match reply {
+    match entry.reply {
         Reply::Rung { .. }
         | Reply::BellBusy { .. }
         | Reply::Heard { .. }
         | Reply::Silent { .. }
-        | Reply::BellNotYet { .. } => fits_bell(reply, pair.bells.get(way)),
+        | Reply::BellNotYet { .. } => fits_bell(entry, pair.bells.get(way)),
         Reply::Turned { .. }
         | Reply::Seen { .. }
         | Reply::BlockNotYet { .. }
         | Reply::PulledUnder { .. }
-        | Reply::HeldByInstrument { .. } => fits_block(act, reply, pair.blocks.get(way)),
+        | Reply::HeldByInstrument { .. } => fits_block(entry, pair.blocks.get(way)),
         Reply::Entered { .. }
         | Reply::SectionFull { .. }
         | Reply::Approaching { .. }
@@ -204,21 +205,21 @@ fn fits_word(pair: &PairState, way: Way, act: Act, reply: Reply) -> bool
         | Reply::PartBerthed { .. }
         | Reply::NoTrainAt { .. }
         | Reply::Cleared { .. } => match way {
-            Way::Up => fits_plain_line(reply, &pair.lines.up),
-            Way::Down => fits_plain_line(reply, &pair.lines.down),
+            Way::Up => fits_plain_line(entry, &pair.lines.up),
+            Way::Down => fits_plain_line(entry, &pair.lines.down),
         },
         _ => true,
     }
 }
 
-// Makes of a bell what a reply says.
-fn make_bell(act: Act, reply: Reply, bell: Bell) -> Bell
-    ensures { result ≡ bell_made act reply bell }
+// Makes of a bell what an entry says.
+fn make_bell(entry: &Entry, bell: Bell) -> Bell
+    ensures { result ≡ bell_made entry.now.call.act entry.now.reply bell }
 {
-    match reply {
+    match entry.reply {
         Reply::Rung { k } => Bell {
             count: k,
-            unheard: Some(code_of(act)),
+            unheard: Some(code_of(entry)),
         },
         Reply::Heard { k, code: _ } => Bell {
             count: k,
@@ -228,14 +229,14 @@ fn make_bell(act: Act, reply: Reply, bell: Bell) -> Bell
     }
 }
 
-// Makes of an instrument what a reply says.
-fn make_block(act: Act, reply: Reply, block: Block) -> Block
-    ensures { result ≡ block_made act reply block }
+// Makes of an instrument what an entry says.
+fn make_block(entry: &Entry, block: Block) -> Block
+    ensures { result ≡ block_made entry.now.call.act entry.now.reply block }
 {
-    match reply {
+    match entry.reply {
         Reply::Turned { v } => Block {
             turns: v,
-            position: position_of(act),
+            position: position_of(entry),
             spent: false,
         },
         Reply::PulledUnder { .. } | Reply::HeldByInstrument { .. } => Block {
@@ -246,31 +247,30 @@ fn make_block(act: Act, reply: Reply, block: Block) -> Block
     }
 }
 
-// Makes of a plain line what a reply says.
-fn make_plain_line(reply: Reply, line: &mut PlainLine)
-    requires { HasSpace reply line.old }
-    ensures { line.new ≡ plain_line_made reply line.old }
+// Makes of a plain line what an entry says.
+fn make_plain_line(entry: &Entry, line: &mut PlainLine)
+    requires { HasSpace entry.now.reply line.old }
+    ensures { line.new ≡ plain_line_made entry.now.reply line.old }
 {
-    match reply {
+    match entry.reply {
         Reply::Entered { k, train } => line.push(Passage { number: k, train }),
         Reply::Berthed { .. } | Reply::Cleared { .. } => line.remove_first(),
         _ => {}
     }
 }
 
-// Makes of the word of that way in a pair what a reply says.
-fn make_word(pair: &mut PairState, way: Way, act: Act, reply: Reply)
-    requires { HasSpace reply (of_way pair.old.lines way) }
-    ensures { pair.new ≡ word_made (kind_told reply) way act reply pair.old }
+// Makes of the word of that way in a pair what an entry says.
+fn make_word(pair: &mut PairState, way: Way, entry: &Entry)
+    requires { HasSpace entry.now.reply (of_way pair.old.lines way) }
+    ensures { pair.new ≡ word_made (kind_told entry.now.reply) way entry.now.call.act entry.now.reply pair.old }
 {
-    match reply {
+    match entry.reply {
         Reply::Rung { .. }
         | Reply::BellBusy { .. }
         | Reply::Heard { .. }
         | Reply::Silent { .. }
         | Reply::BellNotYet { .. } => {
-            pair.bells
-                .set(way, make_bell(act, reply, pair.bells.get(way)));
+            pair.bells.set(way, make_bell(entry, pair.bells.get(way)));
         }
         Reply::Turned { .. }
         | Reply::Seen { .. }
@@ -278,7 +278,7 @@ fn make_word(pair: &mut PairState, way: Way, act: Act, reply: Reply)
         | Reply::PulledUnder { .. }
         | Reply::HeldByInstrument { .. } => {
             pair.blocks
-                .set(way, make_block(act, reply, pair.blocks.get(way)));
+                .set(way, make_block(entry, pair.blocks.get(way)));
         }
         Reply::Entered { .. }
         | Reply::SectionFull { .. }
@@ -288,62 +288,71 @@ fn make_word(pair: &mut PairState, way: Way, act: Act, reply: Reply)
         | Reply::PartBerthed { .. }
         | Reply::NoTrainAt { .. }
         | Reply::Cleared { .. } => match way {
-            Way::Up => make_plain_line(reply, &mut pair.lines.up),
-            Way::Down => make_plain_line(reply, &mut pair.lines.down),
+            Way::Up => make_plain_line(entry, &mut pair.lines.up),
+            Way::Down => make_plain_line(entry, &mut pair.lines.down),
         },
         _ => {}
     }
 }
 
-/// The line of an entry's call, where that was decided on a word.
+// The line of a lever: a starter's outgoing line, and another's some line all the same.
+fn lever_line(plan: &BoxPlan, lever: u32) -> Link
+    ensures { result ≡ lever_link plan.now lever }
+{
+    match starter_way(plan.signal(lever)) {
+        Some(way) => Link::Out(way),
+        None => Link::In(Way::Down),
+    }
+}
+
+/// The line on which an entry's call may be decided, as the law tells it of the call. The entry is read where it
+/// stands.
 pub fn line_of(plan: &Plan, entry: &Entry) -> Link
     requires { entry.now.box_no < length plan.now.boxes }
-    ensures { IsLineOf plan.now entry.now result }
+    ensures { result ≡ link_of (box_plan_of plan.now entry.now.box_no) entry.now.call.act }
 {
-    if is_on_word(entry.reply) {
-        link_of(
-            &plan.boxes.as_slice()[entry.box_no as usize],
-            entry.call.act,
-        )
-    } else {
-        Link::Out(Way::Up)
+    match entry.call.act {
+        Act::Ring { side, code: _ } => Link::Out(side),
+        Act::Hear { side } | Act::AwaitBell { side, code: _ } => Link::In(side.opposite()),
+        Act::AwaitBlock { way, position: _ } => Link::Out(way),
+        Act::Pull { lever } | Act::Pass { lever } | Act::Overrun { lever } => {
+            lever_line(&plan.boxes.as_slice()[entry.box_no as usize], lever)
+        }
+        Act::Put { lever: _ } | Act::Bring { train: _ } => Link::In(Way::Down),
+        Act::Turn { way, position: _ }
+        | Act::AwaitTrain { way }
+        | Act::Berth { way }
+        | Act::BerthPart { way }
+        | Act::ClearPortion { way }
+        | Act::Wind { way }
+        | Act::Release { way } => Link::In(way),
     }
 }
 
 /// Whether an entry fits its word in the pairs of a line.
-#[tactic(auto, using(crate::proofs::Deciding::tally_fits, crate::proofs::Lines::pair_on, crate::proofs::Lines::way_on))]
 pub fn fits(plan: &Plan, pairs: &[PairState], line: Link, entry: &Entry) -> bool
-    requires line { IsLineOf plan.now entry.now line }
+    requires line { line ≡ link_of (box_plan_of plan.now entry.now.box_no) entry.now.call.act }
     requires pair { pair_for plan.now entry.now < length pairs.now }
     ensures { result ≡ fits_here plan.now pairs.now entry.now }
 {
-    if !is_on_word(entry.reply) {
-        return true;
-    }
     fits_word(
         &pairs[line.pair_no(entry.box_no as usize)],
         line.way(),
-        entry.call.act,
-        entry.reply,
+        entry,
     )
 }
 
 /// Makes of an entry's word what its reply says.
-#[tactic(auto, using(crate::proofs::Deciding::tally_made, crate::proofs::Lines::pair_on, crate::proofs::Lines::way_on))]
 pub fn make(plan: &Plan, pairs: &mut [PairState], line: Link, entry: &Entry)
-    requires line { IsLineOf plan.now entry.now line }
+    requires line { line ≡ link_of (box_plan_of plan.now entry.now.box_no) entry.now.call.act }
     requires pair { pair_for plan.now entry.now < length pairs.old }
     requires space { HasSpace entry.now.reply (of_way (found_at pairs.old (pair_for plan.now entry.now)).lines
         (way_at plan.now entry.now.box_no entry.now.call)) }
     ensures { pairs.new ≡ made plan.now pairs.old entry.now }
 {
-    if !is_on_word(entry.reply) {
-        return;
-    }
     make_word(
         &mut pairs[line.pair_no(entry.box_no as usize)],
         line.way(),
-        entry.call.act,
-        entry.reply,
+        entry,
     );
 }

@@ -1,7 +1,8 @@
 //! The first entries of each kind that may keep others back.
 
 ghost use Rattle.std.specs.Prelude.{◌≡◌, ◌↔◌, ◌<◌, ◌≤◌, ◌+◌, ◌-◌, ◌*◌, ◌^◌, ◌==◌, ℕ};
-ghost use Rattle.std.specs.Prelude.{IsTrue, All, false, length, slice_get, slice_index_or, slice_set, take};
+ghost use Rattle.std.specs.Prelude.{IsTrue, All, false, length, option_copied, slice_get, slice_index_or};
+ghost use Rattle.std.specs.Prelude.{slice_set, take};
 ghost use Rattle.std.specs.List.{find};
 ghost use Rattle.word_laws.specs.Footprint.{way_at};
 ghost use Rattle.line_law.specs.Law.{link_of, box_plan_of};
@@ -10,7 +11,6 @@ ghost use Rattle.line_law.specs.Replies.{way_number};
 ghost use Rattle.line_journal.specs.Keepers.{
   AreFirsts,
   AreRests,
-  IsLineOf,
   IsPassed,
   LetsPass,
   Skips,
@@ -34,11 +34,11 @@ use line_plan::Plan;
 // How many numbers of keepers there are.
 const SLOTS: usize = 12;
 
-// The kind of a reply that may keep others back; 0 for any other.
-fn keeper_no(reply: Reply) -> usize
-    ensures { result ≡ keeper_no reply }
+// The kind of an entry's reply that may keep others back; 0 for any other.
+fn keeper_no(entry: &Entry) -> usize
+    ensures { result ≡ keeper_no entry.now.reply }
 {
-    match reply {
+    match entry.reply {
         Reply::BellBusy { .. } => 1,
         Reply::Silent { .. } | Reply::BellNotYet { .. } => 2,
         Reply::PulledUnder { .. }
@@ -51,11 +51,11 @@ fn keeper_no(reply: Reply) -> usize
     }
 }
 
-// The kind of reply that may keep this one back; 0 for none.
-fn kept_by(reply: Reply) -> usize
-    ensures { result ≡ kept_by reply }
+// The kind of reply that may keep an entry's one back; 0 for none.
+fn kept_by(entry: &Entry) -> usize
+    ensures { result ≡ kept_by entry.now.reply }
 {
-    match reply {
+    match entry.reply {
         Reply::Heard { .. } => 1,
         Reply::Rung { .. } => 2,
         Reply::Turned { .. } => 3,
@@ -90,15 +90,15 @@ fn keeper_slot(plan: &Plan, entry: &Entry) -> usize
     ensures value { result ≡ keeper_slot plan.now entry.now }
     ensures few { result < slots }
 {
-    2 * keeper_no(entry.reply) + way_of(plan, entry)
+    2 * keeper_no(entry) + way_of(plan, entry)
 }
 
-// The number of the entries that may keep back one with this reply, which is on this line.
-fn kept_slot(reply: Reply, line: Link) -> usize
-    ensures value { result ≡ 2 * kept_by reply + way_number (line_way line) }
+// The number of the entries that may keep back one that is on this line.
+fn kept_slot(entry: &Entry, line: Link) -> usize
+    ensures value { result ≡ 2 * kept_by entry.now.reply + way_number (line_way line) }
     ensures few { result < slots }
 {
-    2 * kept_by(reply) + way_number(line.way())
+    2 * kept_by(entry) + way_number(line.way())
 }
 
 // Whether an entry has the number. The kind of its reply is asked first, since few replies are of a kind that does.
@@ -107,7 +107,7 @@ fn has_slot(plan: &Plan, entry: &Entry, slot: usize) -> bool
     requires { entry.now.box_no < length plan.now.boxes }
     ensures { result ≡ (keeper_slot plan.now entry.now == slot) }
 {
-    slot / 2 == keeper_no(entry.reply) && keeper_slot(plan, entry) == slot
+    slot / 2 == keeper_no(entry) && keeper_slot(plan, entry) == slot
 }
 
 // The place of the first of these entries that has the number, or that behind the last.
@@ -127,21 +127,29 @@ fn seek(plan: &Plan, entries: &[Entry], slot: usize) -> usize
 }
 
 // The entry at a place, if there is one.
-fn entry_at(entries: &[Entry], at: usize) -> Option<Entry>
-    ensures { result ≡ slice_get entries.now at }
+fn entry_at(entries: &[Entry], at: usize) -> Option<&Entry>
+    ensures { option_copied result ≡ slice_get entries.now at }
 {
-    entries.get(at).copied()
+    entries.get(at)
 }
 
 // The first of these entries that has the number. It is sought from where so many are left, and then told how many are
-// left there.
+// left there: where none is, none has the number.
 #[tactic(auto, using(crate::proofs::Found::find_skip, crate::proofs::Found::skips_on))]
-fn first_of(plan: &Plan, entries: &[Entry], rest: &mut usize, slot: usize) -> Option<Entry>
+fn first_of<'a>(
+    plan: &Plan,
+    entries: &'a [Entry],
+    rest: &mut usize,
+    slot: usize,
+) -> Option<&'a Entry>
     requires entries { All (λ x. x.box_no < length plan.now.boxes) entries.now }
     requires skips { Skips plan.now slot entries.now rest.old }
     ensures skips { Skips plan.now slot entries.now rest.new }
-    ensures found { result ≡ find (λ x. keeper_slot plan.now x == slot) entries.now }
+    ensures found { option_copied result ≡ find (λ x. keeper_slot plan.now x == slot) entries.now }
 {
+    if *rest == 0 {
+        return None;
+    }
     let left = behind(entries, entries.len().saturating_sub(*rest));
     let at = seek(plan, left, slot);
     *rest = left.len() - at;
@@ -150,19 +158,19 @@ fn first_of(plan: &Plan, entries: &[Entry], rest: &mut usize, slot: usize) -> Op
 
 // The first of a box's remaining entries that has the number.
 #[tactic(auto, using(crate::proofs::Found::rests_set))]
-fn first_in(
+fn first_in<'a>(
     plan: &Plan,
-    left: &Left<'_>,
+    left: &Left<'a>,
     rests: &mut [usize],
     other: usize,
     slot: usize,
-) -> Option<Entry>
+) -> Option<&'a Entry>
     requires other { other < length left.now }
     requires slot { slot < slots }
     requires boxes { AreOfBoxes plan.now left.now }
     requires rests { AreRests plan.now left.now rests.old }
     ensures rests { AreRests plan.now left.now rests.new }
-    ensures found { result ≡ find (λ x. keeper_slot plan.now x == slot) (list_at left.now other) }
+    ensures found { option_copied result ≡ find (λ x. keeper_slot plan.now x == slot) (list_at left.now other) }
 {
     first_of(
         plan,
@@ -190,9 +198,9 @@ fn lets_pass(
     ensures passes { IsTrue result
         ↔ LetsPass plan.now entry.now (first_keeper plan.now entry.now (list_at left.now other)) }
 {
-    let slot = kept_slot(entry.reply, line);
+    let slot = kept_slot(entry, line);
     match first_in(plan, left, rests, other, slot) {
-        Some(keeper) => !keeps_back(plan, entry, &keeper),
+        Some(keeper) => !keeps_back(plan, entry, keeper),
         None => true,
     }
 }
@@ -209,7 +217,7 @@ pub fn firsts_of(plan: &Plan, entries: &[Entry]) -> [usize; SLOTS]
     while at > 0 {
         at -= 1;
         let entry = &entries[at];
-        if keeper_no(entry.reply) > 0 {
+        if keeper_no(entry) > 0 {
             firsts[keeper_slot(plan, entry)] = count - at;
         }
     }
@@ -237,14 +245,14 @@ pub fn is_passed(
 ) -> bool
     requires box_no { box_no < length left.now }
     requires own { entry.now.box_no ≡ box_no }
-    requires line { IsLineOf plan.now entry.now line }
+    requires line { line ≡ link_of (box_plan_of plan.now entry.now.box_no) entry.now.call.act }
     requires entry { entry.now.box_no < length plan.now.boxes }
     requires boxes { AreOfBoxes plan.now left.now }
     requires rests { AreRests plan.now left.now rests.old }
     ensures rests { AreRests plan.now left.now rests.new }
     ensures passed { IsTrue result ↔ IsPassed plan.now left.now box_no entry.now }
 {
-    if kept_by(entry.reply) == 0 {
+    if kept_by(entry) == 0 {
         return true;
     }
     let other = other_box(entry.box_no as usize, line);

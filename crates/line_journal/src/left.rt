@@ -64,7 +64,8 @@ impl<'a> Model for Left<'a> {
 }
 
 impl<'a> Left<'a> {
-    ghost use Rattle.std.specs.Prelude.{◌≡◌, ◌<◌, IfOk, length};
+    ghost use Rattle.std.specs.Prelude.{◌≡◌, ◌<◌, ◌-◌, ◌^◌, IfOk, length, min};
+    ghost use Rattle.line_journal.specs.Lists.{count_left};
     ghost use Rattle.line_journal.specs.Order.{list_at, lists_of, placed};
 
     /// Nothing is placed.
@@ -82,6 +83,17 @@ impl<'a> Left<'a> {
         ensures { result ≡ length self.now }
     {
         self.registers.len()
+    }
+
+    /// How many entries remain, as far as a number can tell it.
+    pub fn count(&self) -> usize
+        ensures { result ≡ min (count_left self.now) (2 ^ 64 - 1) }
+    {
+        let mut count = 0usize;
+        for box_no in 0..self.boxes() {
+            count = count.saturating_add(self.of_box(box_no).len());
+        }
+        count
     }
 
     /// The entries of a box that remain.

@@ -1,16 +1,20 @@
 //! The merge of registers into the journal.
 
-ghost use Rattle.std.specs.Prelude.{◌≡◌, ◌↔◌, ◌<◌, ◌+◌, ◌-◌, ◌∷◌};
-ghost use Rattle.std.specs.Prelude.{List, IfOk, IsTrue, All, true, drop, replicate, length};
+ghost use Rattle.std.specs.Prelude.{◌≡◌, ◌↔◌, ◌<◌, ◌+◌, ◌-◌, ◌∷◌, if◌then◌else◌};
+ghost use Rattle.std.specs.Prelude.{List, IfOk, IsTrue, All, true, false, drop, replicate, length, slice_set};
+ghost use Rattle.std.specs.Prelude.{option_copied};
 ghost use Rattle.line_law.specs.declared.call.Entry.{Entry};
 ghost use Rattle.line_law.specs.History.{IsLegal};
+ghost use Rattle.line_law.specs.Law.{box_plan_of, link_of};
+ghost use Rattle.line_law.specs.Links.{pair_no};
 ghost use Rattle.line_law.specs.States.{opening_pair};
 ghost use Rattle.train_register.specs.Registers.{AreParts};
-ghost use Rattle.line_journal.specs.Keepers.{AreRests, IsLineOf, IsLowestOpen, IsOpen, NoneAsleepOpen, NoneOpenBelow};
-ghost use Rattle.line_journal.specs.Keepers.{opens_from, woken};
+ghost use Rattle.line_journal.specs.Keepers.{AreRests, IsFirstAwake, IsOpen, IsPlaced, NoneAsleepOpen, NoneOpenBelow};
+ghost use Rattle.line_journal.specs.Keepers.{opens_from, pair_woken, woken};
 ghost use Rattle.line_journal.specs.Lists.{AreOfBoxes, HasSpaceFor, HaveEnded};
-ghost use Rattle.line_journal.specs.Order.{IsOrder, list_at, placed};
-ghost use Rattle.line_journal.specs.Halves.{made, pair_for};
+ghost use Rattle.line_journal.specs.Merging.{KeepsMerging};
+ghost use Rattle.line_journal.specs.Order.{IsInOrder, IsOrder, list_at};
+ghost use Rattle.line_journal.specs.Halves.{made};
 
 use crate::fitting::{fits, is_on_word, line_of, make};
 use crate::keepers::{firsts_of, is_passed};
@@ -21,134 +25,159 @@ use rail_text::NoMemory;
 use std::alloc::Global;
 use train_register::Ended;
 
-// Whether the next entry of a box fits its word, and the first keepers of both neighbours let it pass.
-fn is_open(
-    plan: &Plan,
-    pairs: &[PairState],
-    left: &Left<'_>,
-    rests: &mut [usize],
-    box_no: usize,
-) -> bool
-    requires box_no { box_no < length left.now }
-    requires pairs { length pairs.now ≡ length plan.now.boxes - 1 }
-    requires boxes { AreOfBoxes plan.now left.now }
-    requires rests { AreRests plan.now left.now rests.old }
-    ensures rests { AreRests plan.now left.now rests.new }
-    ensures opens { IsTrue result ↔ IsOpen plan.now pairs.now left.now box_no }
+// The lowest box from a number on that is awake, if there is one.
+fn next_awake(awake: &[bool], from: usize) -> Option<usize>
+    ensures { IsFirstAwake awake.now from result }
 {
-    match left.of_box(box_no).first() {
-        Some(entry) => {
-            let line = line_of(plan, entry);
-            fits(plan, pairs, line, entry) && is_passed(plan, left, rests, box_no, line, entry)
-        }
-        None => false,
-    }
-}
-
-// Whether that is so of a box. One that is asleep isn't asked, since it isn't open; one that isn't open falls asleep.
-#[tactic(auto, using(crate::proofs::Nearby::asleep_shut, crate::proofs::Nearby::asleep_set))]
-fn opens(
-    plan: &Plan,
-    pairs: &[PairState],
-    left: &Left<'_>,
-    rests: &mut [usize],
-    awake: &mut [bool],
-    box_no: usize,
-) -> bool
-    requires box_no { box_no < length left.now }
-    requires pairs { length pairs.now ≡ length plan.now.boxes - 1 }
-    requires boxes { AreOfBoxes plan.now left.now }
-    requires rests { AreRests plan.now left.now rests.old }
-    requires each { length awake.old ≡ length left.now }
-    requires asleep { NoneAsleepOpen plan.now pairs.now left.now awake.old }
-    ensures rests { AreRests plan.now left.now rests.new }
-    ensures each { length awake.new ≡ length left.now }
-    ensures asleep { NoneAsleepOpen plan.now pairs.now left.now awake.new }
-    ensures opens { IsTrue result ↔ IsOpen plan.now pairs.now left.now box_no }
-{
-    if !awake[box_no] {
-        return false;
-    }
-    let is = is_open(plan, pairs, left, rests, box_no);
-    awake[box_no] = is;
-    is
-}
-
-// The lowest box of which that is so, sought from a box on below which there is none.
-fn next_open(
-    plan: &Plan,
-    pairs: &[PairState],
-    left: &Left<'_>,
-    rests: &mut [usize],
-    awake: &mut [bool],
-    from: usize,
-) -> Option<usize>
-    requires pairs { length pairs.now ≡ length plan.now.boxes - 1 }
-    requires boxes { AreOfBoxes plan.now left.now }
-    requires rests { AreRests plan.now left.now rests.old }
-    requires each { length awake.old ≡ length left.now }
-    requires asleep { NoneAsleepOpen plan.now pairs.now left.now awake.old }
-    requires below { NoneOpenBelow plan.now pairs.now left.now from }
-    ensures rests { AreRests plan.now left.now rests.new }
-    ensures each { length awake.new ≡ length left.now }
-    ensures asleep { NoneAsleepOpen plan.now pairs.now left.now awake.new }
-    ensures lowest { IsLowestOpen plan.now pairs.now left.now result }
-{
-    for box_no in from..left.boxes() {
-        if opens(plan, pairs, left, rests, awake, box_no) {
+    for box_no in from..awake.len() {
+        if awake[box_no] {
             return Some(box_no);
         }
     }
     None
 }
 
-// Wakes both boxes of the pair of an entry that is placed, if its word is theirs: it may have opened them. Tells the
-// lowest box that it may have opened.
-#[tactic(auto, using(crate::proofs::Lines::pair_on))]
-fn wake(plan: &Plan, awake: &mut [bool], line: Link, entry: &Entry) -> usize
-    requires line { IsLineOf plan.now entry.now line }
-    requires pair { pair_for plan.now entry.now + 1 < length awake.old }
-    ensures from { result ≡ opens_from plan.now entry.now }
-    ensures awake { awake.new ≡ woken plan.now entry.now awake.old }
+// Whether the next entry of a box, which was decided on a word, fits that, and the first keepers of both neighbours let
+// it pass.
+fn is_open(
+    plan: &Plan,
+    pairs: &[PairState],
+    left: &Left<'_>,
+    rests: &mut [usize],
+    box_no: usize,
+    line: Link,
+    entry: &Entry,
+) -> bool
+    requires box_no { box_no < length left.now }
+    requires own { entry.now.box_no ≡ box_no }
+    requires next { list_at left.now box_no ≡ entry.now ∷ drop 1 (list_at left.now box_no) }
+    requires line { line ≡ link_of (box_plan_of plan.now entry.now.box_no) entry.now.call.act }
+    requires pairs { length pairs.now ≡ length plan.now.boxes - 1 }
+    requires boxes { AreOfBoxes plan.now left.now }
+    requires rests { AreRests plan.now left.now rests.old }
+    ensures rests { AreRests plan.now left.now rests.new }
+    ensures opens { IsTrue result ↔ IsOpen plan.now pairs.now left.now box_no }
 {
-    let here = entry.box_no as usize;
-    if !is_on_word(entry.reply) {
-        return here;
-    }
-    let pair = line.pair_no(here);
+    fits(plan, pairs, line, entry) && is_passed(plan, left, rests, box_no, line, entry)
+}
+
+// Wakes both boxes of the pair of a line on which an entry is placed: it may have opened them. Tells the lower one.
+fn wake(awake: &mut [bool], box_no: usize, line: Link) -> usize
+    requires { pair_no box_no line + 1 < length awake.old }
+    ensures pair { result ≡ pair_no box_no line }
+    ensures awake { awake.new ≡ pair_woken (pair_no box_no line) awake.old }
+{
+    let pair = line.pair_no(box_no);
     awake[pair] = true;
     awake[pair + 1] = true;
     pair
 }
 
-// Places the next entry of a box: makes of its word what it says, and wakes the boxes that it may have opened. Tells
-// from which box on the next open one is to be sought.
+// Whether the next entry of a box is open. If it is, makes of its word what it says, wakes the boxes that it may open,
+// and tells from which box on the next open one is to be sought.
+fn answer(
+    plan: &Plan,
+    pairs: &mut [PairState],
+    left: &Left<'_>,
+    rests: &mut [usize],
+    awake: &mut [bool],
+    from: &mut usize,
+    box_no: usize,
+    entry: &Entry,
+) -> bool
+    requires box_no { box_no < length left.now }
+    requires own { entry.now.box_no ≡ box_no }
+    requires next { list_at left.now box_no ≡ entry.now ∷ drop 1 (list_at left.now box_no) }
+    requires pairs { length pairs.old ≡ length plan.now.boxes - 1 }
+    requires boxes { AreOfBoxes plan.now left.now }
+    requires rests { AreRests plan.now left.now rests.old }
+    requires each { length awake.old ≡ length plan.now.boxes }
+    requires space { IsOpen plan.now pairs.old left.now box_no → HasSpaceFor plan.now pairs.old left.now box_no }
+    ensures rests { AreRests plan.now left.now rests.new }
+    ensures opens { IsTrue result ↔ IsOpen plan.now pairs.old left.now box_no }
+    ensures pairs { pairs.new ≡ if result then made plan.now pairs.old entry.now else pairs.old }
+    ensures awake { awake.new ≡ if result then woken plan.now entry.now awake.old else awake.old }
+    ensures from { IsTrue result → from.new ≡ opens_from plan.now entry.now }
+{
+    if !is_on_word(entry) {
+        *from = box_no;
+        return true;
+    }
+    let line = line_of(plan, entry);
+    if !is_open(plan, pairs, left, rests, box_no, line, entry) {
+        return false;
+    }
+    make(plan, pairs, line, entry);
+    *from = wake(awake, box_no, line);
+    true
+}
+
+// Lets a box that isn't open fall asleep. The next open one is sought behind it.
+fn pass_over(awake: &mut [bool], from: &mut usize, box_no: usize)
+    requires { box_no < length awake.old }
+    ensures awake { awake.new ≡ slice_set awake.old box_no false }
+    ensures from { from.new ≡ box_no + 1 }
+{
+    awake[box_no] = false;
+    *from = box_no + 1;
+}
+
+// Places the next entry of a box that is awake, if it is open; if it isn't, the box falls asleep.
 fn place<'a>(
     plan: &Plan,
     pairs: &mut [PairState],
     left: &mut Left<'a>,
+    rests: &mut [usize],
     awake: &mut [bool],
     from: &mut usize,
     box_no: usize,
-) -> &'a Entry
+) -> Option<&'a Entry>
     requires box_no { box_no < length left.old }
-    requires some { 0 < length (list_at left.old box_no) }
     requires pairs { length pairs.old ≡ length plan.now.boxes - 1 }
     requires boxes { AreOfBoxes plan.now left.old }
-    requires space { HasSpaceFor plan.now pairs.old left.old box_no }
-    requires each { length awake.old ≡ length plan.now.boxes }
-    ensures next { list_at left.old box_no ≡ result.now ∷ drop 1 (list_at left.old box_no) }
-    ensures words { pairs.new ≡ made plan.now pairs.old result.now }
-    ensures left { left.new ≡ placed left.old box_no }
-    ensures from { from.new ≡ opens_from plan.now result.now }
-    ensures awake { awake.new ≡ woken plan.now result.now awake.old }
+    requires rests { AreRests plan.now left.old rests.old }
+    requires count { length left.old ≡ length plan.now.boxes }
+    requires each { length awake.old ≡ length left.old }
+    requires asleep { NoneAsleepOpen plan.now pairs.old left.old awake.old }
+    requires below { NoneOpenBelow plan.now pairs.old left.old box_no }
+    requires space { IsOpen plan.now pairs.old left.old box_no → HasSpaceFor plan.now pairs.old left.old box_no }
+    ensures rests { AreRests plan.now left.new rests.new }
+    ensures each { length awake.new ≡ length left.new }
+    ensures asleep { NoneAsleepOpen plan.now pairs.new left.new awake.new }
+    ensures below { NoneOpenBelow plan.now pairs.new left.new from.new }
+    ensures placed { IsPlaced plan.now pairs.old left.old box_no (option_copied result) pairs.new left.new
+        from.new }
 {
-    let entry = &left.of_box(box_no)[0];
-    let line = line_of(plan, entry);
-    make(plan, pairs, line, entry);
+    let Some(entry) = left.of_box(box_no).first() else {
+        pass_over(awake, from, box_no);
+        return None;
+    };
+    if !answer(plan, pairs, left, rests, awake, from, box_no, entry) {
+        pass_over(awake, from, box_no);
+        return None;
+    }
     left.place_next(box_no);
-    *from = wake(plan, awake, line, entry);
-    entry
+    Some(entry)
+}
+
+// Places the next entries of a box as long as they were decided on its own tally: where no lower box is open, one after
+// another is the next.
+fn place_tallies(
+    left: &mut Left<'_>,
+    entries: &mut Vec<Entry>,
+    box_no: usize,
+) -> Result<(), NoMemory>
+    requires { box_no < length left.old }
+    ensures { IfOk result (λ done. KeepsMerging box_no entries.old.items left.old entries.new.items left.new) }
+{
+    for entry in left.of_box(box_no) {
+        if is_on_word(entry) {
+            break;
+        }
+        entries.push(*entry)?;
+        left.place_next(box_no);
+    }
+    Ok(())
 }
 
 // So many pairs of a line that opens.
@@ -189,12 +218,14 @@ fn open_rests(alloc: Global, plan: &Plan, left: &Left<'_>) -> Result<Vec<usize>,
 /// Merges the registers of a line that has ended into its journal, or tells that memory ran out. The registers are the
 /// parts of one legal history of the line. At each point the next entry is that of the lowest-numbered box whose next
 /// entry has the reply that the law gives there, and is kept back by no remaining entry of another box. That never gets
-/// stuck; the journal is a legal history of the line, with these registers as its parts.
+/// stuck; the journal is a legal history of the line, with these registers as its parts, and so in the order of its own
+/// parts.
 pub fn merge(alloc: Global, plan: &Plan, ended: &Ended) -> Result<Journal, NoMemory>
     requires { HaveEnded plan.now ended.now.registers }
     ensures order { IfOk result (λ journal. IsOrder plan.now ended.now.registers journal.entries) }
     ensures legal { IfOk result (λ journal. IsLegal plan.now journal.entries) }
     ensures parts { IfOk result (λ journal. AreParts plan.now journal.entries ended.now.registers) }
+    ensures in_order { IfOk result (λ journal. IsInOrder plan.now journal.entries) }
     ensures count { IfOk result (λ journal. (history : List Entry) → IsLegal plan.now history
         → AreParts plan.now history ended.now.registers → length journal.entries ≡ length history) }
 {
@@ -202,11 +233,16 @@ pub fn merge(alloc: Global, plan: &Plan, ended: &Ended) -> Result<Journal, NoMem
     let mut left = Left::new(alloc, ended.registers.as_slice())?;
     let mut rests = open_rests(alloc, plan, &left)?;
     let mut awake = all_awake(alloc, left.boxes())?;
-    let mut entries = Vec::new(alloc);
+    let mut entries = Vec::with_capacity(alloc, left.count())?;
     let mut from = 0;
-    while let Some(box_no) = next_open(plan, &pairs, &left, &mut rests, &mut awake, from) {
-        let entry = place(plan, &mut pairs, &mut left, &mut awake, &mut from, box_no);
-        entries.push(*entry)?;
+    while let Some(box_no) = next_awake(&awake, from) {
+        place_tallies(&mut left, &mut entries, box_no)?;
+        let placed = place(
+            plan, &mut pairs, &mut left, &mut rests, &mut awake, &mut from, box_no,
+        );
+        if let Some(entry) = placed {
+            entries.push(*entry)?;
+        }
     }
     Ok(Journal {
         entries: Items::from_vec(entries),

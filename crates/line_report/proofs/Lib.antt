@@ -10,6 +10,7 @@ pub mod EntryLines
 pub mod JournalTexts
 pub mod Refused
 pub mod Turns
+pub mod HeldTold
 pub mod MostTrains
 pub mod PairsHeld
 pub mod PairTexts

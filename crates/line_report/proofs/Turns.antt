@@ -1,5 +1,5 @@
--- The next entry of a journal whose calls may be made, or which is legal.
-use Rattle.std.proofs.Common.{◌≡◌, ◌≢◌, ℕ, zero, suc, ◌+◌, ◌<◌, ◌≤◌, Bool, true, false, cond, inl, inr, List, [], ◌∷◌, length, map, drop, get_or, slice_index_or, refl, sym, ap, subst, ◌∙◌, eqb}
+-- The next entry of a journal whose calls may be made.
+use Rattle.std.proofs.Common.{◌≡◌, ℕ, zero, suc, ◌+◌, ◌<◌, ◌≤◌, Bool, true, false, cond, inl, inr, List, [], ◌∷◌, length, map, drop, get_or, slice_index_or, refl, sym, ap, subst, ◌∙◌, eqb}
 use Rattle.std.specs.Prelude.{◌↔◌}
 use Rattle.std.proofs.lemmas.Bool.Decides.{eqb_tells}
 use Rattle.std.proofs.lemmas.List.{drop_more}
@@ -10,7 +10,7 @@ use Rattle.line_law.specs.declared.call.Act.TheVariants.{Ring}
 use Rattle.line_law.specs.declared.call.Entry.{Entry}
 use Rattle.line_law.specs.declared.call.Reply.TheVariants.{Rung}
 use Rattle.line_law.specs.declared.state.BoxState.{BoxState}
-use Rattle.line_law.specs.History.{IsLegalFrom, after_entry, calls_of, part_of}
+use Rattle.line_law.specs.History.{after_entry, calls_of, part_of}
 use Rattle.line_law.specs.Known.{KnowsCall}
 use Rattle.line_law.specs.Law.{MayCall}
 use Rattle.line_law.specs.Serial.{AreCalls}
@@ -58,9 +58,6 @@ asked_then plan state e es is shape asked b =
 -- an entry off a list
 abbrev pub no_entry : Entry
 no_entry = record { box_no = 0; call = record { moment = 0; act = Ring Up 0 }; reply = Rung 0 }
-
-pub legal_then : (plan : PlanFields) (state : LineState) (es : List Entry) (i : ℕ) (d : Entry) → i < length es → IsLegalFrom plan state (drop i es) → IsLegalFrom plan (after_entry plan state (get_or es i d)) (drop (i + 1) es)
-legal_then plan state es i d lt legal = (subst (λ (rest : List Entry). IsLegalFrom plan state rest) (drop_more es i d lt) legal).2
 
 -- ---- calls that may be made, one entry of a list
 

@@ -1,6 +1,7 @@
 pub mod Journals
 pub mod Refusals
 pub mod Sections
+pub mod Gains
 pub mod Between
 pub mod Asked
 pub mod Verdicts

@@ -1,18 +1,22 @@
 //! Laws of what is told of a line.
 
-ghost use Rattle.std.specs.Prelude.{◌≡◌, ◌↔◌, ℕ, ◌<◌, ◌≤◌, ◌^◌, List, ◌++◌, All, length};
+ghost use Rattle.std.specs.Prelude.{◌≡◌, ◌↔◌, ℕ, ◌+◌, ◌<◌, ◌≤◌, ◌^◌, List, ◌++◌, All, length};
 ghost use Rattle.line_plan.specs.Plans.{IsPlan, PlanFields};
 ghost use Rattle.line_plan.specs.Sections.{IsSection, limit_of};
 ghost use Rattle.line_plan.specs.declared.section.Section.{Section};
 ghost use Rattle.line_law.specs.declared.call.Entry.{Entry};
 ghost use Rattle.line_law.specs.declared.call.Reply.{Reply};
-ghost use Rattle.line_law.specs.History.{IsLegal, state_of};
+ghost use Rattle.line_law.specs.History.{IsLegal, after_entry, state_of};
+ghost use Rattle.line_law.specs.Law.{MayCall, step};
+ghost use Rattle.line_law.specs.Lines.{IsLineOf, PlainState};
 ghost use Rattle.line_law.specs.Sections.{IsClean, held_by};
 ghost use Rattle.line_report.specs.Asked.{AreAsked};
+ghost use Rattle.line_report.specs.Gains.{gains, loses};
 ghost use Rattle.line_report.specs.Sections.{most_of};
 ghost use Rattle.line_report.specs.Verdicts.{IsWrongAt, verdict_of};
 ghost use Rattle.line_report.specs.declared.judging.Verdict.TheVariants.{Legal, WrongAt};
 ghost use Rattle.script_text.specs.Entries.{IsSpelled};
+ghost use Rattle.train_laws.specs.Authorities.{count_if};
 
 /// A law: every entry of a legal history of a plan's line can be printed, where the history has fewer than ten thousand
 /// million entries. The line has its box and knows its call; each code, place, train, lever and row that its reply
@@ -31,6 +35,17 @@ pub fn verdict_law()
         → (verdict_of plan es ≡ Legal ↔ IsLegal plan es) }
     ensures wrong { (plan : PlanFields) (es : List Entry) (k : ℕ) (said law : Reply) → IsPlan plan → AreAsked plan es
         → verdict_of plan es ≡ WrongAt k said law → IsWrongAt plan es k said law }
+{}
+
+/// A law of a section: after an entry that the law of the line allows it holds the trains that it held before, and one
+/// more where the entry's call and reply tell that it gains a train, less one where they tell that it loses one.
+#[tactic(auto, using(crate::proofs::HeldTold::held_told))]
+pub fn held_law()
+    ensures { (plan : PlanFields) (plain : PlainState) (e : Entry) (section : Section) → IsPlan plan
+        → IsLineOf plan plain → IsSection plan section → MayCall plan plain.line e.box_no e.call
+        → e.reply ≡ (step plan plain.line e.box_no e.call).reply
+        → held_by plan (after_entry plan plain.line e) section + count_if (loses plan section e)
+        ≡ held_by plan plain.line section + count_if (gains plan section e) }
 {}
 
 /// A law of the most trains that a section held: it held so many after some of the entries, and after none more; and

@@ -13,7 +13,7 @@ mod sections;
 
 pub use journal::{print_journal, put_entry, put_journal};
 pub use judging::{Verdict, judge, may_judge, print_verdict};
-pub use laws::{histories_can_be_printed, most_trains_law, verdict_law};
+pub use laws::{held_law, histories_can_be_printed, most_trains_law, verdict_law};
 pub use reading::{journals_law, most_journal_bytes, read_journal};
 pub use refusals::{is_refused, put_refusals, refused_count};
 pub use sections::{most_trains, put_sections};

@@ -1,19 +1,21 @@
 //! The most trains that each section of a line held.
 
-ghost use Rattle.std.specs.Prelude.{◌≡◌, ◌+◌, ◌++◌, ◌∷◌, ◌<◌, ◌≤◌, IfOk, OnOk, length, string_bytes};
+ghost use Rattle.std.specs.Prelude.{◌≡◌, ◌+◌, ◌++◌, ◌∷◌, ◌<◌, ◌≤◌, ◌^◌, ℕ, IfOk, OnOk, length, replicate};
+ghost use Rattle.std.specs.Prelude.{string_bytes};
 ghost use Rattle.line_plan.specs.Plans.{box_name};
 ghost use Rattle.line_plan.specs.Sections.{IsSection, advance_of, limit_of};
 ghost use Rattle.line_law.specs.History.{IsLegal};
-ghost use Rattle.line_law.specs.Lines.{IsLineOf};
 ghost use Rattle.line_law.specs.Sections.{IsClean};
 ghost use Rattle.line_report.specs.Asked.{AreFewEntries};
-ghost use Rattle.line_report.specs.Between.{AreHeld, AreMost, RaisesBeside, held_between, pair_text, pairs_text};
-ghost use Rattle.line_report.specs.Between.{raised, raised_at, section_between};
+ghost use Rattle.line_report.specs.Between.{AreMost, CountsBeside, CountsOn, MayGain, no_trains, pair_after};
+ghost use Rattle.line_report.specs.Between.{pair_text, pairs_after, pairs_text, section_between, trains_at};
+ghost use Rattle.line_report.specs.Gains.{count_after, counts_trains, gains, gains_at_rear, gains_in_advance};
+ghost use Rattle.line_report.specs.Gains.{loses, loses_in_advance, works_home, works_starter};
 ghost use Rattle.line_report.specs.Sections.{most_of, section_text, sections_text};
 ghost use Rattle.script_text.specs.Names.{way_text};
 
 use block_words::Way;
-use line_law::{ByWay, Entry, Journal, Plain};
+use line_law::{Act, ByWay, Entry, Journal, Reply, starter_way};
 use line_plan::{Plan, Section};
 use rail_text::NoMemory;
 use script_text::way_word;
@@ -21,10 +23,11 @@ use std::alloc::{AllocError, Global};
 use std::fmt::Write;
 
 /// The most trains that a section held: after any of the entries of a legal journal, or before them all. There are
-/// fewer than 2^32 entries. Where the journal is clean for the section, that is no more than the section may hold.
+/// fewer than 2^32 entries. Where the journal is clean for the section, that is no more than the section may hold. The
+/// replies tell when the section gains or loses a train, so that no memory is taken.
 #[tactic(auto, using(crate::proofs::MostTrains::one_train_reaches))]
 pub fn most_trains(
-    alloc: Global,
+    _alloc: Global,
     plan: &Plan,
     journal: &Journal,
     section: Section,
@@ -37,23 +40,129 @@ pub fn most_trains(
         → IfOk result (λ most. most ≤ limit_of plan.now section) }
 {
     plan.meets_conditions();
-    most_in(alloc, plan, journal.entries.as_slice(), section)
+    Ok(most_in(plan, journal.entries.as_slice(), section))
 }
 
-// The most trains that a section held, by each entry performed once on a line that opens.
-fn most_in(alloc: Global, plan: &Plan, entries: &[Entry], section: Section) -> Result<u32, NoMemory>
+/// How many trains a section holds, and the most that it held so far.
+#[derive(Clone, Copy)]
+struct HeldTrains {
+    now: u32,
+    most: u32,
+}
+
+// No trains, as a line opens.
+const NO_TRAINS: HeldTrains = HeldTrains { now: 0, most: 0 };
+
+// Whether a lever works the starter of a section.
+fn works_starter(plan: &Plan, section: Section, lever: u32) -> bool
+    requires { IsSection plan.now section }
+    ensures { result ≡ works_starter plan.now section lever }
+{
+    let rear = &plan.boxes.as_slice()[section.rear as usize];
+    starter_way(rear.signal(lever)) == Some(section.way)
+}
+
+// Whether a lever works a home of a section's berth.
+fn works_home(plan: &Plan, section: Section, lever: u32) -> bool
+    requires { IsSection plan.now section }
+    ensures { result ≡ works_home plan.now section lever }
+{
+    let advance = &plan.boxes.as_slice()[section.advance(plan) as usize];
+    match (section.berth(plan), advance.signal(lever)) {
+        (Some(berth), Some(signal)) => signal.from == berth.place,
+        _ => false,
+    }
+}
+
+// Whether a section gains a train by an entry of its rear box: one enters past its starter.
+fn gains_at_rear(plan: &Plan, section: Section, entry: &Entry) -> bool
+    requires { IsSection plan.now section }
+    ensures { result ≡ gains_at_rear plan.now section entry.now.call.act entry.now.reply }
+{
+    match entry.call.act {
+        Act::Pass { lever } | Act::Overrun { lever } => {
+            matches!(entry.reply, Reply::Entered { .. }) && works_starter(plan, section, lever)
+        }
+        _ => false,
+    }
+}
+
+// Whether it gains one by an entry of its box in advance: a train comes into its berth in part.
+fn gains_in_advance(section: Section, entry: &Entry) -> bool
+    ensures { result ≡ gains_in_advance section entry.now.call.act entry.now.reply }
+{
+    match entry.call.act {
+        Act::BerthPart { way } => {
+            way == section.way && matches!(entry.reply, Reply::PartBerthed { .. })
+        }
+        _ => false,
+    }
+}
+
+// Whether it loses one by an entry of its box in advance: a left portion is cleared away, or a train goes out of its
+// berth.
+fn loses_in_advance(plan: &Plan, section: Section, entry: &Entry) -> bool
+    requires { IsSection plan.now section }
+    ensures { result ≡ loses_in_advance plan.now section entry.now.call.act entry.now.reply }
+{
+    match entry.call.act {
+        Act::ClearPortion { way } => {
+            way == section.way && matches!(entry.reply, Reply::Cleared { .. })
+        }
+        Act::Pass { lever } | Act::Overrun { lever } => {
+            matches!(entry.reply, Reply::Passed { .. } | Reply::Entered { .. })
+                && works_home(plan, section, lever)
+        }
+        _ => false,
+    }
+}
+
+// Whether a section gains a train by an entry.
+fn gains(plan: &Plan, section: Section, entry: &Entry) -> bool
+    requires { IsSection plan.now section }
+    ensures { result ≡ gains plan.now section entry.now }
+{
+    entry.box_no == section.rear && gains_at_rear(plan, section, entry)
+        || entry.box_no == section.advance(plan) && gains_in_advance(section, entry)
+}
+
+// Whether a section loses a train by an entry.
+fn loses(plan: &Plan, section: Section, entry: &Entry) -> bool
+    requires { IsSection plan.now section }
+    ensures { result ≡ loses plan.now section entry.now }
+{
+    entry.box_no == section.advance(plan) && loses_in_advance(plan, section, entry)
+}
+
+impl HeldTrains {
+    // A section's trains after an entry: one more where it gains a train, one less where it loses one.
+    fn after(self, plan: &Plan, section: Section, entry: &Entry) -> HeldTrains
+        requires section { IsSection plan.now section }
+        requires few { self.now + 1 < 2 ^ 32 }
+        ensures { result ≡ count_after plan.now section entry.now self }
+    {
+        let gained = self.now + u32::from(gains(plan, section, entry));
+        let now = gained.saturating_sub(u32::from(loses(plan, section, entry)));
+        HeldTrains {
+            now,
+            most: self.most.max(now),
+        }
+    }
+}
+
+// The most trains that a section held, counted entry by entry.
+fn most_in(plan: &Plan, entries: &[Entry], section: Section) -> u32
     requires section { IsSection plan.now section }
     requires legal { IsLegal plan.now entries.now }
     requires few { AreFewEntries entries.now }
-    ensures { IfOk result (λ most. most ≡ most_of plan.now entries.now section) }
+    ensures { result ≡ most_of plan.now entries.now section }
 {
-    let mut plain = Plain::open(alloc, plan)?;
-    let mut most = plain.held(plan, section);
+    plan.meets_conditions();
+    let mut trains = NO_TRAINS;
     for entry in entries {
-        plain.perform(plan, entry.box_no, &entry.call);
-        most = most.max(plain.held(plan, section));
+        trains = trains.after(plan, section, entry);
     }
-    Ok(most)
+    trains.most
 }
 
 // The section of a way between two neighbours: pair `p` is of the boxes `p` and `p + 1`.
@@ -76,80 +185,102 @@ fn section_between(plan: &Plan, pair: usize, way: Way) -> Section
     }
 }
 
-// The trains that the two sections of a pair of neighbours hold.
-fn held_between(plain: &Plain, plan: &Plan, pair: usize) -> ByWay<u32>
-    requires line { IsLineOf plan.now plain.now }
+// The trains of a pair's two sections after an entry.
+fn pair_after(
+    trains: ByWay<HeldTrains>,
+    plan: &Plan,
+    pair: usize,
+    entry: &Entry,
+) -> ByWay<HeldTrains>
     requires pair { pair + 1 < length plan.now.boxes }
-    ensures { result ≡ held_between plan.now plain.now.line pair }
+    requires few { MayGain trains }
+    ensures { result ≡ pair_after plan.now entry.now pair trains }
 {
+    let up = section_between(plan, pair, Way::Up);
+    let down = section_between(plan, pair, Way::Down);
     ByWay {
-        up: plain.held(plan, section_between(plan, pair, Way::Up)),
-        down: plain.held(plan, section_between(plan, pair, Way::Down)),
+        up: trains.up.after(plan, up, entry),
+        down: trains.down.after(plan, down, entry),
     }
 }
 
-// The trains that the sections of each pair hold.
-fn held_by_pairs(alloc: Global, plain: &Plain, plan: &Plan) -> Result<Vec<ByWay<u32>>, NoMemory>
-    requires { IsLineOf plan.now plain.now }
-    ensures { IfOk result (λ held. AreHeld plan.now plain.now.line held.items) }
-{
-    let mut held = Vec::new(alloc);
-    for pair in 0..plan.boxes.len() - 1 {
-        held.push(held_between(plain, plan, pair))?;
-    }
-    Ok(held)
-}
-
-// The greater numbers of trains of two for each way.
-fn raised(most: ByWay<u32>, held: ByWay<u32>) -> ByWay<u32>
-    ensures { result ≡ raised most held }
-{
-    ByWay {
-        up: most.up.max(held.up),
-        down: most.down.max(held.down),
-    }
-}
-
-// Raises the most trains of a pair to those that it holds now. A pair off the line has none.
+// Counts a pair on by an entry. A pair off the line has no trains.
 #[tactic(auto, using(std::proofs::lemmas::List::set_past))]
-fn raise_pair(most: &mut [ByWay<u32>], plain: &Plain, plan: &Plan, pair: usize)
-    requires line { IsLineOf plan.now plain.now }
-    requires each { length most.old + 1 ≡ length plan.now.boxes }
-    ensures { most.new ≡ raised_at plan.now plain.now.line pair most.old }
+fn count_pair(trains: &mut [ByWay<HeldTrains>], plan: &Plan, pair: usize, entry: &Entry)
+    requires each { length trains.old + 1 ≡ length plan.now.boxes }
+    requires few { MayGain (trains_at trains.old pair) }
+    ensures { trains.new ≡ pairs_after plan.now entry.now pair trains.old }
 {
-    if pair < most.len() {
-        most[pair] = raised(most[pair], held_between(plain, plan, pair));
+    if pair < trains.len() {
+        trains[pair] = pair_after(trains[pair], plan, pair, entry);
     }
 }
 
-// Raises the most trains of each pair of a box to those that it holds now: a call of the box changes no other's.
-#[tactic(auto, using(crate::proofs::PairsHeld::raises_one, crate::proofs::PairsHeld::raises_two))]
-fn raise_beside(most: &mut [ByWay<u32>], plain: &Plain, plan: &Plan, box_no: u32)
-    requires line { IsLineOf plan.now plain.now }
-    requires each { length most.old + 1 ≡ length plan.now.boxes }
-    ensures { RaisesBeside plan.now plain.now.line box_no most.old most.new }
+// Counts the pairs of an entry's box on by it: it changes what no other pair's sections hold.
+#[tactic(auto, using(crate::proofs::PairsHeld::counts_one, crate::proofs::PairsHeld::counts_two))]
+fn count_beside(trains: &mut [ByWay<HeldTrains>], plan: &Plan, entry: &Entry)
+    requires each { length trains.old + 1 ≡ length plan.now.boxes }
+    requires few { (pair : ℕ) → MayGain (trains_at trains.old pair) }
+    ensures { CountsBeside plan.now entry.now trains.old trains.new }
 {
-    let after = box_no as usize;
-    raise_pair(most, plain, plan, after);
+    let after = entry.box_no as usize;
+    count_pair(trains, plan, after, entry);
     if after > 0 {
-        raise_pair(most, plain, plan, after - 1);
+        count_pair(trains, plan, after - 1, entry);
     }
 }
 
-// The most trains that the sections of each pair held, by each entry performed once on a line that opens.
-fn most_by_pairs(alloc: Global, plan: &Plan, entries: &[Entry]) -> Result<Vec<ByWay<u32>>, NoMemory>
+// Whether a reply may tell of a train more or less in a section.
+fn counts_trains(reply: &Reply) -> bool
+    ensures { result ≡ counts_trains reply.now }
+{
+    matches!(
+        reply,
+        Reply::Entered { .. }
+            | Reply::PartBerthed { .. }
+            | Reply::Cleared { .. }
+            | Reply::Passed { .. }
+    )
+}
+
+// Counts the trains of each pair on by an entry.
+fn count_on(trains: &mut [ByWay<HeldTrains>], plan: &Plan, entry: &Entry)
+    requires each { length trains.old + 1 ≡ length plan.now.boxes }
+    requires few { (pair : ℕ) → MayGain (trains_at trains.old pair) }
+    ensures { CountsOn plan.now entry.now trains.old trains.new }
+{
+    if counts_trains(&entry.reply) {
+        count_beside(trains, plan, entry);
+    }
+}
+
+// So many pairs with no trains.
+fn no_trains(alloc: Global, pairs: usize) -> Result<Vec<ByWay<HeldTrains>>, NoMemory>
+    ensures { IfOk result (λ trains. trains.items ≡ replicate pairs no_trains) }
+{
+    let none = ByWay {
+        up: NO_TRAINS,
+        down: NO_TRAINS,
+    };
+    Ok(vec![in alloc; none; pairs]?)
+}
+
+// The most trains that the sections of each pair held, counted entry by entry.
+fn most_by_pairs(
+    alloc: Global,
+    plan: &Plan,
+    entries: &[Entry],
+) -> Result<Vec<ByWay<HeldTrains>>, NoMemory>
     requires legal { IsLegal plan.now entries.now }
     requires few { AreFewEntries entries.now }
-    ensures { IfOk result (λ most. AreMost plan.now entries.now most.items) }
+    ensures { IfOk result (λ trains. AreMost plan.now entries.now trains.items) }
 {
     plan.meets_conditions();
-    let mut plain = Plain::open(alloc, plan)?;
-    let mut most = held_by_pairs(alloc, &plain, plan)?;
+    let mut trains = no_trains(alloc, plan.boxes.len() - 1)?;
     for entry in entries {
-        plain.perform(plan, entry.box_no, &entry.call);
-        raise_beside(&mut most, &plain, plan, entry.box_no);
+        count_on(&mut trains, plan, entry);
     }
-    Ok(most)
+    Ok(trains)
 }
 
 // A section as it is named: its way, its rear box and its box in advance.
@@ -178,21 +309,28 @@ fn put_section(out: &mut String, plan: &Plan, section: Section, most: u32) -> Re
 }
 
 // The lines of the two sections of a pair of neighbours: the down line's, then the up line's.
-fn put_pair(out: &mut String, plan: &Plan, pair: usize, most: ByWay<u32>) -> Result<(), AllocError>
+fn put_pair(
+    out: &mut String,
+    plan: &Plan,
+    pair: usize,
+    trains: ByWay<HeldTrains>,
+) -> Result<(), AllocError>
     requires { pair + 1 < length plan.now.boxes }
-    ensures { OnOk result (string_bytes out.new ≡ string_bytes out.old ++ pair_text plan.now pair most) }
+    ensures { OnOk result (string_bytes out.new ≡ string_bytes out.old ++ pair_text plan.now pair trains) }
 {
-    put_section(out, plan, section_between(plan, pair, Way::Down), most.down)?;
-    put_section(out, plan, section_between(plan, pair, Way::Up), most.up)
+    let up = section_between(plan, pair, Way::Up);
+    let down = section_between(plan, pair, Way::Down);
+    put_section(out, plan, down, trains.down.most)?;
+    put_section(out, plan, up, trains.up.most)
 }
 
 // The lines of the sections of all pairs.
-fn put_pairs(out: &mut String, plan: &Plan, most: &[ByWay<u32>]) -> Result<(), AllocError>
-    requires { length most.now + 1 ≡ length plan.now.boxes }
-    ensures { OnOk result (string_bytes out.new ≡ string_bytes out.old ++ pairs_text plan.now 0 most.now) }
+fn put_pairs(out: &mut String, plan: &Plan, trains: &[ByWay<HeldTrains>]) -> Result<(), AllocError>
+    requires { length trains.now + 1 ≡ length plan.now.boxes }
+    ensures { OnOk result (string_bytes out.new ≡ string_bytes out.old ++ pairs_text plan.now 0 trains.now) }
 {
-    for (pair, most) in most.iter().enumerate() {
-        put_pair(out, plan, pair, *most)?;
+    for (pair, trains) in trains.iter().enumerate() {
+        put_pair(out, plan, pair, *trains)?;
     }
     Ok(())
 }
@@ -211,7 +349,7 @@ pub fn put_sections(
     requires few { AreFewEntries journal.now.entries }
     ensures { OnOk result (string_bytes out.new ≡ string_bytes out.old ++ sections_text plan.now journal.now.entries) }
 {
-    let most = most_by_pairs(alloc, plan, journal.entries.as_slice())?;
-    put_pairs(out, plan, &most)?;
+    let trains = most_by_pairs(alloc, plan, journal.entries.as_slice())?;
+    put_pairs(out, plan, &trains)?;
     Ok(())
 }

@@ -7,38 +7,36 @@ use Rattle.std.proofs.lemmas.List.{get_or_push, get_or_append_left}
 use Rattle.line_plan.specs.Plans.{PlanFields}
 use Rattle.line_law.specs.declared.call.Entry.{Entry}
 use Rattle.line_law.specs.History.{IsLegal, part_of, state_of}
-use Rattle.line_law.specs.Law.{box_plan_of}
-use Rattle.line_law.specs.States.{box_at, opening_box}
+use Rattle.line_law.specs.States.{box_at}
 use Rattle.line_law.proofs.Opens.{opening_at}
-use Rattle.box_desk.specs.Desks.{DeskFields, IsDeskOf}
+use Rattle.box_desk.specs.Desks.{DeskFields}
 use Rattle.train_register.specs.Registers.{RegisterFields}
 use Rattle.instrument_rule.specs.declared.view.View.{View}
 use Rattle.instrument_rule.specs.Rule.{most_entries}
 use Rattle.signalman_seats.specs.declared.notes.PlanNotes.{PlanNotes}
-use Rattle.signalman_seats.specs.Men.{IsAtDesk, IsDrawn, IsMan, Man}
+use Rattle.signalman_seats.specs.Men.{AreFittings, IsAtDesk, IsDrawn, IsMan, Man}
 use Rattle.signalman_seats.specs.Notes.{AreNotesOf}
 
 pub new_man : (plan : PlanFields) (b room : ℕ) (v : View) (desk : DeskFields) (register : RegisterFields)
-    (notes : PlanNotes) → b < length plan.boxes → room ≤ 10000 → IsDrawn plan b v → IsDeskOf plan b desk
-    → desk.here ≡ opening_box (length plan.trains) (box_plan_of plan b) → desk.calls ≡ 0
-    → register ≡ record { box_no = b; entries = []; spare = room } → AreNotesOf plan b notes
-    → IsMan v b desk register 0 notes
-new_man plan b room v desk register notes within most drawn of here calls empty noted = record {
+    (notes : PlanNotes) → b < length plan.boxes → room ≤ 10000 → IsDrawn plan b v
+    → AreFittings plan b room desk register notes → IsMan v b desk register 0 notes
+new_man plan b room v desk register notes within most drawn fit = record {
   post = drawn.posts;
   olds = drawn.olds;
   at_desk = subst (λ (o : Option PlanFields). IfSome o (λ p. IsAtDesk p b v.seen desk)) (sym drawn.plan_is) (record {
     legal = subst (IsLegal plan) (sym drawn.seen) tt;
-    desk_of = of;
-    here = here ∙ (sym (opening_at plan b within) ∙ ap (λ (es : List Entry). box_at (state_of plan es) b)
+    desk_of = fit.desk_of;
+    here = fit.here ∙ (sym (opening_at plan b within) ∙ ap (λ (es : List Entry). box_at (state_of plan es) b)
         (sym drawn.seen));
   });
-  box_no = ap (λ (r : RegisterFields). r.box_no) empty;
-  entries = ap (λ (r : RegisterFields). r.entries) empty ∙ ap (part_of b) (sym drawn.seen);
-  room = subst (λ (r : RegisterFields). length r.entries + r.spare ≤ most_entries) (sym empty) (omega (arith, most));
-  calls = calls ∙ sym (ap (λ (r : RegisterFields). length r.entries) empty);
+  box_no = ap (λ (r : RegisterFields). r.box_no) fit.empty;
+  entries = ap (λ (r : RegisterFields). r.entries) fit.empty ∙ ap (part_of b) (sym drawn.seen);
+  room = subst (λ (r : RegisterFields). length r.entries + r.spare ≤ most_entries) (sym fit.empty)
+      (omega (arith, most));
+  calls = fit.calls ∙ sym (ap (λ (r : RegisterFields). length r.entries) fit.empty);
   looks = sym drawn.looks;
   few_looks = omega arith;
-  noted = subst (λ (o : Option PlanFields). IfSome o (λ p. AreNotesOf p b notes)) (sym drawn.plan_is) noted;
+  noted = subst (λ (o : Option PlanFields). IfSome o (λ p. AreNotesOf p b notes)) (sym drawn.plan_is) fit.noted;
 }
 
 -- one more at the end

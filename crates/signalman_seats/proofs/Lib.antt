@@ -5,3 +5,5 @@ pub mod Performing
 pub mod Gathering
 pub mod Noting
 pub mod Fresh
+pub mod OwnBox
+pub mod Refusing

@@ -25,6 +25,7 @@ use Rattle.line_law.specs.Bells.{awaited, heard, rung, silent}
 use Rattle.line_law.specs.Decisions.{Decision, Told, on_pair}
 use Rattle.line_law.specs.Instruments.{same_position}
 use Rattle.line_law.specs.Law.{link_of}
+use Rattle.line_law.specs.Serial.{is_not_yet}
 use Rattle.line_law.specs.Levers.{is_unspent_clear, pulled, pulled_under}
 use Rattle.line_law.specs.Trains.{enter, holds, left_by}
 use Rattle.line_law.specs.Lines.{AreNumbered}
@@ -40,7 +41,6 @@ use Rattle.word_laws.proofs.Lanes.{eqb_no, eqb_yes, if_true, lane-plain_line_num
 use Rattle.word_laws.proofs.TellsKind.{TellsKind}
 use Rattle.word_laws.specs.Operations.{met_by}
 use Rattle.box_desk.specs.Steps.{awaits_of}
-use Rattle.signalman_seats.specs.Men.{is_not_yet}
 
 -- a call that was decided in its box alone isn't told so
 tally_ends : (reply : Reply) → kind_told reply ≡ Tally → is_not_yet reply ≡ false

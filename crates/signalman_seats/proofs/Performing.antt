@@ -20,6 +20,7 @@ use Rattle.line_law.specs.History.{IsLegal, entry_of, part_of, state_of}
 use Rattle.line_law.specs.Known.{KnowsCall, is_code_no, knows_act, knows_side}
 use Rattle.line_law.specs.Law.{at_moment, box_plan_of, decide, link_of, pair_of, step}
 use Rattle.line_law.specs.Links.{way_of}
+use Rattle.line_law.specs.Serial.{is_not_yet}
 use Rattle.line_law.specs.States.{LineState, box_at, no_state, pair_at}
 use Rattle.line_law.proofs.Found.{both}
 use Rattle.line_law.proofs.Histories.{history_states, state_grows}
@@ -44,7 +45,7 @@ use Rattle.instrument_rule.specs.Views.{caller_of}
 use Rattle.instrument_rule.proofs.Doing.{caller_held}
 use Rattle.instrument_rule.proofs.Parts.{part_grows}
 use Rattle.signalman_seats.specs.Asking.{AsksAt, Decided}
-use Rattle.signalman_seats.specs.Men.{Answered, IsAtDesk, Performed, answered, is_not_yet}
+use Rattle.signalman_seats.specs.Men.{Answered, IsAtDesk, Performed, answered}
 use Rattle.signalman_seats.proofs.Looking.{decided, met_here, not_yet}
 use Rattle.signalman_seats.proofs.NotYet.{HasCode, not_yet_missed}
 

@@ -2,3 +2,4 @@ pub mod Asking
 pub mod Notes
 pub mod Men
 pub mod Lines
+pub mod Refusals

@@ -1,5 +1,5 @@
 -- A line with its men, as it opens and as it ends.
-use Rattle.std.specs.Prelude.{◌≡◌, ◌≢◌, ℕ, ◌<◌, List, length, slice_index, slice_index_or}
+use Rattle.std.specs.Prelude.{◌≡◌, ◌≢◌, ℕ, ◌<◌, ◌≤◌, List, length, slice_index, slice_index_or}
 use mathlib.Core.List.{IsPrefix}
 use Rattle.atomic_table.specs.Seated.{TableId}
 use Rattle.line_plan.specs.Plans.{PlanFields}
@@ -18,10 +18,12 @@ pub record AreFresh (table_id : TableId) (plan : PlanFields) (rooms : List ℕ) 
   pub fresh : (b : ℕ) (d : Man) → b < length men
       → IsFresh table_id plan b (slice_index rooms b) (slice_index_or men b d)
 
--- the count of posts drawn was not the number of the box
-abbrev pub WasTaken : OpenError → Type 0
-WasTaken (PostTaken box_no found) = found ≢ box_no
-WasTaken NoMemory = Unit {0}
+-- The box is one of the line, and its post wasn't drawn: so many posts were drawn, which is not the number of the box
+-- and no more than the line has.
+abbrev pub WasTaken : PlanFields → OpenError → Type 0
+WasTaken plan (PostTaken box_no found) =
+    (box_no < length plan.boxes) × (found ≢ box_no) × (found ≤ length plan.boxes)
+WasTaken plan NoMemory = Unit {0}
 
 -- ---- the end
 

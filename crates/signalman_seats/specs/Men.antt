@@ -1,14 +1,15 @@
 -- What contracts see of a signalman, and what one call of his does.
-use Rattle.std.specs.Prelude.{◌≡◌, ℕ, ◌+◌, ◌*◌, ◌≤◌, Bool, true, false, List, [], ◌∷◌, ◌++◌, length, Some, IfSome}
+use Rattle.std.specs.Prelude.{◌≡◌, ℕ, ◌+◌, ◌*◌, ◌≤◌, true, List, [], ◌∷◌, ◌++◌, length, Some, IfSome}
 use mathlib.Core.List.{IsPrefix}
 use Rattle.atomic_table.specs.Seated.{TableId}
 use Rattle.line_plan.specs.Plans.{PlanFields}
 use Rattle.line_law.specs.declared.call.Call.{Call}
 use Rattle.line_law.specs.declared.call.Entry.{Entry}
 use Rattle.line_law.specs.declared.call.Reply.{Reply}
-use Rattle.line_law.specs.declared.call.Reply.TheVariants.{BellNotYet, BlockNotYet, TrainNotYet}
 use Rattle.line_law.specs.History.{IsLegal, part_of, state_of}
-use Rattle.line_law.specs.States.{box_at}
+use Rattle.line_law.specs.Serial.{is_not_yet}
+use Rattle.line_law.specs.Law.{box_plan_of}
+use Rattle.line_law.specs.States.{box_at, opening_box}
 use Rattle.box_desk.specs.Desks.{DeskFields, IsDeskOf}
 use Rattle.train_register.specs.Registers.{RegisterFields}
 use Rattle.instrument_rule.specs.declared.view.View.{View}
@@ -49,6 +50,15 @@ pub record IsDrawn (plan : PlanFields) (b : ℕ) (v : View) : Type 0 where
   pub seen : v.seen ≡ []
   pub looks : v.looks ≡ 0
 
+-- the desk of box b, its register with so much room and its notes of the plan, as a line with that plan opens
+pub record AreFittings (plan : PlanFields) (b room : ℕ) (desk : DeskFields) (register : RegisterFields)
+    (notes : PlanNotes) : Type 0 where
+  pub desk_of : IsDeskOf plan b desk
+  pub here : desk.here ≡ opening_box (length plan.trains) (box_plan_of plan b)
+  pub calls : desk.calls ≡ 0
+  pub empty : register ≡ record { box_no = b; entries = []; spare = room }
+  pub noted : AreNotesOf plan b notes
+
 -- ---- what the type of a signalman keeps
 
 -- a desk of box b after what was seen of a line
@@ -77,13 +87,6 @@ pub record IsMan (v : View) (b : ℕ) (desk : DeskFields) (register : RegisterFi
 -- the entry of a call of box b with this reply
 abbrev pub answered : ℕ → Call → Reply → Entry
 answered b call reply = record { box_no = b; call = call; reply = reply }
-
--- the reply of an await that was not satisfied
-abbrev pub is_not_yet : Reply → Bool
-is_not_yet (BellNotYet k shown) = true
-is_not_yet (BlockNotYet v shown) = true
-is_not_yet (TrainNotYet j) = true
-is_not_yet reply = false
 
 -- A call was performed. What the man has seen after it begins with all that he had seen, and is legal; its last entry
 -- is his box, this call and this reply, and it is the one entry more of his part. An await that was not satisfied has

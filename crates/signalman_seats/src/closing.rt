@@ -36,6 +36,8 @@ pub fn close_line(alloc: Global, line: Line, mut men: Vec<Signalman>) -> Result<
         post.join(&line, theirs);
         registers.push_reserved(register);
     }
+    drop(post);
+    drop(line);
     Ok(Ended {
         registers: Items::from_vec(registers),
     })

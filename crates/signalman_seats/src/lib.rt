@@ -5,11 +5,14 @@
 #![tactic(auto)]
 
 mod closing;
+mod fittings;
+mod laws;
 mod looks;
 mod man;
 mod notes;
 mod opening;
 
 pub use closing::{CloseRefused, close_line};
+pub use laws::refusal_law;
 pub use man::Signalman;
 pub use opening::{OpenError, open_line};

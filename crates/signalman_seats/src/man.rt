@@ -1,6 +1,6 @@
 //! A signalman.
 
-ghost use Rattle.std.specs.Prelude.{◌≡◌, ◌+◌, ◌<◌, ◌≤◌, [], ◌∷◌, IfOk, Some, length};
+ghost use Rattle.std.specs.Prelude.{◌≡◌, ◌+◌, ◌<◌, ◌≤◌, ℕ, [], ◌∷◌, Some, length};
 ghost use mathlib.Core.List.{IsPrefix};
 ghost use Rattle.line_law.specs.History.{IsLegal, part_of};
 ghost use Rattle.line_plan.specs.Plans.{PlanFields};
@@ -8,16 +8,14 @@ ghost use Rattle.line_law.specs.Known.{KnowsCall, knows_call};
 ghost use Rattle.instrument_rule.specs.Calls.{Sits};
 ghost use Rattle.instrument_rule.specs.Rule.{Seen};
 ghost use Rattle.instrument_rule.specs.Views.{twin_view};
-ghost use Rattle.signalman_seats.specs.Men.{IsDrawn, IsFresh, IsOf, Performed};
+ghost use Rattle.signalman_seats.specs.Men.{AreFittings, IsDrawn, IsFresh, IsOf, Performed};
 
+use crate::fittings::Fittings;
 use crate::looks::{Answer, work};
 use crate::notes::PlanNotes;
 use box_desk::Desk;
 use instrument_rule::{Line, Post};
 use line_law::{Call, Entry, Reply};
-use line_plan::Plan;
-use rail_text::NoMemory;
-use std::alloc::Global;
 use std::marker::Model;
 use train_register::Register;
 
@@ -54,30 +52,28 @@ impl Model for Signalman {
 }
 
 impl Signalman {
-    // A man at a post that has just drawn his box, with room for so many entries.
-    pub(crate) fn at_post(
-        alloc: Global,
-        plan: &Plan,
-        post: Post,
-        box_no: u32,
-        room: usize,
-    ) -> Result<Signalman, NoMemory>
-        requires known { box_no < length plan.now.boxes }
-        requires room { room ≤ 10000 }
-        requires drawn { IsDrawn plan.now box_no post.seat.me.0 }
-        ensures { IfOk result (λ man. IsFresh post.seat.table_id plan.now box_no room man) }
+    // A man at a post that has just drawn his box, with what he works with there.
+    pub(crate) fn at_post(post: Post, box_no: u32, fittings: Fittings) -> Signalman
+        requires drawn { (plan : PlanFields) × (room : ℕ) × (box_no < length plan.boxes) × (room ≤ 10000)
+            × IsDrawn plan box_no post.seat.me.0
+            × AreFittings plan box_no room fittings.desk fittings.register fittings.notes }
+        ensures { (plan : PlanFields) (room : ℕ) → IsDrawn plan box_no post.seat.me.0
+            → AreFittings plan box_no room fittings.desk fittings.register fittings.notes
+            → IsFresh post.seat.table_id plan box_no room result }
     {
-        let desk = Desk::open(alloc, plan, box_no)?;
-        let register = Register::new(alloc, box_no, room)?;
-        let notes = PlanNotes::of_plan(alloc, plan, box_no)?;
-        Ok(Signalman {
+        let Fittings {
+            desk,
+            register,
+            notes,
+        } = fittings;
+        Signalman {
             post,
             box_no,
             desk,
             register,
             looks_taken: 0,
             notes,
-        })
+        }
     }
 
     // His post and his register.
@@ -90,11 +86,13 @@ impl Signalman {
         let Self {
             post,
             box_no: _,
-            desk: _,
+            desk,
             register,
             looks_taken: _,
-            notes: _,
+            notes,
         } = self;
+        drop(desk);
+        drop(notes);
         (post, register)
     }
 
@@ -147,14 +145,15 @@ impl Signalman {
     /// satisfied, so many times at most, and may pause between two looks. It takes no memory and waits for nobody.
     ///
     /// What he has seen has grown to a legal history of the line whose last entry is his box, this call and the reply,
-    /// the one entry more of his part. So the reply is the law's after what stands before it there:
+    /// the one entry more of his part. So the reply is the law's after what stands before it there; of a refusal
+    /// [`refusal_law`](crate::refusal_law) says why it comes:
     ///
     /// - `BellBusy` and `Silent`: at the step the bell held an unheard code, or none.
     /// - `HeldByInstrument`: his box lets the lever move, and at the step the instrument wasn't at Line Clear unspent.
     /// - `SectionFull`: his box lets the train go, and at the step its lane was taken.
     /// - `NoTrainAt`: his box lets the train come, and at the step its lane was empty.
-    /// - `BellNotYet`, `BlockNotYet` and `TrainNotYet`: no look found what the call waits for, and he took exactly
-    ///   `looks` of them.
+    /// - `BellNotYet`, `BlockNotYet` and `TrainNotYet`: the last look didn't find what the call waits for, and he took
+    ///   exactly `looks` of them.
     /// - Any other refusal: the state of his own box, whatever the others did.
     pub fn perform(&mut self, line: &Line, call: Call, looks: u32) -> Reply
         requires line { IsOf line.now.table.shared.table_id line.now.table.shared.key self.old }

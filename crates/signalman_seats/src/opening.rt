@@ -3,8 +3,9 @@
 ghost use Rattle.std.specs.Prelude.{◌≡◌, ◌<◌, ◌≤◌, All, IfErr, IfOk, length};
 ghost use Rattle.instrument_rule.specs.Views.{first_view};
 ghost use Rattle.signalman_seats.specs.Lines.{AreFresh, WasTaken};
-ghost use Rattle.signalman_seats.specs.Men.{IsFresh};
+ghost use Rattle.signalman_seats.specs.Men.{IsDrawn, IsFresh};
 
+use crate::fittings::Fittings;
 use crate::man::Signalman;
 use instrument_rule::{Line, Post, open_words};
 use line_plan::Plan;
@@ -42,6 +43,26 @@ impl From<AllocError> for OpenError {
     }
 }
 
+// The post of a box of a line that opens, which is drawn next.
+fn draw(line: &Line, first: &mut Post, box_no: u32) -> Result<Post, OpenError>
+    requires table { first.old.seat.table_id ≡ line.now.table.shared.table_id }
+    requires view { first.old.seat.me.0 ≡ first_view line.now.table.shared.key }
+    requires known { box_no < length line.now.table.shared.key.boxes }
+    ensures table { first.new.seat.table_id ≡ first.old.seat.table_id }
+    ensures view { first.new.seat.me.0 ≡ first.old.seat.me.0 }
+    ensures post { IfOk result (λ post. post.seat.table_id ≡ line.now.table.shared.table_id) }
+    ensures drawn { IfOk result (λ post. IsDrawn line.now.table.shared.key box_no post.seat.me.0) }
+    ensures taken { IfErr result (WasTaken line.now.table.shared.key) }
+{
+    let mut post = first.split(line);
+    let found = post.take(line, box_no);
+    if found != box_no as u64 {
+        drop(post);
+        return Err(OpenError::PostTaken { box_no, found });
+    }
+    Ok(post)
+}
+
 // A man for a box of a line that opens, whose post is drawn next.
 fn seat_man(
     alloc: Global,
@@ -59,15 +80,16 @@ fn seat_man(
     ensures table { first.new.seat.table_id ≡ first.old.seat.table_id }
     ensures view { first.new.seat.me.0 ≡ first.old.seat.me.0 }
     ensures fresh { IfOk result (λ man. IsFresh line.now.table.shared.table_id plan.now box_no room man) }
-    ensures taken { IfErr result WasTaken }
+    ensures taken { IfErr result (WasTaken plan.now) }
 {
-    let mut post = first.split(line);
-    let found = post.take(line, box_no);
-    if found != box_no as u64 {
-        drop(post);
-        return Err(OpenError::PostTaken { box_no, found });
+    let post = draw(line, first, box_no)?;
+    match Fittings::open(alloc, plan, box_no, room) {
+        Ok(fittings) => Ok(Signalman::at_post(post, box_no, fittings)),
+        Err(NoMemory) => {
+            drop(post);
+            Err(OpenError::NoMemory)
+        }
     }
-    Ok(Signalman::at_post(alloc, plan, post, box_no, room)?)
 }
 
 // A man for each box of a line that opens, in order.
@@ -85,11 +107,17 @@ fn seat_men(
     requires boxes { length plan.now.boxes ≤ 64 }
     requires rooms { All (λ n. n ≤ 10000) lengths.now }
     ensures fresh { IfOk result (λ men. AreFresh line.now.table.shared.table_id plan.now lengths.now men.items) }
-    ensures taken { IfErr result WasTaken }
+    ensures taken { IfErr result (WasTaken plan.now) }
 {
     let mut men = Vec::with_capacity(alloc, lengths.len())?;
     for i in 0..lengths.len() {
-        men.push_reserved(seat_man(alloc, plan, line, first, i as u32, lengths[i])?);
+        match seat_man(alloc, plan, line, first, i as u32, lengths[i]) {
+            Ok(man) => men.push_reserved(man),
+            Err(error) => {
+                drop(men);
+                return Err(error);
+            }
+        }
     }
     Ok(men)
 }
@@ -99,7 +127,10 @@ fn seat_men(
 ///
 /// # Errors
 ///
-/// `PostTaken` only where a draw of this call found that another number of posts was drawn; the line is then given up.
+/// `PostTaken` where a draw of this call found another number of posts drawn than the number of its box; the line is
+/// then given up. Its contract says of the two numbers that they differ, that the first is a box of the line and that
+/// the second is no greater than the number of boxes. That a draw met the second, and that a line which opens loses no
+/// draw, is tested alone.
 /// `NoMemory` where memory runs out.
 pub fn open_line(
     alloc: Global,
@@ -110,11 +141,17 @@ pub fn open_line(
     requires rooms { All (λ n. n ≤ 10000) lengths.now }
     ensures line { IfOk result (λ r. r.0.table.shared.key ≡ plan.now) }
     ensures men { IfOk result (λ r. AreFresh r.0.table.shared.table_id plan.now lengths.now r.1.items) }
-    ensures taken { IfErr result WasTaken }
+    ensures taken { IfErr result (WasTaken plan.now) }
 {
     plan.meets_conditions();
     let (line, mut first) = open_words(alloc, plan)?;
-    let men = seat_men(alloc, plan, &line, &mut first, lengths)?;
+    let seated = seat_men(alloc, plan, &line, &mut first, lengths);
     drop(first);
-    Ok((line, men))
+    match seated {
+        Ok(men) => Ok((line, men)),
+        Err(error) => {
+            drop(line);
+            Err(error)
+        }
+    }
 }

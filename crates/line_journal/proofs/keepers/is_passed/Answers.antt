@@ -1,8 +1,9 @@
-use Rattle.std.proofs.Common.{ℕ, ◌≡◌, ◌∙◌, refl, sym, ap, arith}
+use Rattle.std.proofs.Common.{◌≡◌, ◌∙◌, refl, sym, ap, arith}
+use Rattle.line_law.specs.declared.link.Link.{Link}
+use Rattle.line_law.specs.Links.{pair_no}
 use Rattle.line_journal.specs.Halves.{pair_for}
 use Rattle.line_journal.specs.Keepers.{other_box}
-use Rattle.line_journal.proofs.Lines.{pair_on}
-use Rattle.line_journal.proofs.Passing.{kept_word, none_passes, other_passes, passes_other, unkept_passes}
+use Rattle.line_journal.proofs.Passing.{none_passes, other_passes, passes_other, unkept_passes}
 use Rattle.line_journal.proofs.keepers.is_passed.Goals as goal
 
 pub returns-then-kept_by-eq0-clause-passed : goal.returns-then-kept_by-eq0-clause-passed
@@ -16,9 +17,8 @@ pub returns-then-other-boxes-clause-passed : goal.returns-then-other-boxes-claus
 returns-then-other-boxes-clause-passed c =
     let other-is : c.other_box-other.result ≡ other_box c.args.entry.now.box_no
     (pair_for c.args.plan.now c.args.entry.now) =
-    c.other_box-other.ensures ∙ ap (λ (p : ℕ). other_box c.args.entry.now.box_no p)
-    (pair_on c.args.plan.now c.args.entry.now c.args.line c.requires.line (kept_word c.args.entry.now.reply
-    (λ none. c.if-kept_by-eq0.false (c.kept_by.ensures ∙ none)))) in (
+    c.other_box-other.ensures ∙ ap (λ (l : Link). other_box c.args.entry.now.box_no (pair_no c.args.entry.now.box_no l))
+    c.requires.line in (
       λ yes. other_passes c.args.plan.now c.args.left.now c.args.box_no c.other_box-other.result c.args.entry.now
           c.requires.boxes c.requires.own other-is
           (none_passes c.args.plan.now c.args.left.now c.other_box-other.result c.args.entry.now
@@ -30,9 +30,8 @@ pub returns-clause-passed : goal.returns-clause-passed
 returns-clause-passed c =
     let other-is : c.other_box-other.result ≡ other_box c.args.entry.now.box_no
     (pair_for c.args.plan.now c.args.entry.now) =
-    c.other_box-other.ensures ∙ ap (λ (p : ℕ). other_box c.args.entry.now.box_no p)
-    (pair_on c.args.plan.now c.args.entry.now c.args.line c.requires.line (kept_word c.args.entry.now.reply
-    (λ none. c.if-kept_by-eq0.false (c.kept_by.ensures ∙ none)))) in (
+    c.other_box-other.ensures ∙ ap (λ (l : Link). other_box c.args.entry.now.box_no (pair_no c.args.entry.now.box_no l))
+    c.requires.line in (
       λ yes. other_passes c.args.plan.now c.args.left.now c.args.box_no c.other_box-other.result c.args.entry.now
           c.requires.boxes c.requires.own other-is (c.lets_pass.ensures.passes.0 yes),
       λ passed. c.lets_pass.ensures.passes.1

@@ -1,4 +1,4 @@
-use Rattle.std.proofs.Common.{◌≡◌, length}
+use Rattle.std.proofs.Common.{◌+◌, ◌-◌, ◌*◌, ◌≡◌, length}
 use Rattle.line_journal.specs.Keepers.{AreRests, NoneAsleepOpen, NoneOpenBelow}
 use Rattle.line_journal.specs.Lists.{count_left}
 use Rattle.line_journal.specs.Merging.{Merges}
@@ -16,4 +16,5 @@ invariant-loop-box_no l = record {
 }
 
 abbrev pub decreases-loop-box_no : goal.decreases-loop-box_no
-decreases-loop-box_no l = count_left l.left
+decreases-loop-box_no l =
+    count_left l.left * (length l.plan.boxes + 1) + (length l.plan.boxes - l.from)

@@ -8,10 +8,10 @@ loop-i-preserved c =
     let line = c.args.line.now in
     let plan = c.args.plan.now in
     let rooms = c.args.lengths.now in
-    let man = c.in_ok-seat_man.field-0 in
+    let man = c.in-Ok.man in
     let P : ℕ → Man → Type 0 = λ k m. IsFresh line.table.shared.table_id plan k (slice_index rooms k) m in
     let items : c.push_reserved.new.self.items ≡ c.loop-i.men.items ++ man ∷ [] = c.push_reserved.ensures.items in
-    let fresh : P c.loop-i.i man = c.in_ok-seat_man.ensures.fresh in
+    let fresh : P c.loop-i.i man = c.in-Ok.ensures.fresh in
     record {
       table = c.seat_man.ensures.table ∙ c.loop-i.invariant.table;
       view = c.seat_man.ensures.view ∙ c.loop-i.invariant.view;

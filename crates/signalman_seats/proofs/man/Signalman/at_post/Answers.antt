@@ -3,6 +3,6 @@ use Rattle.signalman_seats.proofs.man.Signalman.at_post.Goals as goal
 
 pub invariant_of-result : goal.invariant_of-result
 invariant_of-result c =
-    new_man c.args.plan.now c.args.box_no c.args.room c.args.post.seat.me.0 c.in_ok-desk.desk c.in_ok-register.register
-    c.in_ok-notes.notes c.requires.known c.requires.room c.requires.drawn c.in_ok-desk.ensures.desk
-    c.in_ok-desk.ensures.here c.in_ok-desk.ensures.calls c.in_ok-register.ensures c.in_ok-notes.ensures
+    let d = c.requires.drawn in
+    new_man d.0 c.args.box_no d.1 c.args.post.seat.me.0 c.args.fittings.desk c.args.fittings.register
+    c.args.fittings.notes d.2 d.3 d.4 d.5

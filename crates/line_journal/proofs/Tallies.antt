@@ -1,0 +1,123 @@
+-- Where no lower box is open, the entries of a box that were decided on its own tally are placed one after another.
+use Rattle.std.proofs.Common.{ℕ, ◌+◌, ◌++◌, ◌≡◌, ◌<◌, List, [], ◌∷◌, Some, Bool, false, drop, length}
+use Rattle.std.proofs.Common.{slice_index_or, refl, sym, ap, subst, ◌∙◌, arith}
+use Rattle.std.specs.Prelude.{if◌then◌else◌}
+use Rattle.std.proofs.lemmas.List.{drop_more, get_or-set_same, length-set}
+use Rattle.line_plan.specs.Plans.{IsPlan, PlanFields}
+use Rattle.line_law.specs.declared.call.Entry.{Entry}
+use Rattle.line_law.specs.declared.state.PairState.{PairState}
+use Rattle.word_laws.specs.TellsWord.{kind_told}
+use Rattle.line_journal.specs.FitTests.{is_word}
+use Rattle.line_journal.specs.Halves.{made, pair_for}
+use Rattle.line_journal.specs.Keepers.{AreRests, IsFirstAwake, IsOpen, NoneAsleepOpen, NoneOpenBelow, opens_from}
+use Rattle.line_journal.specs.Keepers.{pair_woken, woken}
+use Rattle.line_journal.specs.Lists.{count_left}
+use Rattle.line_journal.specs.Merging.{IsKept, KeepsMerging, Merges}
+use Rattle.line_journal.specs.Order.{list_at, placed}
+use Rattle.line_journal.proofs.Answering.{awake_below, below_as}
+use Rattle.line_journal.proofs.Deciding.{fits_if, tally_fits, tally_made}
+use Rattle.line_journal.proofs.Found.{rests_next}
+use Rattle.line_journal.proofs.Lefts.{drop_next}
+use Rattle.line_journal.proofs.Looping.{fewer, grows, of_boxes, own_box}
+use Rattle.line_journal.proofs.Nearby.{asleep_as, none_opens, none_wakes}
+use Rattle.line_journal.proofs.Opening.{lowest_set}
+use Rattle.line_journal.proofs.Orders.{in_range}
+use Rattle.line_journal.proofs.Passing.{unkept_passes, unkept_tally}
+
+-- such an entry is open
+tally_open : (plan : PlanFields) (pairs : List PairState) (lists : List (List Entry)) (b : ℕ) (e : Entry)
+    → list_at lists b ≡ e ∷ drop 1 (list_at lists b) → is_word (kind_told e.reply) ≡ false → IsOpen plan pairs lists b
+tally_open plan pairs lists b e next tally =
+    record {
+      entry = e;
+      rest = drop 1 (list_at lists b);
+      next = next;
+      fits = fits_if plan pairs e (tally_fits plan pairs e tally);
+      passed = unkept_passes plan lists b e (unkept_tally e.reply tally);
+    }
+
+tally_woken : (plan : PlanFields) (e : Entry) (awake : List Bool) → is_word (kind_told e.reply) ≡ false
+    → woken plan e awake ≡ awake
+tally_woken plan e awake tally =
+    ap (λ (w : Bool). if w then pair_woken (pair_for plan e) awake else awake) tally
+
+tally_from : (plan : PlanFields) (e : Entry) → is_word (kind_told e.reply) ≡ false → opens_from plan e ≡ e.box_no
+tally_from plan e tally = ap (λ (w : Bool). if w then pair_for plan e else e.box_no) tally
+
+-- all is kept as it is placed
+kept_tally : (plan : PlanFields) (all : List (List Entry)) (done : List Entry) (pairs : List PairState)
+    (lists : List (List Entry)) (b : ℕ) (awake : List Bool) (rests : List ℕ) (e : Entry) → IsPlan plan
+    → IsKept plan all done pairs lists b awake rests → list_at lists b ≡ e ∷ drop 1 (list_at lists b)
+    → is_word (kind_told e.reply) ≡ false → IsKept plan all (done ++ e ∷ []) pairs (placed lists b) b awake rests
+kept_tally plan all done pairs lists b awake rests e is kept next tally =
+    let opens = tally_open plan pairs lists b e next tally in
+    let are = of_boxes plan all done pairs lists is kept.merges in
+    let own = (own_box plan lists b e _ are next).own in
+    let same : made plan pairs e ≡ pairs = tally_made plan pairs e tally in
+    let lowest = lowest_set plan all done pairs lists (Some b) is kept.merges (opens, kept.below) in
+    record {
+      merges =
+          subst (λ (ps : List PairState). Merges plan all (done ++ e ∷ []) ps (placed lists b)) same
+          (grows plan all done pairs lists b e is kept.merges lowest next);
+      below =
+          below_as plan (made plan pairs e) pairs (placed lists b) (placed lists b) (opens_from plan e) b (sym same)
+          refl (sym (tally_from plan e tally ∙ own)) (none_opens plan pairs lists b e _ are next own kept.below);
+      asleep =
+          asleep_as plan (made plan pairs e) pairs (placed lists b) (placed lists b) (woken plan e awake) awake
+          (sym same) refl (sym (tally_woken plan e awake tally))
+          (none_wakes plan pairs lists b e _ awake are next opens kept.asleep);
+      are_rests = rests_next plan lists rests b kept.are_rests (in_range lists b e _ next);
+    }
+
+pub keeps_all : (b : ℕ) (done : List Entry) (lists : List (List Entry)) → KeepsMerging b done lists done lists
+keeps_all b done lists =
+    record { count = refl; fewer = omega arith; keeps = λ plan all pairs awake rests is kept. kept }
+
+pub keeps_more : (b : ℕ) (done : List Entry) (lists : List (List Entry)) (more further : List Entry)
+    (left after : List (List Entry)) (e : Entry) → KeepsMerging b done lists more left
+    → list_at left b ≡ e ∷ drop 1 (list_at left b) → is_word (kind_told e.reply) ≡ false → further ≡ more ++ e ∷ []
+    → after ≡ placed left b → KeepsMerging b done lists further after
+keeps_more b done lists more further left after e keeps next tally f a =
+    subst (λ (es : List Entry). KeepsMerging b done lists es after) (sym f)
+    (subst (λ (ls : List (List Entry)). KeepsMerging b done lists (more ++ e ∷ []) ls) (sym a) all) where
+      less : count_left (placed left b) < count_left left
+      less = fewer left b e _ next
+
+      all : KeepsMerging b done lists (more ++ e ∷ []) (placed left b)
+      all = record {
+        count = length-set left b _ ∙ keeps.count;
+        fewer = omega (arith, less, keeps.fewer);
+        keeps =
+            λ plan all pairs awake rests is kept. kept_tally plan all more pairs left b awake rests e is
+            (keeps.keeps plan all pairs awake rests is kept) next tally;
+      }
+
+-- the entry at a place of a list that is left from there on
+pub next_at : (left : List (List Entry)) (b i : ℕ) (list : List Entry) (d : Entry) → i < length list
+    → list_at left b ≡ drop i list → list_at left b ≡ slice_index_or list i d ∷ drop 1 (list_at left b)
+next_at left b i list d within rest =
+    let at : drop i list ≡ slice_index_or list i d ∷ drop (i + 1) list = drop_more list i d within in
+    let later : drop 1 (list_at left b) ≡ drop (i + 1) list =
+    ap (λ (l : List Entry). drop 1 l) (rest ∙ at) in
+    rest ∙ at ∙ ap (λ (l : List Entry). slice_index_or list i d ∷ l) (sym later)
+
+pub rest_after : (left after : List (List Entry)) (b i : ℕ) (list : List Entry) → b < length left
+    → list_at left b ≡ drop i list → after ≡ placed left b → list_at after b ≡ drop (i + 1) list
+rest_after left after b i list within rest a =
+    ap (λ (ls : List (List Entry)). list_at ls b) a ∙ get_or-set_same left b _ [] within
+    ∙ ap (λ (l : List Entry). drop 1 l) rest ∙ sym (drop_next i list)
+
+-- as the loop of the merge comes to the first box that is awake, and these entries of it are placed
+pub kept_from : (plan : PlanFields) (all : List (List Entry)) (done : List Entry) (pairs : List PairState)
+    (lists : List (List Entry)) (awake asked : List Bool) (rests : List ℕ) (from b : ℕ) (more : List Entry)
+    (left : List (List Entry)) → IsPlan plan → Merges plan all done pairs lists → AreRests plan lists rests
+    → NoneAsleepOpen plan pairs lists awake → NoneOpenBelow plan pairs lists from → asked ≡ awake
+    → IsFirstAwake asked from (Some b) → KeepsMerging b done lists more left
+    → IsKept plan all more pairs left b awake rests
+kept_from plan all done pairs lists awake asked rests from b more left is m are asleep below same first keeps =
+    keeps.keeps plan all pairs awake rests is (record {
+      merges = m;
+      below = awake_below plan pairs lists awake asked from b same asleep below first;
+      asleep = asleep;
+      are_rests = are;
+    })
