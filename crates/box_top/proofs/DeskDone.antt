@@ -1,9 +1,21 @@
 -- What is printed where a command of the desk is done.
-use Rattle.std.proofs.Common.{◌≡◌, ℕ, List, [], ◌∷◌, Option, Some, None, Result, Ok, Err, OnOk, length, get_or, refl, sym, ap, subst, ◌∙◌, arith}
+use Rattle.std.specs.Prelude.{All}
+use Rattle.std.proofs.Common.{◌≡◌, ℕ, ◌<◌, List, [], ◌∷◌, Option, Some, None, Result, Ok, Err, OnOk, length, get_or}
+use Rattle.std.proofs.Common.{refl, sym, ap, subst, ◌∙◌, arith}
 use Rattle.std.proofs.lemmas.List.{length-map}
+use Rattle.std.proofs.lemmas.List.Elements.{All-weaker}
+use Rattle.locking_table.specs.Places.{most_levers}
+use Rattle.locking_table.specs.Sound.{IsRow, RowFits}
+use Rattle.tappet_compiler.proofs.Tappets.{compiled_fits}
+use Rattle.frame_chart.specs.Charts.{IsChartOf}
+use Rattle.frame_chart.specs.Laying.{chart_of}
+use Rattle.frame_chart.specs.Printing.{box_chart_text, bridles_of, chart_text}
+use Rattle.frame_chart.specs.Spans.{spans_of}
+use Rattle.frame_chart.proofs.Told.{the_chart}
 use Rattle.rail_text.specs.Bytes.{appended}
 use Rattle.rail_text.specs.Gives.{Fault}
-use Rattle.line_plan.specs.Plans.{IsPlan, PlanFields, names_of}
+use Rattle.line_plan.specs.Frames.{BoxFields}
+use Rattle.line_plan.specs.Plans.{IsBoxRow, IsPlan, PlanFields, box_at, names_of}
 use Rattle.plan_text.specs.Printing.{plan_text}
 use Rattle.plan_draft.specs.Reading.{plan_of}
 use Rattle.line_plan.specs.Upgrades.{upgraded}
@@ -24,15 +36,20 @@ use Rattle.command_words.specs.declared.command.DeskCommand.TheVariants as desk
 use Rattle.box_top.specs.declared.status.Status.{Status}
 use Rattle.box_top.specs.declared.status.Status.TheVariants as statuses
 use Rattle.text_fetch.specs.declared.stop.Stop.{Stop}
-use Rattle.command_words.specs.Commands.{Command, desk_shown}
-use Rattle.desk_reports.specs.Frames.{box_named, box_told, frame_text, frame_told}
-use Rattle.box_top.specs.Headlines.{AreFindings, IsJudgementOf, IsWrongText, PrintsFindings, PrintsFrame, PrintsJudgement, PrintsUpgrade, Reported}
-use Rattle.desk_reports.specs.Judgements.{Case, IsJudged, IsLawful, case_told, judgement_of}
-use Rattle.box_top.specs.Outcomes.{IsSound, command_told}
-use Rattle.text_fetch.specs.FromTexts.{AreTold, Held, FromTexts, Untold, Gives, Refuses, IsGiven, Makes, plan_told, read_told, text_told, told_then}
+use Rattle.command_words.specs.Commands.{desk_shown}
+use Rattle.desk_reports.specs.Charts.{chart_told, plan_chart_told}
+use Rattle.desk_reports.specs.Frames.{box_named, box_told, frame_text, frame_told, plan_frame_told}
+use Rattle.desk_reports.specs.Reports.{findings_told, upgrade_told}
+use Rattle.box_top.specs.Headlines.{AreFindings, IsJudgementOf, IsWrongText, PrintsChart, PrintsFindings, PrintsFrame}
+use Rattle.box_top.specs.Headlines.{PrintsJudgement, PrintsUpgrade, Reported}
+use Rattle.desk_reports.specs.Judgements.{Case, IsJudged, IsLawful, case_told, judgement_of, judgement_told}
+use Rattle.line_runs.specs.Outputs.{MakesText}
+use Rattle.box_top.specs.Outcomes.{IsPrintOf, IsSound, command_told}
+use Rattle.text_fetch.specs.FromTexts.{AreTold, Held, FromTexts, Untold, Gives, Refuses, IsGiven, Makes, plan_told}
+use Rattle.text_fetch.specs.FromTexts.{read_told, text_told, told_then}
 use Rattle.box_top.specs.Top.{PutOutcome}
 use Rattle.box_top.proofs.AllTold.{IsTold, told_case, told_plan}
-use Rattle.box_top.proofs.Outcomes.{IsPut, outcome_done}
+use Rattle.box_top.proofs.Outcomes.{IsPut, exactly_makes, outcome_done}
 
 -- ---- a plan and what is printed of it
 
@@ -105,6 +122,45 @@ frame_done held plan_name name old new p = go (box_named p.plan name) refl p.giv
         taken = p.taken ∙ ap (appended old) (sym h);
       }
 
+-- ---- a chart
+
+-- the text of a box's chart
+chart_printed : (box_plan : BoxFields) → box_chart_text box_plan
+    ≡ chart_text box_plan (bridles_of box_plan) (chart_of (bridles_of box_plan))
+unfolding box_chart_text
+chart_printed box_plan = refl
+
+-- a box whose rows are as rows of a box are has its chart
+box_is_charted : (box_plan : BoxFields) → All (IsBoxRow box_plan) box_plan.rows
+    → IsChartOf (spans_of (bridles_of box_plan)) (chart_of (bridles_of box_plan))
+box_is_charted box_plan rows =
+    let spelled = All-weaker (IsBoxRow box_plan) IsRow (λ row h. h.spelled) box_plan.rows rows in
+    let fits = All-weaker IsRow (RowFits most_levers) (λ row h. h.levers) box_plan.rows spelled in
+    the_chart (bridles_of box_plan) (compiled_fits most_levers 1 box_plan.rows spelled fits)
+
+chart_done : (held : Held) (plan_name name : List ℕ) (old new : Option (List ℕ))
+    → PrintsOf held plan_name (λ plan. chart_told plan name) old new → PrintsChart held plan_name name old new
+chart_done held plan_name name old new p = go (box_named p.plan name) refl p.given where
+  go : (found : Option ℕ) → box_named p.plan name ≡ found
+      → IsGiven p.text (told_then (box_told p.plan found) (λ box_plan. Gives (box_chart_text box_plan)))
+      → PrintsChart held plan_name name old new
+  go None e h = absurd h
+  go (Some b) e h =
+      let is = found_is (names_of p.plan.boxes) name b e in
+      let within : b < length p.plan.boxes =
+      omega (arith, is.0, length-map p.plan.boxes (λ box_plan. box_plan.name)) in
+      let box_plan = box_at p.plan.boxes b in
+      record {
+        plan = p.plan;
+        spelled = p.spelled;
+        box_no = b;
+        within = within;
+        named = sym is.1;
+        chart = chart_of (bridles_of box_plan);
+        is = box_is_charted box_plan ((plan_is held plan_name p.plan p.spelled).each b within).rows;
+        taken = p.taken ∙ ap (appended old) (sym h ∙ chart_printed box_plan);
+      }
+
 -- ---- an upgrade
 
 upgrade_done : (held : Held) (name : List ℕ) (old new : Option (List ℕ)) → PrintsOf held name (λ plan. Gives (plan_text (upgraded plan))) old new → PrintsUpgrade held name old new
@@ -148,7 +204,7 @@ judgement_is case judged =
     }
 
 judge_done : {X : Type 0} (outcome : Result X Stop) (view : X → List ℕ) (held : Held) (name other : List ℕ) (old new : Option (List ℕ)) (status : Status)
-    → Makes view outcome (command_told held (Command.Judge name other)) → OnOk outcome (IsJudged (case_told held name other)) → PutOutcome view outcome old new status → status ≡ statuses.Done
+    → Makes view outcome (judgement_told held name other) → OnOk outcome (IsJudged (case_told held name other)) → PutOutcome view outcome old new status → status ≡ statuses.Done
     → AreTold held (name ∷ other ∷ []) → PrintsJudgement held name other old new
 judge_done {X = X} outcome view held name other old new status made judged put e told = go (outcome_done outcome view old new status put e) where
   prints : (text : List ℕ) (t : FromTexts Case) → new ≡ appended old text → case_told held name other ≡ t → IsTold t → IsGiven text (told_then t (λ case. Gives (judgement_of case))) → IsJudged t → PrintsJudgement held name other old new
@@ -158,15 +214,29 @@ judge_done {X = X} outcome view held name other old new status made judged put e
 
   go : IsPut outcome view old new → PrintsJudgement held name other old new
   go p =
-      let given : Makes view (Ok p.made) (command_told held (Command.Judge name other)) = subst (λ (o : Result X Stop). Makes view o (command_told held (Command.Judge name other))) p.is made in
+      let given : Makes view (Ok p.made) (judgement_told held name other) = subst (λ (o : Result X Stop). Makes view o (judgement_told held name other)) p.is made in
       let sound : IsJudged (case_told held name other) = subst (λ (o : Result X Stop). OnOk o (IsJudged (case_told held name other))) p.is judged in
       prints (view p.made) (case_told held name other) p.taken refl (told_case held name other told) given sound
 
 -- ---- a command of the desk
 
-pub desk_done : {X : Type 0} (command : DeskCommand) (outcome : Result X Stop) (view : X → List ℕ) (held : Held) (old new : Option (List ℕ)) (status : Status)
-    → Makes view outcome (command_told held (desk_shown command)) → OnOk outcome (IsSound held (desk_shown command)) → PutOutcome view outcome old new status → status ≡ statuses.Done → Reported held (Some (desk_shown command)) old new
-desk_done (desk.Check plan) outcome view held old new status made sound put e = λ all. check_done held plan.now old new (plan_done outcome view held plan.now _ old new status made put e all)
-desk_done (desk.Tables plan name) outcome view held old new status made sound put e = λ all. frame_done held plan.now name.now old new (plan_done outcome view held plan.now _ old new status made put e all)
-desk_done (desk.Judge plan journal) outcome view held old new status made sound put e = judge_done outcome view held plan.now journal.now old new status made sound put e
-desk_done (desk.Upgrade plan) outcome view held old new status made sound put e = λ all. upgrade_done held plan.now old new (plan_done outcome view held plan.now _ old new status made put e all)
+pub desk_done : {X : Type 0} (command : DeskCommand) (outcome : Result X Stop) (view : X → List ℕ) (held : Held)
+    (old new : Option (List ℕ)) (status : Status)
+    → MakesText IsPrintOf view outcome (command_told held (desk_shown command))
+    → OnOk outcome (IsSound held (desk_shown command)) → PutOutcome view outcome old new status
+    → status ≡ statuses.Done → Reported held (Some (desk_shown command)) old new
+desk_done (desk.Check plan) outcome view held old new status made sound put e = λ all.
+    let made_so = exactly_makes outcome view (findings_told held plan.now) made in
+    check_done held plan.now old new (plan_done outcome view held plan.now _ old new status made_so put e all)
+desk_done (desk.Tables plan name) outcome view held old new status made sound put e = λ all.
+    let made_so = exactly_makes outcome view (plan_frame_told held plan.now name.now) made in
+    frame_done held plan.now name.now old new (plan_done outcome view held plan.now _ old new status made_so put e all)
+desk_done (desk.Chart plan name) outcome view held old new status made sound put e = λ all.
+    let made_so = exactly_makes outcome view (plan_chart_told held plan.now name.now) made in
+    chart_done held plan.now name.now old new (plan_done outcome view held plan.now _ old new status made_so put e all)
+desk_done (desk.Judge plan journal) outcome view held old new status made sound put e =
+    let made_so = exactly_makes outcome view (judgement_told held plan.now journal.now) made in
+    judge_done outcome view held plan.now journal.now old new status made_so sound put e
+desk_done (desk.Upgrade plan) outcome view held old new status made sound put e = λ all.
+    let made_so = exactly_makes outcome view (upgrade_told held plan.now) made in
+    upgrade_done held plan.now old new (plan_done outcome view held plan.now _ old new status made_so put e all)

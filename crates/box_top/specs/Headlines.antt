@@ -1,18 +1,19 @@
 -- What is printed where a command is done.
-use Rattle.std.specs.Prelude.{◌≡◌, ◌↔◌, ◌<◌, ◌≤◌, ℕ, List, [], ◌∷◌, ◌++◌, Option, Some, None, Ok, Contains, length}
+use Rattle.std.specs.Prelude.{◌≡◌, ◌↔◌, ◌<◌, ◌≤◌, ℕ, List, [], ◌∷◌, Option, Some, None, Ok, Contains, length}
 use Rattle.rail_text.specs.Bytes.{appended}
 use Rattle.line_plan.specs.Limits.{most_bytes}
 use Rattle.line_plan.specs.Plans.{PlanFields, box_at, box_name}
+use Rattle.frame_chart.specs.declared.charts.Chart.{Chart}
+use Rattle.frame_chart.specs.Charts.{IsChartOf}
+use Rattle.frame_chart.specs.Printing.{bridles_of, chart_text}
+use Rattle.frame_chart.specs.Spans.{spans_of}
 use Rattle.plan_text.specs.Printing.{plan_text}
 use Rattle.plan_draft.specs.Reading.{plan_of}
-use Rattle.line_plan.specs.Sections.{IsSection, limit_of}
 use Rattle.line_plan.specs.Upgrades.{upgraded}
 use Rattle.line_plan.specs.declared.section.Section.{Section}
 use Rattle.line_law.specs.declared.call.Entry.{Entry}
 use Rattle.line_law.specs.declared.call.Reply.{Reply}
-use Rattle.line_law.specs.History.{IsLegal, calls_of, state_of}
-use Rattle.line_law.specs.Sections.{IsClean, held_by}
-use Rattle.line_law.specs.Serial.{calls_left, serial_journal}
+use Rattle.line_law.specs.History.{IsLegal}
 use Rattle.line_maker.specs.MadeCalls.{made_scripts}
 use Rattle.line_maker.specs.MadeTexts.{made_plan_text}
 use Rattle.line_report.specs.Verdicts.{IsWrongAt, box_of_entry, judgement_text, legal_text, wrong_text}
@@ -26,24 +27,11 @@ use Rattle.desk_reports.specs.Frames.{frame_text}
 use Rattle.desk_reports.specs.Judgements.{Case, case_told}
 use Rattle.line_runs.specs.Made.{summary_text}
 use Rattle.line_runs.specs.Outputs.{output_text}
-use Rattle.line_runs.specs.Rosters.{calls_of_scripts}
+use Rattle.line_runs.specs.Worked.{IsJournalOf}
 use Rattle.text_fetch.specs.Runs.{Run, run_told}
 use Rattle.text_fetch.specs.FromTexts.{AreTold, Held, Gives, plan_told}
 
 -- ---- a line that is worked
-
--- after each prefix of a journal that is clean for a section, the section holds no more trains than it may
-abbrev pub HoldsFew : PlanFields → List Entry → Type 0
-HoldsFew plan journal = (section : Section) (es more : List Entry) → IsSection plan section → journal ≡ es ++ more
-    → IsClean plan section es → held_by plan (state_of plan es) section ≤ limit_of plan section
-
--- The journal is one legal history, which has exactly each script's calls, in order, as they come on one thread; and
--- while it records no overrun, left portion or release in a section, that section holds no more trains than it may.
-pub record IsJournalOf (run : Run) (journal : List Entry) : Type 0 where
-  pub serial : journal ≡ serial_journal run.plan (calls_of_scripts run.scripts)
-  pub legal : IsLegal run.plan journal
-  pub calls : (b : ℕ) → calls_of b journal ≡ calls_left (calls_of_scripts run.scripts) b
-  pub trains : HoldsFew run.plan journal
 
 -- the texts of these names spell a plan and its scripts, and the bytes taken are the whole output of a journal of their
 -- run
@@ -73,6 +61,7 @@ Headline held (Some (Command.Run plan scripts)) old new = AreTold held (plan ∷
 Headline held (Some (Command.Stress n)) old new = PrintsSummary n old new
 Headline held (Some (Command.Check plan)) old new = Unit {0}
 Headline held (Some (Command.Tables plan name)) old new = Unit {0}
+Headline held (Some (Command.Chart plan name)) old new = Unit {0}
 Headline held (Some (Command.Judge plan journal)) old new = Unit {0}
 Headline held (Some (Command.Upgrade plan)) old new = Unit {0}
 
@@ -107,6 +96,21 @@ pub record PrintsFrame (held : Held) (plan_name name : List ℕ) (old new : Opti
   pub within : box_no < length plan.boxes
   pub named : box_name plan box_no ≡ name
   pub taken : new ≡ appended old (frame_text (box_at plan.boxes box_no))
+
+-- ---- a chart
+
+-- the text of the plan's name spells a plan that has a box of the other name, the chart is one of that box's bridles,
+-- shown and with the fewest channels, and the bytes taken are its text
+pub record PrintsChart (held : Held) (plan_name name : List ℕ) (old new : Option (List ℕ)) : Type 0 where
+  pub plan : PlanFields
+  pub spelled : plan_told held plan_name ≡ Gives plan
+  pub box_no : ℕ
+  pub within : box_no < length plan.boxes
+  pub named : box_name plan box_no ≡ name
+  pub chart : Chart
+  pub is : IsChartOf (spans_of (bridles_of (box_at plan.boxes box_no))) chart
+  pub taken : new ≡ appended old
+      (chart_text (box_at plan.boxes box_no) (bridles_of (box_at plan.boxes box_no)) chart)
 
 -- ---- a judgement
 
@@ -154,6 +158,7 @@ Reported held (Some (Command.Run plan scripts)) old new = Unit {0}
 Reported held (Some (Command.Stress n)) old new = Unit {0}
 Reported held (Some (Command.Check plan)) old new = AreTold held (plan ∷ []) → PrintsFindings held plan old new
 Reported held (Some (Command.Tables plan name)) old new = AreTold held (plan ∷ []) → PrintsFrame held plan name old new
+Reported held (Some (Command.Chart plan name)) old new = AreTold held (plan ∷ []) → PrintsChart held plan name old new
 Reported held (Some (Command.Judge plan journal)) old new = AreTold held (plan ∷ journal ∷ [])
     → PrintsJudgement held plan journal old new
 Reported held (Some (Command.Upgrade plan)) old new = AreTold held (plan ∷ []) → PrintsUpgrade held plan old new

@@ -5,7 +5,7 @@ use Rattle.rail_text.specs.CauseText.{cause_bytes}
 use Rattle.rail_text.specs.Gives.{Fault}
 use Rattle.command_words.specs.Commands.{Command, texts_of}
 use Rattle.text_fetch.specs.FromTexts.{HasShelfFault, Held, FromTexts, Untold, Gives, Refuses}
-use Rattle.box_top.specs.Outcomes.{command_told, told_before}
+use Rattle.box_top.specs.Outcomes.{IsPrintOf, Print, command_told, told_before}
 use Rattle.box_top.specs.declared.status.Status.{Status}
 use Rattle.box_top.specs.declared.status.Status.TheVariants as statuses
 use Rattle.text_fetch.specs.declared.stop.Stop.{Stop}
@@ -21,10 +21,10 @@ refused_line text fault =
     codes "refused text " ++ decimal text ++ codes " line " ++ decimal fault.line ++ codes ": "
     ++ cause_bytes fault.cause ++ codes "\n"
 
--- the status and the bytes of what is told, unless a fault or want of memory comes
-abbrev pub Answers : FromTexts (List ℕ) → Status → List ℕ → Type 0
+-- the status, and a text of what is told, unless a fault or want of memory comes
+abbrev pub Answers : FromTexts Print → Status → List ℕ → Type 0
 Answers Untold status text = (status ≡ statuses.Done) ⊎ (status ≡ statuses.Refused)
-Answers (Gives bytes) status text = (status ≡ statuses.Done) × (text ≡ bytes)
+Answers (Gives print) status text = (status ≡ statuses.Done) × IsPrintOf print text
 Answers (Refuses n fault) status text = (status ≡ statuses.Refused) × (text ≡ refused_line n fault)
 
 -- the same for the words of a command line
@@ -78,6 +78,7 @@ ShelfCause held before now (Some command) = HasShelfFault before now (texts_of c
 -- The words name told texts that spell what the command needs: it is done and its whole output is taken, unless memory
 -- runs out.
 abbrev pub Completes : Held → Option Command → Option (List ℕ) → Option (List ℕ) → Status → Type 0
-Completes held words old new status = (command : Command) (text : List ℕ) → words ≡ Some command
-    → command_told held command ≡ Gives text
-    → ((status ≡ statuses.Done) × (new ≡ appended old text)) ⊎ (status ≡ statuses.NoMemory)
+Completes held words old new status = (command : Command) (print : Print) → words ≡ Some command
+    → command_told held command ≡ Gives print
+    → ((status ≡ statuses.Done) × ((text : List ℕ) × IsPrintOf print text × (new ≡ appended old text)))
+    ⊎ (status ≡ statuses.NoMemory)

@@ -4,25 +4,27 @@ ghost use Rattle.std.specs.Prelude.{◌≡◌, ℕ, List, Some, None, IsErrOf, O
 ghost use Rattle.rail_text.specs.Causes.{Rose};
 ghost use Rattle.command_words.specs.Commands.{bytes_of, desk_command_of, desk_shown};
 ghost use Rattle.box_top.specs.Headlines.{Reported};
-ghost use Rattle.box_top.specs.Outcomes.{IsSound, NoneRose, command_told};
-ghost use Rattle.text_fetch.specs.FromTexts.{Makes};
+ghost use Rattle.line_runs.specs.Outputs.{MakesText};
+ghost use Rattle.box_top.specs.Outcomes.{IsPrintOf, IsSound, NoneRose, command_told};
 ghost use Rattle.box_top.specs.Top.{Completes, Printed, ShelfCause};
 
 use crate::put::{WORDS_LINE, put_outcome, put_text};
 use crate::status::Status;
 use command_words::{DeskCommand, desk_command_of};
-use desk_reports::{check_outcome, frame_outcome, judge_outcome, upgrade_outcome};
+use desk_reports::{chart_outcome, check_outcome, frame_outcome, judge_outcome, upgrade_outcome};
 use rail_text::{NoMemory, Shelf, Sink};
 use std::alloc::Global;
 use text_fetch::Stop;
 
 // What a command of the desk is to print; or why there is nothing.
+#[tactic(auto, using(crate::proofs::Outcomes::makes_exactly))]
 fn desk_outcome<S: Shelf>(
     alloc: Global,
     shelf: &mut S,
     command: DeskCommand<'_>,
 ) -> Result<Vec<u8>, Stop>
-    ensures told { Makes (λ text. text.items) result (command_told (S.held shelf.old) (desk_shown command.entry)) }
+    ensures told { MakesText IsPrintOf (λ text. text.items) result
+        (command_told (S.held shelf.old) (desk_shown command.entry)) }
     ensures sound { OnOk result (IsSound (S.held shelf.old) (desk_shown command.entry)) }
     ensures fault { IsErrOf result Stop.ShelfFault
         → ShelfCause (S.held shelf.old) (S.faults shelf.old) (S.faults shelf.new) (Some (desk_shown command.entry)) }
@@ -31,6 +33,7 @@ fn desk_outcome<S: Shelf>(
     match command {
         DeskCommand::Check { plan } => check_outcome(alloc, shelf, plan),
         DeskCommand::Tables { plan, box_name } => frame_outcome(alloc, shelf, plan, box_name),
+        DeskCommand::Chart { plan, box_name } => chart_outcome(alloc, shelf, plan, box_name),
         DeskCommand::Judge { plan, journal } => judge_outcome(alloc, shelf, plan, journal),
         DeskCommand::Upgrade { plan } => upgrade_outcome(alloc, shelf, plan),
     }
@@ -63,6 +66,8 @@ pub fn serve_desk<S: Shelf, K: Sink>(
 ///
 /// - `check PLAN` puts the findings on the plan: how many there are, and a line for each.
 /// - `tables PLAN BOX` puts the frame of the box with that name: its levers with their colours, and its rows.
+/// - `chart PLAN BOX` puts the locking chart of the box with that name: its bridles in the fewest channels, and the
+///   column that shows that fewer can't do.
 /// - `judge PLAN JOURNAL` fetches a journal of the plan's line, and puts `legal` and the number of its entries, or the
 ///   first entry whose reply isn't the law's, with both replies.
 /// - `upgrade PLAN` puts the plan in version 2.

@@ -12,14 +12,16 @@ use crate::desk::serve_desk;
 use crate::put::{WORDS_LINE, put_outcome, put_text};
 use crate::status::Status;
 use command_words::{CommandLine, command_of};
-use line_runs::{Gate, run_outcome, stress_outcome};
+use line_runs::{run_outcome, stress_outcome};
+use line_working::Gate;
 use rail_text::{NoMemory, Shelf, Sink};
 use std::alloc::Global;
 use std::sync::Wait;
 use std::thread::Threads;
 
-// Runs the scripts of a plan, on this thread.
-fn serve_run<S: Shelf, K: Sink, G: Gate>(
+// Runs the scripts of a plan, each on a thread of its own.
+fn serve_run<R: Threads + Wait + Sync, S: Shelf, K: Sink, G: Gate>(
+    rt: &R,
     alloc: Global,
     plan: &str,
     scripts: &[&str],
@@ -40,12 +42,18 @@ fn serve_run<S: Shelf, K: Sink, G: Gate>(
     ensures no_memory { result ≡ Status.NoMemory → out.new ≡ out.old }
     ensures same { (n : List ℕ) → S.held shelf.new n ≡ S.held shelf.old n }
 {
-    let outcome = run_outcome(alloc, shelf, plan, scripts, gate);
+    let outcome = run_outcome(rt, alloc, shelf, plan, scripts, gate);
     put_outcome(alloc, out, outcome)
 }
 
-// Works the made line of so many trains, on this thread.
-fn serve_stress<K: Sink, G: Gate>(alloc: Global, trains: u32, out: &mut K, gate: &G) -> Status
+// Works the made line of so many trains, each script on a thread of its own.
+fn serve_stress<R: Threads + Wait + Sync, K: Sink, G: Gate>(
+    rt: &R,
+    alloc: Global,
+    trains: u32,
+    out: &mut K,
+    gate: &G,
+) -> Status
     requires low { 1 ≤ trains }
     requires high { trains ≤ 200 }
     ensures printed { (held : Held)
@@ -55,12 +63,13 @@ fn serve_stress<K: Sink, G: Gate>(alloc: Global, trains: u32, out: &mut K, gate:
     ensures shelf { result ≢ Status.ShelfFault }
     ensures no_memory { result ≡ Status.NoMemory → out.new ≡ out.old }
 {
-    let outcome = stress_outcome(alloc, trains, gate);
+    let outcome = stress_outcome(rt, alloc, trains, gate);
     put_outcome(alloc, out, outcome)
 }
 
-// Does what the words say, on this thread.
-fn serve<S: Shelf, K: Sink, G: Gate>(
+// Does what the words say.
+fn serve<R: Threads + Wait + Sync, S: Shelf, K: Sink, G: Gate>(
+    rt: &R,
     alloc: Global,
     words: &[String],
     shelf: &mut S,
@@ -83,9 +92,9 @@ fn serve<S: Shelf, K: Sink, G: Gate>(
 {
     match command_of(alloc, words) {
         Ok(Some(CommandLine::Run { plan, scripts })) => {
-            serve_run(alloc, plan, &scripts, shelf, out, gate)
+            serve_run(rt, alloc, plan, &scripts, shelf, out, gate)
         }
-        Ok(Some(CommandLine::Stress { trains })) => serve_stress(alloc, trains, out, gate),
+        Ok(Some(CommandLine::Stress { trains })) => serve_stress(rt, alloc, trains, out, gate),
         Ok(Some(CommandLine::Desk(command))) => serve_desk(alloc, command, shelf, out),
         Ok(None) => put_text(out, WORDS_LINE, Status::Words),
         Err(NoMemory) => Status::NoMemory,
@@ -132,7 +141,5 @@ pub fn box_top<R: Threads + Wait + Sync, S: Shelf, K: Sink, G: Gate>(
     ensures not_asked { command_of (bytes_of words.now) ≡ None → shelf.new ≡ shelf.old }
     ensures same { (n : List ℕ) → S.held shelf.new n ≡ S.held shelf.old n }
 {
-    // The scripts are worked on this thread, so nothing is started or waited for.
-    let _ = rt;
-    serve(alloc, words, shelf, out, gate)
+    serve(rt, alloc, words, shelf, out, gate)
 }

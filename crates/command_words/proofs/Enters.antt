@@ -96,6 +96,10 @@ pub tables_entered : IsEntered (codes "tables")
 unfolding clap_on_literals
 tables_entered = record { takes = enters (codes "tables") (shape_of (codes "tables")) refl refl refl; finds = finds (codes "tables") (shape_of (codes "tables")) refl refl refl }
 
+pub chart_entered : IsEntered (codes "chart")
+unfolding clap_on_literals
+chart_entered = record { takes = enters (codes "chart") (shape_of (codes "chart")) refl refl refl; finds = finds (codes "chart") (shape_of (codes "chart")) refl refl refl }
+
 pub judge_entered : IsEntered (codes "judge")
 unfolding clap_on_literals
 judge_entered = record { takes = enters (codes "judge") (shape_of (codes "judge")) refl refl refl; finds = finds (codes "judge") (shape_of (codes "judge")) refl refl refl }

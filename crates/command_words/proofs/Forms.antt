@@ -9,12 +9,12 @@ use Rattle.std.proofs.lemmas.List.{length-map}
 use Rattle.std.proofs.lemmas.Slice.Eq.{bytes_eq-Decides}
 use Rattle.clap.specs.Lexer.{usize_max}
 use Rattle.clap.specs.Words.{Text, subcommand_of, takes}
-use Rattle.command_words.specs.Commands.{Command, bytes_of, check_in, command_in, command_of, is_plain_word, judge_in, run_in, stress_in, tables_in, upgrade_in}
+use Rattle.command_words.specs.Commands.{Command, bytes_of, chart_in, check_in, command_in, command_of, is_plain_word, judge_in, run_in, stress_in, tables_in, upgrade_in}
 use Rattle.command_words.specs.ClapTable.{has_word_count, has_command_form, all_commands}
 use Rattle.command_words.specs.ClapReads.{command_read}
-use Rattle.command_words.proofs.Enters.{IsEntered, check_entered, judge_entered, run_entered, stress_entered, tables_entered, upgrade_entered}
+use Rattle.command_words.proofs.Enters.{IsEntered, chart_entered, check_entered, judge_entered, run_entered, stress_entered, tables_entered, upgrade_entered}
 use Rattle.command_words.proofs.RunWords.{both, no_hyphen, run_reads, run_takes}
-use Rattle.command_words.proofs.ShortWords.{TakesOne, TakesTwo, check_one, judge_two, stress_one, tables_two, upgrade_one}
+use Rattle.command_words.proofs.ShortWords.{TakesOne, TakesTwo, chart_two, check_one, judge_two, stress_one, tables_two, upgrade_one}
 
 -- clap takes the words, and what it finds is this command
 pub record Reads (words : List Text) (command : Option Command) : Type 0 where
@@ -85,6 +85,14 @@ tables_words ((b ∷ bs) ∷ [] ∷ []) plain count = absurd (true≢false (sym 
 tables_words ((b ∷ bs) ∷ (c ∷ cs) ∷ []) plain count = two_words (codes "tables") tables_entered _ tables_two b bs c cs plain
 tables_words (word ∷ other ∷ more ∷ words) plain count = absurd (other_count (length (word ∷ other ∷ more ∷ words)) 2 (omega arith) count)
 
+chart_words : (words : List Text) → list_all is_plain_word words ≡ true → (length words == 2) ≡ true → Reads (codes "chart" ∷ words) (chart_in words)
+chart_words [] plain count = absurd cc
+chart_words (word ∷ []) plain count = absurd cc
+chart_words ([] ∷ word ∷ []) plain count = absurd cc
+chart_words ((b ∷ bs) ∷ [] ∷ []) plain count = absurd (true≢false (sym (both (not (eqb b 45)) _ plain).1))
+chart_words ((b ∷ bs) ∷ (c ∷ cs) ∷ []) plain count = two_words (codes "chart") chart_entered _ chart_two b bs c cs plain
+chart_words (word ∷ other ∷ more ∷ words) plain count = absurd (other_count (length (word ∷ other ∷ more ∷ words)) 2 (omega arith) count)
+
 judge_words : (words : List Text) → list_all is_plain_word words ≡ true → (length words == 2) ≡ true → Reads (codes "judge" ∷ words) (judge_in words)
 judge_words [] plain count = absurd cc
 judge_words (word ∷ []) plain count = absurd cc
@@ -113,11 +121,14 @@ counted first words plain count fits = elim (split (bytes_eq first (codes "run")
       | inl h ↦ named (codes "check") first words h.0 (check_words words plain h.1)
       | inr check ↦ elim (split (bytes_eq first (codes "tables")) _ _ check) [
         | inl h ↦ named (codes "tables") first words h.0 (tables_words words plain h.1)
-        | inr tables ↦ elim (split (bytes_eq first (codes "judge")) _ _ tables) [
-          | inl h ↦ named (codes "judge") first words h.0 (judge_words words plain h.1)
-          | inr judge ↦ elim (split (bytes_eq first (codes "upgrade")) _ _ judge) [
-            | inl h ↦ named (codes "upgrade") first words h.0 (upgrade_words words plain h.1)
-            | inr none ↦ absurd cc
+        | inr tables ↦ elim (split (bytes_eq first (codes "chart")) _ _ tables) [
+          | inl h ↦ named (codes "chart") first words h.0 (chart_words words plain h.1)
+          | inr chart ↦ elim (split (bytes_eq first (codes "judge")) _ _ chart) [
+            | inl h ↦ named (codes "judge") first words h.0 (judge_words words plain h.1)
+            | inr judge ↦ elim (split (bytes_eq first (codes "upgrade")) _ _ judge) [
+              | inl h ↦ named (codes "upgrade") first words h.0 (upgrade_words words plain h.1)
+              | inr none ↦ absurd cc
+            ]
           ]
         ]
       ]
@@ -170,6 +181,12 @@ no_tables (word ∷ []) e = refl
 no_tables (word ∷ other ∷ []) e = absurd cc
 no_tables (word ∷ other ∷ more ∷ words) e = refl
 
+no_chart : (words : List Text) → (length words == 2) ≡ false → chart_in words ≡ None
+no_chart [] e = refl
+no_chart (word ∷ []) e = refl
+no_chart (word ∷ other ∷ []) e = absurd cc
+no_chart (word ∷ other ∷ more ∷ words) e = refl
+
 no_judge : (words : List Text) → (length words == 2) ≡ false → judge_in words ≡ None
 no_judge [] e = refl
 no_judge (word ∷ []) e = refl
@@ -182,8 +199,9 @@ not_counted first words =
     (no_branch (bytes_eq first (codes "stress")) _ _ _ _ (no_stress words)
     (no_branch (bytes_eq first (codes "check")) _ _ _ _ (no_check words)
     (no_branch (bytes_eq first (codes "tables")) _ _ _ _ (no_tables words)
+    (no_branch (bytes_eq first (codes "chart")) _ _ _ _ (no_chart words)
     (no_branch (bytes_eq first (codes "judge")) _ _ _ _ (no_judge words)
-    (no_branch (bytes_eq first (codes "upgrade")) _ _ _ _ (no_upgrade words) (λ e. refl))))))
+    (no_branch (bytes_eq first (codes "upgrade")) _ _ _ _ (no_upgrade words) (λ e. refl)))))))
 
 -- words of another form are no command
 pub no_form : (words : List Text) → has_command_form words ≡ false → command_of words ≡ None

@@ -34,8 +34,9 @@ desk_at_desk : (name : Text) (rows : List Row) → at_desk (desk_read name rows)
 desk_at_desk name rows =
     choose (bytes_eq name (codes "check")) _ _ (one_at_desk Command.Check _ (λ x. refl))
     (choose (bytes_eq name (codes "tables")) _ _ (both_at_desk Command.Tables _ _ (λ x y. refl))
+    (choose (bytes_eq name (codes "chart")) _ _ (both_at_desk Command.Chart _ _ (λ x y. refl))
     (choose (bytes_eq name (codes "judge")) _ _ (both_at_desk Command.Judge _ _ (λ x y. refl))
-    (choose (bytes_eq name (codes "upgrade")) _ _ (one_at_desk Command.Upgrade _ (λ x. refl)) refl)))
+    (choose (bytes_eq name (codes "upgrade")) _ _ (one_at_desk Command.Upgrade _ (λ x. refl)) refl))))
 
 -- a command that works a line is none of the desk's
 other : (b : Bool) (name first : Text) (rows : List Row) (p q : Option Command) → bytes_eq name first ≡ b → desk_read first rows ≡ None → at_desk p ≡ None

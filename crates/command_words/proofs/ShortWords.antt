@@ -38,6 +38,10 @@ pub tables_two : TakesTwo (codes "tables") (λ plan name. Some (Command.Tables p
 unfolding clap_on_literals
 tables_two = record { takes = λ b bs c cs h k. simp (h, k); reads = λ b bs c cs h k. simp (h, k) }
 
+pub chart_two : TakesTwo (codes "chart") (λ plan name. Some (Command.Chart plan name))
+unfolding clap_on_literals
+chart_two = record { takes = λ b bs c cs h k. simp (h, k); reads = λ b bs c cs h k. simp (h, k) }
+
 pub judge_two : TakesTwo (codes "judge") (λ plan journal. Some (Command.Judge plan journal))
 unfolding clap_on_literals
 judge_two = record { takes = λ b bs c cs h k. simp (h, k); reads = λ b bs c cs h k. simp (h, k) }

@@ -4,7 +4,7 @@ use Rattle.std.specs.Prelude.{◌&&◌, nat_le, option_and_then}
 use Rattle.std.specs.List.{list_all}
 use Rattle.std.proofs.lemmas.Bool.Decides.{nat_tests}
 use Rattle.rail_text.specs.Number.{number_of}
-use Rattle.command_words.specs.Commands.{Command, check_in, command_in, command_of, is_plain_word, judge_in, run_in, stress_in, stress_of, tables_in, upgrade_in}
+use Rattle.command_words.specs.Commands.{Command, chart_in, check_in, command_in, command_of, is_plain_word, judge_in, run_in, stress_in, stress_of, tables_in, upgrade_in}
 
 abbrev IsFew : ℕ → Type 0
 IsFew n = (1 ≤ n) × (n ≤ 200)
@@ -16,6 +16,7 @@ IsOther (Some (Command.Run plan scripts)) = Unit {0}
 IsOther (Some (Command.Stress n)) = ⊥
 IsOther (Some (Command.Check plan)) = Unit {0}
 IsOther (Some (Command.Tables plan name)) = Unit {0}
+IsOther (Some (Command.Chart plan name)) = Unit {0}
 IsOther (Some (Command.Judge plan journal)) = Unit {0}
 IsOther (Some (Command.Upgrade plan)) = Unit {0}
 
@@ -37,6 +38,12 @@ tables_other [] = tt
 tables_other (plan ∷ []) = tt
 tables_other (plan ∷ name ∷ []) = tt
 tables_other (plan ∷ name ∷ more ∷ words) = tt
+
+chart_other : (words : List (List ℕ)) → IsOther (chart_in words)
+chart_other [] = tt
+chart_other (plan ∷ []) = tt
+chart_other (plan ∷ name ∷ []) = tt
+chart_other (plan ∷ name ∷ more ∷ words) = tt
 
 judge_other : (words : List (List ℕ)) → IsOther (judge_in words)
 judge_other [] = tt
@@ -75,8 +82,9 @@ in_few first words n =
     (either (bytes_eq first (codes "stress")) _ _ n (stress_few words n)
     (either (bytes_eq first (codes "check")) _ _ n (other (check_in words) n (check_other words))
     (either (bytes_eq first (codes "tables")) _ _ n (other (tables_in words) n (tables_other words))
+    (either (bytes_eq first (codes "chart")) _ _ n (other (chart_in words) n (chart_other words))
     (either (bytes_eq first (codes "judge")) _ _ n (other (judge_in words) n (judge_other words))
-    (either (bytes_eq first (codes "upgrade")) _ _ n (other (upgrade_in words) n (upgrade_other words)) (other None n tt))))))
+    (either (bytes_eq first (codes "upgrade")) _ _ n (other (upgrade_in words) n (upgrade_other words)) (other None n tt)))))))
 
 -- the words of `stress` name 1 to 200 trains
 pub stress_is_few : (words : List (List ℕ)) (n : ℕ) → command_of words ≡ Some (Command.Stress n) → (1 ≤ n) × (n ≤ 200)

@@ -24,6 +24,8 @@ desk_read name rows =
     if bytes_eq name (codes "check") then option_map Command.Check (first_of (codes "plan") rows)
     else if bytes_eq name (codes "tables")
     then of_both Command.Tables (first_of (codes "plan") rows) (first_of (codes "box") rows)
+    else if bytes_eq name (codes "chart")
+    then of_both Command.Chart (first_of (codes "plan") rows) (first_of (codes "box") rows)
     else if bytes_eq name (codes "judge")
     then of_both Command.Judge (first_of (codes "plan") rows) (first_of (codes "journal") rows)
     else if bytes_eq name (codes "upgrade") then option_map Command.Upgrade (first_of (codes "plan") rows)

@@ -15,6 +15,7 @@ has_word_count first count =
     else if bytes_eq first (codes "stress") then count == 1
     else if bytes_eq first (codes "check") then count == 1
     else if bytes_eq first (codes "tables") then count == 2
+    else if bytes_eq first (codes "chart") then count == 2
     else if bytes_eq first (codes "judge") then count == 2
     else if bytes_eq first (codes "upgrade") then count == 1
     else false
@@ -52,6 +53,7 @@ command_named names.Run = run_command
 command_named names.Stress = one_argument_command (codes "stress") (codes "trains")
 command_named names.Check = one_argument_command (codes "check") (codes "plan")
 command_named names.Tables = two_argument_command (codes "tables") (codes "plan") (codes "box")
+command_named names.Chart = two_argument_command (codes "chart") (codes "plan") (codes "box")
 command_named names.Judge = two_argument_command (codes "judge") (codes "plan") (codes "journal")
 command_named names.Upgrade = one_argument_command (codes "upgrade") (codes "plan")
 
@@ -67,7 +69,8 @@ with_command app name = with_subcommand app (command_named name).top
 
 -- the names of all commands
 abbrev pub all_names : List CommandName
-all_names = names.Run ∷ names.Stress ∷ names.Check ∷ names.Tables ∷ names.Judge ∷ names.Upgrade ∷ []
+all_names =
+    names.Run ∷ names.Stress ∷ names.Check ∷ names.Tables ∷ names.Chart ∷ names.Judge ∷ names.Upgrade ∷ []
 
 -- the program with all its commands
 abbrev pub all_commands : App

@@ -11,13 +11,14 @@ use Rattle.command_words.specs.declared.command.DeskCommand.TheVariants as desk
 
 -- What the words of a command line ask for, with the names of the texts. Run: a plan's line is worked by the scripts of
 -- its boxes; Stress: the made line of so many trains is worked by its own scripts; Check: a plan is checked; Tables:
--- the frame of a plan's box is shown, the box by its name; Judge: a journal of a plan's line is judged; Upgrade: a plan
--- is put into version 2.
+-- the frame of a plan's box is shown, the box by its name; Chart: the locking chart of such a box is shown; Judge: a
+-- journal of a plan's line is judged; Upgrade: a plan is put into version 2.
 pub data Command : Type 0 where
   Run : List ℕ → List (List ℕ) → Command
   Stress : ℕ → Command
   Check : List ℕ → Command
   Tables : List ℕ → List ℕ → Command
+  Chart : List ℕ → List ℕ → Command
   Judge : List ℕ → List ℕ → Command
   Upgrade : List ℕ → Command
 
@@ -27,6 +28,7 @@ texts_of (Command.Run plan scripts) = plan ∷ scripts
 texts_of (Command.Stress n) = []
 texts_of (Command.Check plan) = plan ∷ []
 texts_of (Command.Tables plan name) = plan ∷ []
+texts_of (Command.Chart plan name) = plan ∷ []
 texts_of (Command.Judge plan journal) = plan ∷ journal ∷ []
 texts_of (Command.Upgrade plan) = plan ∷ []
 
@@ -70,6 +72,11 @@ abbrev pub tables_in : List (List ℕ) → Option Command
 tables_in (plan ∷ name ∷ []) = Some (Command.Tables plan name)
 tables_in words = None
 
+-- `chart PLAN BOX`
+abbrev pub chart_in : List (List ℕ) → Option Command
+chart_in (plan ∷ name ∷ []) = Some (Command.Chart plan name)
+chart_in words = None
+
 -- `judge PLAN JOURNAL`
 abbrev pub judge_in : List (List ℕ) → Option Command
 judge_in (plan ∷ journal ∷ []) = Some (Command.Judge plan journal)
@@ -87,6 +94,7 @@ command_in first words =
     else if bytes_eq first (codes "stress") then stress_in words
     else if bytes_eq first (codes "check") then check_in words
     else if bytes_eq first (codes "tables") then tables_in words
+    else if bytes_eq first (codes "chart") then chart_in words
     else if bytes_eq first (codes "judge") then judge_in words
     else if bytes_eq first (codes "upgrade") then upgrade_in words
     else None
@@ -105,6 +113,7 @@ at_desk (Some (Command.Run plan scripts)) = None
 at_desk (Some (Command.Stress n)) = None
 at_desk (Some (Command.Check plan)) = Some (Command.Check plan)
 at_desk (Some (Command.Tables plan name)) = Some (Command.Tables plan name)
+at_desk (Some (Command.Chart plan name)) = Some (Command.Chart plan name)
 at_desk (Some (Command.Judge plan journal)) = Some (Command.Judge plan journal)
 at_desk (Some (Command.Upgrade plan)) = Some (Command.Upgrade plan)
 
@@ -118,6 +127,7 @@ desk_command_of words = at_desk (command_of words)
 abbrev pub desk_shown : DeskCommand → Command
 desk_shown (desk.Check plan) = Command.Check plan.now
 desk_shown (desk.Tables plan name) = Command.Tables plan.now name.now
+desk_shown (desk.Chart plan name) = Command.Chart plan.now name.now
 desk_shown (desk.Judge plan journal) = Command.Judge plan.now journal.now
 desk_shown (desk.Upgrade plan) = Command.Upgrade plan.now
 

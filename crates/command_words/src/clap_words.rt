@@ -21,16 +21,18 @@ enum CommandName {
     Stress,
     Check,
     Tables,
+    Chart,
     Judge,
     Upgrade,
 }
 
 // The names of all commands.
-const ALL_NAMES: [CommandName; 6] = [
+const ALL_NAMES: [CommandName; 7] = [
     CommandName::Run,
     CommandName::Stress,
     CommandName::Check,
     CommandName::Tables,
+    CommandName::Chart,
     CommandName::Judge,
     CommandName::Upgrade,
 ];
@@ -101,6 +103,7 @@ fn command_named<'a>(alloc: Global, name: CommandName) -> Result<Command<'a>, Al
         CommandName::Stress => one_argument_command(alloc, "stress", "trains"),
         CommandName::Check => one_argument_command(alloc, "check", "plan"),
         CommandName::Tables => two_argument_command(alloc, "tables", "plan", "box"),
+        CommandName::Chart => two_argument_command(alloc, "chart", "plan", "box"),
         CommandName::Judge => two_argument_command(alloc, "judge", "plan", "journal"),
         CommandName::Upgrade => one_argument_command(alloc, "upgrade", "plan"),
     }

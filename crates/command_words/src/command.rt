@@ -23,6 +23,8 @@ pub enum DeskCommand<'a> {
     Check { plan: &'a str },
     /// `tables PLAN BOX`: the frame of a plan's box is shown.
     Tables { plan: &'a str, box_name: &'a str },
+    /// `chart PLAN BOX`: the locking chart of a plan's box is shown.
+    Chart { plan: &'a str, box_name: &'a str },
     /// `judge PLAN JOURNAL`: a journal of the plan's line is judged.
     Judge { plan: &'a str, journal: &'a str },
     /// `upgrade PLAN`: a plan is put into version 2.
@@ -67,7 +69,7 @@ fn has_word_count(first: &str, count: usize) -> bool
 {
     match first {
         "run" => count >= 2,
-        "tables" | "judge" => count == 2,
+        "tables" | "chart" | "judge" => count == 2,
         "stress" | "check" | "upgrade" => count == 1,
         _ => false,
     }
@@ -122,6 +124,10 @@ fn read_desk<'a>(name: &str, found: &ArgMatches<'a>) -> Option<DeskCommand<'a>>
             let box_name = found.get_str("box")?;
             Some(DeskCommand::Tables { plan, box_name })
         }
+        "chart" => {
+            let box_name = found.get_str("box")?;
+            Some(DeskCommand::Chart { plan, box_name })
+        }
         "judge" => {
             let journal = found.get_str("journal")?;
             Some(DeskCommand::Judge { plan, journal })
@@ -148,8 +154,8 @@ fn read_command_line<'a>(
 }
 
 /// The command of these words, if they are of the table: `run PLAN SCRIPT..`, with one script or
-/// more, `stress N`, with N from 1 to 200, `check PLAN`, `tables PLAN BOX`, `judge PLAN JOURNAL` or
-/// `upgrade PLAN`. No word is empty or begins with `-`.
+/// more, `stress N`, with N from 1 to 200, `check PLAN`, `tables PLAN BOX`, `chart PLAN BOX`,
+/// `judge PLAN JOURNAL` or `upgrade PLAN`. No word is empty or begins with `-`.
 #[tactic(auto, using(crate::proofs::FoundCommands::command_rules))]
 pub fn command_of<'a>(
     alloc: Global,

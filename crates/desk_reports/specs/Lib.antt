@@ -1,3 +1,4 @@
 pub mod Frames
 pub mod Judgements
 pub mod Reports
+pub mod Charts

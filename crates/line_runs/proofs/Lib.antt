@@ -2,4 +2,4 @@ pub mod LeftOf
 pub mod NextBox
 pub mod Turning
 pub mod SerialTurns
-pub mod MadeLine
+pub mod ScriptsWorked

@@ -86,7 +86,7 @@ scripts_few plan scripts h = All-from_get_or (λ (script : Script). length scrip
   there (x ∷ xs) zero lt = refl
   there (x ∷ xs) (suc b) lt = there xs b (omega arith)
 
-boxes_few : (plan : PlanFields) → IsPlan plan → length plan.boxes ≤ 64
+pub boxes_few : (plan : PlanFields) → IsPlan plan → length plan.boxes ≤ 64
 boxes_few plan h = go (eqb plan.version 1) h.most where
   go : (b : Bool) → length plan.boxes ≤ cond b 32 64 → length plan.boxes ≤ 64
   go true le = omega arith

@@ -1,6 +1,5 @@
 -- What `stress` prints: the made line, worked by its own scripts.
-use Rattle.std.specs.Prelude.{ℕ, ◌≡◌, List, [], ◌∷◌, ◌++◌, Result, Ok, Err, length, codes, decimal}
-use Rattle.rail_text.specs.Gives.{Fault}
+use Rattle.std.specs.Prelude.{ℕ, ◌≡◌, List, [], ◌∷◌, ◌++◌, Ok, length, codes, decimal}
 use Rattle.line_plan.specs.Plans.{PlanFields}
 use Rattle.plan_draft.specs.Reading.{plan_of}
 use Rattle.line_law.specs.declared.call.Entry.{Entry}
@@ -9,16 +8,13 @@ use Rattle.line_maker.specs.MadeTexts.{made_plan_text}
 use Rattle.line_report.specs.Refusals.{refused_count}
 use Rattle.line_report.specs.Sections.{sections_text}
 use Rattle.text_fetch.specs.Runs.{AreScriptsOf, Run}
-use Rattle.line_runs.specs.Outputs.{run_journal}
+use Rattle.line_runs.specs.Worked.{IsJournalOf}
 
--- a plan that was read; of a text that spells none, nothing
-abbrev pub plan_read : Result PlanFields Fault → PlanFields
-plan_read (Ok plan) = plan
-plan_read (Err fault) = record { version = 0; delay = 0; looks = 0; codes = []; classes = []; boxes = []; trains = [] }
-
--- the made line of n trains, with the scripts of its boxes
-abbrev pub made_run : ℕ → Run
-made_run n = record { plan = plan_read (plan_of (made_plan_text n)); scripts = made_scripts n }
+-- a plan with its scripts is the made line of n trains: its text spells the plan, and these are scripts of the line
+pub record IsMade (n : ℕ) (run : Run) : Type 0 where
+  pub spelled : plan_of (made_plan_text n) ≡ Ok run.plan
+  pub made : run.scripts ≡ made_scripts n
+  pub worked : AreScriptsOf run.plan run.scripts
 
 -- a line with one number
 abbrev pub count_line : List ℕ → ℕ → List ℕ
@@ -33,11 +29,11 @@ summary_text n plan es =
     ++ count_line (codes "calls") (length es) ++ count_line (codes "refused") (refused_count es)
     ++ sections_text plan es
 
--- the text that is printed of the made line of n trains
-abbrev pub summary_of : ℕ → List ℕ
-summary_of n = summary_text n (made_run n).plan (run_journal (made_run n))
-
--- the text of the made line of n trains spells its plan, and its scripts are scripts of its line
-pub record IsMade (n : ℕ) : Type 0 where
-  pub spelled : plan_of (made_plan_text n) ≡ Ok (made_run n).plan
-  pub scripts : AreScriptsOf (made_run n).plan (made_run n).scripts
+-- the text of the made line of n trains spells a plan, and a text is the summary of a journal of that line, worked by
+-- its own scripts
+pub record IsSummaryOf (n : ℕ) (text : List ℕ) : Type 0 where
+  pub plan : PlanFields
+  pub spelled : plan_of (made_plan_text n) ≡ Ok plan
+  pub journal : List Entry
+  pub is : IsJournalOf (record { plan = plan; scripts = made_scripts n }) journal
+  pub printed : text ≡ summary_text n plan journal

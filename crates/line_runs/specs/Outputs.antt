@@ -1,28 +1,33 @@
 -- The whole output of a run.
-use Rattle.std.specs.Prelude.{ℕ, List, ◌++◌}
+use Rattle.std.specs.Prelude.{◌≡◌, ℕ, List, ◌++◌, Result, Ok, Err}
 use Rattle.line_plan.specs.Plans.{PlanFields}
 use Rattle.line_law.specs.declared.call.Entry.{Entry}
-use Rattle.line_law.specs.Serial.{serial_journal}
 use Rattle.line_report.specs.Journals.{journal_text}
 use Rattle.line_report.specs.Refusals.{refusals_text}
 use Rattle.line_report.specs.Sections.{sections_text}
 use Rattle.train_register.specs.Registers.{registers_text}
-use Rattle.text_fetch.specs.FromTexts.{Held, FromTexts, Gives, told_then}
-use Rattle.text_fetch.specs.Runs.{Run, run_told}
-use Rattle.line_runs.specs.Rosters.{calls_of_scripts}
+use Rattle.text_fetch.specs.FromTexts.{FromTexts, Untold, Gives, Refuses, StopsAt}
+use Rattle.text_fetch.specs.Runs.{Run}
+use Rattle.text_fetch.specs.declared.stop.Stop.{Stop}
+use Rattle.line_runs.specs.Worked.{IsJournalOf}
 
 -- a journal as it is printed, the registers of the boxes, the refused calls, and the most trains that each section held
 unfoldable pub output_text : PlanFields → List Entry → List ℕ
 output_text plan es = journal_text plan es ++ registers_text plan es ++ refusals_text plan es ++ sections_text plan es
 
--- the journal of a run: its scripts' calls, one at a time on one thread
-abbrev pub run_journal : Run → List Entry
-run_journal run = serial_journal run.plan (calls_of_scripts run.scripts)
+-- a text is the whole output of a journal of this run
+abbrev pub IsOutputOf : Run → List ℕ → Type 0
+IsOutputOf run text = (journal : List Entry) × IsJournalOf run journal × (text ≡ output_text run.plan journal)
 
--- the text that is printed of a run
-abbrev pub output_of : Run → List ℕ
-output_of run = output_text run.plan (run_journal run)
+-- ---- what comes of texts that a shelf may tell
 
--- what is printed of the run of the plan and the scripts of these names
-abbrev pub output_told : Held → List ℕ → List (List ℕ) → FromTexts (List ℕ)
-output_told held plan_name names = told_then (run_told held plan_name names) (λ run. Gives (output_of run))
+-- a text is one of those that may come of what is told, if that is told
+abbrev pub MayCome : {A : Type 0} → (A → List ℕ → Type 0) → List ℕ → FromTexts A → Type 0
+MayCome Comes text Untold = Unit {0}
+MayCome Comes text (Gives x) = Comes x text
+MayCome Comes text (Refuses n fault) = ⊥
+
+-- a step makes such a text, or stops as is told
+abbrev pub MakesText : {X A : Type 0} → (A → List ℕ → Type 0) → (X → List ℕ) → Result X Stop → FromTexts A → Type 0
+MakesText Comes view (Ok x) told = MayCome Comes (view x) told
+MakesText Comes view (Err stop) told = StopsAt stop told

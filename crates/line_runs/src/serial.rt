@@ -8,11 +8,11 @@ ghost use Rattle.line_runs.specs.Rosters.{calls_of_scripts};
 ghost use Rattle.line_runs.specs.Serial.{Turns, rest_of};
 ghost use Rattle.text_fetch.specs.Runs.{AreScriptsOf};
 
-use crate::gate::Gate;
 use crate::look::Look;
 use crate::roster::Roster;
 use line_law::{Entry, Journal, Plain};
 use line_plan::{Items, Plan};
+use line_working::Gate;
 use rail_text::NoMemory;
 use script_text::Script;
 use std::alloc::{AllocError, Global};

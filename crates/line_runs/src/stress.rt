@@ -3,20 +3,21 @@
 ghost use Rattle.std.specs.Prelude.{◌≡◌, ◌≤◌, ◌++◌, IfOk, IsErrOf, OnOk, length, string_bytes};
 ghost use Rattle.line_law.specs.History.{IsLegal};
 ghost use Rattle.line_report.specs.Asked.{AreFewEntries};
-ghost use Rattle.line_runs.specs.Made.{IsMade, count_line, made_run, summary_of, summary_text};
-ghost use Rattle.line_runs.specs.Outputs.{run_journal};
-ghost use Rattle.text_fetch.specs.Runs.{AreScriptsOf};
-ghost use Rattle.text_fetch.specs.FromTexts.{Gives, Makes};
+ghost use Rattle.text_fetch.specs.FromTexts.{Gives};
+ghost use Rattle.line_runs.specs.Made.{IsMade, IsSummaryOf, count_line, summary_text};
+ghost use Rattle.line_runs.specs.Outputs.{MakesText};
 
-use crate::gate::Gate;
-use crate::run::worked_journal;
+use crate::worked::worked_line;
 use line_law::Journal;
 use line_maker::{MakeError, make_line};
 use line_plan::Plan;
 use line_report::{put_sections, refused_count};
+use line_working::Gate;
 use rail_text::NoMemory;
 use std::alloc::{AllocError, Global};
 use std::fmt::Write;
+use std::sync::Wait;
+use std::thread::Threads;
 use text_fetch::{Inputs, Stop};
 
 // A line with one number.
@@ -70,9 +71,8 @@ fn journal_summary(
 fn made_inputs(alloc: Global, trains: u32) -> Result<Inputs, NoMemory>
     requires low { 1 ≤ trains }
     requires high { trains ≤ 200 }
-    ensures made { IfOk result
-        (λ inputs. record { plan = inputs.plan; scripts = inputs.scripts.items } ≡ made_run trains) }
-    ensures sound { OnOk result (IsMade trains) }
+    ensures { IfOk result
+        (λ inputs. IsMade trains (record { plan = inputs.plan; scripts = inputs.scripts.items })) }
 {
     match make_line(alloc, trains) {
         Ok((plan, scripts)) => Ok(Inputs { plan, scripts }),
@@ -81,34 +81,38 @@ fn made_inputs(alloc: Global, trains: u32) -> Result<Inputs, NoMemory>
     }
 }
 
-// The summary of a line that is worked by its scripts.
-fn summary_text<G: Gate>(
+// The summary of the made line, worked by its scripts.
+fn made_summary<R: Threads + Wait + Sync, G: Gate>(
+    rt: &R,
     alloc: Global,
     trains: u32,
     inputs: &Inputs,
     gate: &G,
 ) -> Result<Vec<u8>, NoMemory>
-    requires { AreScriptsOf inputs.now.plan inputs.now.scripts.items }
-    ensures { IfOk result (λ text. text.items
-        ≡ summary_text trains inputs.now.plan
-        (run_journal (record { plan = inputs.now.plan; scripts = inputs.now.scripts.items }))) }
+    requires { IsMade trains (record { plan = inputs.now.plan; scripts = inputs.now.scripts.items }) }
+    ensures { IfOk result (λ text. IsSummaryOf trains text.items) }
 {
-    let journal = worked_journal(alloc, inputs, gate)?;
-    let text = journal_summary(alloc, trains, &inputs.plan, &journal);
-    drop(journal);
+    let line = worked_line(rt, alloc, &inputs.plan, &inputs.scripts, gate)?;
+    let text = journal_summary(alloc, trains, &inputs.plan, &line.journal);
+    drop(line);
     text
 }
 
-/// The summary of the made line of so many trains, worked by its own scripts; or that memory ran out.
-pub fn stress_outcome<G: Gate>(alloc: Global, trains: u32, gate: &G) -> Result<Vec<u8>, Stop>
+/// The summary of the made line of so many trains, worked by its own scripts, each on a thread of its own; or that
+/// memory ran out.
+pub fn stress_outcome<R: Threads + Wait + Sync, G: Gate>(
+    rt: &R,
+    alloc: Global,
+    trains: u32,
+    gate: &G,
+) -> Result<Vec<u8>, Stop>
     requires low { 1 ≤ trains }
     requires high { trains ≤ 200 }
-    ensures told { Makes (λ text. text.items) result (Gives (summary_of trains)) }
-    ensures sound { OnOk result (IsMade trains) }
+    ensures told { MakesText IsSummaryOf (λ text. text.items) result (Gives trains) }
     ensures no_fault { IsErrOf result Stop.ShelfFault → ⊥ }
 {
     let inputs = made_inputs(alloc, trains)?;
-    let text = summary_text(alloc, trains, &inputs, gate);
+    let text = made_summary(rt, alloc, trains, &inputs, gate);
     drop(inputs);
     Ok(text?)
 }

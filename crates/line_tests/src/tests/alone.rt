@@ -14,7 +14,7 @@ type Row = (
     &'static str,
 );
 
-const ROWS: [Row; 8] = [
+const ROWS: [Row; 9] = [
     (JUDGE, &[TWO_BOXES, IDLE_JOURNAL], Status::Done, "legal 0\n"),
     (
         &["check", "plan"],
@@ -33,6 +33,12 @@ const ROWS: [Row; 8] = [
         &[TWO_BOXES],
         Status::Refused,
         "refused text 1 line 0: unknown name\n",
+    ),
+    (
+        &["chart", "plan", "Ash"],
+        &[TWO_BOXES],
+        Status::Done,
+        "chart Ash\nchannels 0\ncolumn none\n",
     ),
     (
         &["upgrade", "plan"],

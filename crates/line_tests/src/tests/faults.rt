@@ -19,7 +19,7 @@ type Fetch = (
     Status,
 );
 
-const FETCHES: [Fetch; 14] = [
+const FETCHES: [Fetch; 15] = [
     (
         Some(1),
         RUN_TWO,
@@ -82,6 +82,12 @@ const FETCHES: [Fetch; 14] = [
     (
         Some(1),
         &["tables", "plan", "Ash"],
+        &[TWO_BOXES],
+        Status::ShelfFault,
+    ),
+    (
+        Some(1),
+        &["chart", "plan", "Ash"],
         &[TWO_BOXES],
         Status::ShelfFault,
     ),

@@ -1,0 +1,10 @@
+pub mod Steps
+pub mod OneLayout
+pub mod Judged
+pub mod Told
+pub mod Fits
+pub mod Shown
+pub mod Counts
+pub mod Layouts
+pub mod Columns
+pub mod Orders

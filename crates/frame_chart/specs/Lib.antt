@@ -1,0 +1,5 @@
+pub mod Spans
+pub mod Charts
+pub mod Laying
+pub mod Checking
+pub mod Printing

@@ -1,0 +1,16 @@
+use Rattle.std.proofs.lemmas.Result.{IfOk-weaker}
+use Rattle.line_plan.specs.Plans.{IsPlan}
+use Rattle.line_runs.proofs.ScriptsWorked.{alone_within, alone_worked}
+use Rattle.line_runs.proofs.worked.work_alone.Goals as goal
+
+pub of_journal-ended-requires : goal.of_journal-ended-requires
+of_journal-ended-requires g c =
+    let is : IsPlan c.args.plan.now = c.meets_conditions.ensures in
+    record { boxes = alone_within c.args.plan.now c.args.scripts.now _ is c.requires c.in_ok-journal.ensures }
+
+pub returns : goal.returns
+returns g c =
+    let is : IsPlan c.args.plan.now = c.meets_conditions.ensures in
+    IfOk-weaker c.of_journal-ended.result _ _
+    (λ ended parts. alone_worked c.args.plan.now c.args.scripts.now _ ended.registers is c.requires
+    c.in_ok-journal.ensures parts) c.of_journal-ended.ensures.parts

@@ -1,0 +1,46 @@
+-- A line that is worked by its scripts, and the journal that comes of it.
+use Rattle.std.specs.Prelude.{◌≡◌, ◌≤◌, ℕ, List, ◌++◌, length, map}
+use Rattle.line_plan.specs.Plans.{PlanFields}
+use Rattle.line_plan.specs.Sections.{IsSection, limit_of}
+use Rattle.line_plan.specs.declared.section.Section.{Section}
+use Rattle.line_law.specs.declared.call.Entry.{Entry}
+use Rattle.line_law.specs.History.{IsLegal, calls_of, state_of}
+use Rattle.line_law.specs.Sections.{IsClean, held_by}
+use Rattle.line_law.specs.Serial.{calls_left}
+use Rattle.line_journal.specs.Order.{IsInOrder}
+use Rattle.line_report.specs.Asked.{AreFewEntries}
+use Rattle.script_text.specs.declared.script.Script.{Script}
+use Rattle.text_fetch.specs.Runs.{Run}
+use Rattle.train_register.specs.Registers.{AreParts, RegisterFields}
+use Rattle.line_runs.specs.Rosters.{calls_of_scripts}
+
+-- how many calls each script has
+abbrev pub lengths_of : List Script → List ℕ
+lengths_of scripts = map (λ script. length script.calls) scripts
+
+-- a history has exactly each script's calls, in order
+abbrev pub HasCallsOf : List Script → List Entry → Type 0
+HasCallsOf scripts es = (b : ℕ) → calls_of b es ≡ calls_left (calls_of_scripts scripts) b
+
+-- the registers of a line that has ended after its scripts were worked: the parts of one legal history, which has
+-- exactly each script's calls, in order
+pub record AreWorked (plan : PlanFields) (scripts : List Script) (registers : List RegisterFields) : Type 0 where
+  pub history : List Entry
+  pub legal : IsLegal plan history
+  pub parts : AreParts plan history registers
+  pub calls : HasCallsOf scripts history
+  pub few : AreFewEntries history
+
+-- after each prefix of a journal that is clean for a section, the section holds no more trains than it may
+abbrev pub HoldsFew : PlanFields → List Entry → Type 0
+HoldsFew plan journal = (section : Section) (es more : List Entry) → IsSection plan section → journal ≡ es ++ more
+    → IsClean plan section es → held_by plan (state_of plan es) section ≤ limit_of plan section
+
+-- The journal is one legal history, which has exactly each script's calls, in order, and stands in the order of its own
+-- parts; and while it records no overrun, left portion or release in a section, that section holds no more trains than
+-- it may.
+pub record IsJournalOf (run : Run) (journal : List Entry) : Type 0 where
+  pub legal : IsLegal run.plan journal
+  pub calls : HasCallsOf run.scripts journal
+  pub order : IsInOrder run.plan journal
+  pub trains : HoldsFew run.plan journal

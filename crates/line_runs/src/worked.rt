@@ -1,0 +1,168 @@
+//! A line that is worked by the scripts of its boxes, up to its journal.
+
+ghost use Rattle.std.specs.Prelude.{◌≡◌, All, Err, IfOk, IfSome, Ok, OnErr};
+ghost use Rattle.line_report.specs.Asked.{AreFewEntries};
+ghost use Rattle.script_text.specs.Entries.{IsSpelled};
+ghost use Rattle.signalman_seats.specs.Lines.{AreFresh};
+ghost use Rattle.signalman_seats.specs.declared.opening.OpenError.{OpenError};
+ghost use Rattle.text_fetch.specs.Runs.{AreScriptsOf};
+ghost use Rattle.train_register.specs.Registers.{AreParts, IsPrintable};
+ghost use Rattle.line_runs.specs.Worked.{AreWorked, IsJournalOf, lengths_of};
+
+use crate::serial::work_serially;
+use instrument_rule::Line;
+use line_journal::merge;
+use line_law::Journal;
+use line_plan::Plan;
+use line_working::{Gate, work_line};
+use rail_text::NoMemory;
+use script_text::Script;
+use signalman_seats::{OpenError, Signalman, close_line, open_line};
+use std::alloc::{AllocError, Global};
+use std::sync::Wait;
+use std::thread::Threads;
+use train_register::Ended;
+
+/// A line that was worked and has ended: its journal, and the registers of its boxes.
+#[derive(Drop)]
+pub struct WorkedLine {
+    /// What happened on the line, in the order of the journal.
+    pub journal: Journal,
+    /// The same, box by box.
+    pub ended: Ended,
+}
+
+// How many calls each script has.
+fn lengths_of(alloc: Global, scripts: &[Script]) -> Result<Vec<usize>, AllocError>
+    ensures { IfOk result (λ lengths. lengths.items ≡ lengths_of scripts.now) }
+{
+    let mut lengths = Vec::new(alloc);
+    for script in scripts {
+        lengths.push(script.calls.as_slice().len())?;
+    }
+    Ok(lengths)
+}
+
+// Lets each man of an open line work his script, and closes the line.
+fn work_and_close<R: Threads + Wait + Sync, G: Gate>(
+    rt: &R,
+    alloc: Global,
+    plan: &Plan,
+    scripts: &[Script],
+    line: Line,
+    mut men: Vec<Signalman>,
+    gate: &G,
+) -> Result<Ended, NoMemory>
+    requires scripts { AreScriptsOf plan.now scripts.now }
+    requires line { line.table.shared.key ≡ plan.now }
+    requires men { AreFresh line.table.shared.table_id plan.now (lengths_of scripts.now) men.items }
+    ensures { IfOk result (λ ended. AreWorked plan.now scripts.now ended.registers) }
+{
+    plan.meets_conditions();
+    work_line(rt, alloc, &line, &mut men, scripts, plan.looks, gate);
+    match close_line(alloc, line, men) {
+        Ok(ended) => Ok(ended),
+        Err(refused) => {
+            drop(refused);
+            Err(NoMemory)
+        }
+    }
+}
+
+// The line that was opened, with its men; none where the post of a box was taken.
+fn opened_line(
+    opened: Result<(Line, Vec<Signalman>), OpenError>,
+) -> Result<Option<(Line, Vec<Signalman>)>, NoMemory>
+    ensures line { IfOk result (λ o. IfSome o (λ line. opened ≡ Ok line)) }
+    ensures memory { OnErr result (opened ≡ Err OpenError.NoMemory) }
+{
+    match opened {
+        Ok(line) => Ok(Some(line)),
+        Err(OpenError::PostTaken { .. }) => Ok(None),
+        Err(OpenError::NoMemory) => Err(NoMemory),
+    }
+}
+
+// The registers of a line whose scripts are worked by its men, each on a thread of his own; none where the post of a
+// box was taken.
+fn work_by_men<R: Threads + Wait + Sync, G: Gate>(
+    rt: &R,
+    alloc: Global,
+    plan: &Plan,
+    scripts: &[Script],
+    gate: &G,
+) -> Result<Option<Ended>, NoMemory>
+    requires { AreScriptsOf plan.now scripts.now }
+    ensures { IfOk result (λ o. IfSome o (λ ended. AreWorked plan.now scripts.now ended.registers)) }
+{
+    let lengths = lengths_of(alloc, scripts)?;
+    match opened_line(open_line(alloc, plan, &lengths))? {
+        Some((line, men)) => {
+            let ended = work_and_close(rt, alloc, plan, scripts, line, men, gate)?;
+            Ok(Some(ended))
+        }
+        None => Ok(None),
+    }
+}
+
+// The registers of a line whose scripts are worked on this thread.
+fn work_alone<G: Gate>(
+    alloc: Global,
+    plan: &Plan,
+    scripts: &[Script],
+    gate: &G,
+) -> Result<Ended, NoMemory>
+    requires { AreScriptsOf plan.now scripts.now }
+    ensures { IfOk result (λ ended. AreWorked plan.now scripts.now ended.registers) }
+{
+    plan.meets_conditions();
+    let journal = work_serially(alloc, plan, scripts, gate)?;
+    let ended = Ended::of_journal(alloc, plan, &journal);
+    drop(journal);
+    ended
+}
+
+// The registers of a line whose scripts are worked: by its men, or where the post of a box was taken, on this thread.
+fn work_scripts<R: Threads + Wait + Sync, G: Gate>(
+    rt: &R,
+    alloc: Global,
+    plan: &Plan,
+    scripts: &[Script],
+    gate: &G,
+) -> Result<Ended, NoMemory>
+    requires { AreScriptsOf plan.now scripts.now }
+    ensures { IfOk result (λ ended. AreWorked plan.now scripts.now ended.registers) }
+{
+    match work_by_men(rt, alloc, plan, scripts, gate)? {
+        Some(ended) => Ok(ended),
+        None => work_alone(alloc, plan, scripts, gate),
+    }
+}
+
+/// Works the scripts of a plan's boxes, one for each in box order, and merges the registers into the journal. Each
+/// script is worked by its own signalman on a thread of his own, each call behind the gate.
+pub fn worked_line<R: Threads + Wait + Sync, G: Gate>(
+    rt: &R,
+    alloc: Global,
+    plan: &Plan,
+    scripts: &[Script],
+    gate: &G,
+) -> Result<WorkedLine, NoMemory>
+    requires { AreScriptsOf plan.now scripts.now }
+    ensures journal { IfOk result
+        (λ line. IsJournalOf (record { plan = plan.now; scripts = scripts.now }) line.journal.entries) }
+    ensures parts { IfOk result (λ line. AreParts plan.now line.journal.entries line.ended.registers) }
+    ensures few { IfOk result (λ line. AreFewEntries line.journal.entries) }
+    ensures spelled { IfOk result (λ line. All (IsSpelled plan.now) line.journal.entries) }
+    ensures printable { IfOk result (λ line. All (IsPrintable plan.now) line.ended.registers) }
+{
+    plan.meets_conditions();
+    let ended = work_scripts(rt, alloc, plan, scripts, gate)?;
+    match merge(alloc, plan, &ended) {
+        Ok(journal) => Ok(WorkedLine { journal, ended }),
+        Err(NoMemory) => {
+            drop(ended);
+            Err(NoMemory)
+        }
+    }
+}

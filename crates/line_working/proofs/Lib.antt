@@ -1,0 +1,2 @@
+pub mod CallByCall
+pub mod FreshMen

@@ -1,0 +1,8 @@
+//! The work of a line: each signalman works his script, on a thread of his own.
+#![tactic(auto)]
+
+mod gate;
+mod working;
+
+pub use gate::{Gate, OpenGate};
+pub use working::work_line;

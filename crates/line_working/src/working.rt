@@ -1,0 +1,72 @@
+//! The scripts of a line, worked by its signalmen.
+
+ghost use Rattle.std.specs.Prelude.{◌≡◌, ◌≤◌, ◌<◌, ℕ, length, slice_index_or};
+ghost use Rattle.line_working.specs.Working.{CanWork, DidWork};
+ghost use Rattle.script_text.specs.declared.script.Script.{Script};
+ghost use Rattle.signalman_seats.specs.Men.{Man};
+
+use crate::gate::Gate;
+use instrument_rule::Line;
+use script_text::Script;
+use signalman_seats::Signalman;
+use std::alloc::Global;
+use std::sync::Wait;
+use std::thread;
+use std::thread::Threads;
+
+// Makes the calls of a script, in order. Before each the man passes the gate.
+fn work<G: Gate>(man: &mut Signalman, line: &Line, script: &Script, looks: u32, gate: &G)
+    requires ready { CanWork line.now.table.shared.table_id line.now.table.shared.key script.now man.old }
+    requires looks { 1 ≤ looks }
+    ensures { DidWork line.now.table.shared.table_id line.now.table.shared.key script.now looks man.old man.new }
+{
+    // His watch and his entries tell what his type keeps: what he has seen is legal, and they are his part of it. It is
+    // asked for the script that has no call.
+    drop(man.lend_watch(line));
+    let _entries = man.entries();
+    for (i, call) in script.calls.as_slice().iter().enumerate() {
+        gate.pass(script.box_no, i as u32 + 1);
+        man.perform(line, *call, looks);
+    }
+}
+
+/// Each signalman works his script, on a thread of his own. Where a thread can't be started the caller does its work,
+/// with the same promise. Before each call the man passes the gate. It may wait for the threads that it started.
+///
+/// The men stay in their places. What each has seen has grown to a legal history of the line, in which his part has one
+/// entry more for each call of his script, in order and no other.
+pub fn work_line<R: Threads + Wait + Sync, G: Gate>(
+    rt: &R,
+    alloc: Global,
+    line: &Line,
+    men: &mut [Signalman],
+    scripts: &[Script],
+    looks: u32,
+    gate: &G,
+)
+    requires some { 0 < length men.old }
+    requires count { length scripts.now ≡ length men.old }
+    requires ready { (i : ℕ) (d : Man) (e : Script) → i < length men.old
+        → CanWork line.now.table.shared.table_id line.now.table.shared.key (slice_index_or scripts.now i e)
+        (slice_index_or men.old i d) }
+    requires looks { 1 ≤ looks }
+    ensures count { length men.new ≡ length men.old }
+    ensures worked { (i : ℕ) (d : Man) (e : Script) → i < length men.old
+        → DidWork line.now.table.shared.table_id line.now.table.shared.key (slice_index_or scripts.now i e) looks
+        (slice_index_or men.old i d) (slice_index_or men.new i d) }
+{
+    let _ = alloc;
+    let threads = men.len();
+    thread::for_each_mut(
+        rt,
+        men,
+        threads,
+        &|i: usize, man: &mut Signalman|
+            requires { (i < length scripts.now) × (1 ≤ looks)
+                × ((e : Script) → CanWork line.now.table.shared.table_id line.now.table.shared.key
+                (slice_index_or scripts.now i e) man.now) }
+            ensures { (e : Script) → DidWork line.entry.now.table.shared.table_id line.entry.now.table.shared.key
+                (slice_index_or scripts.entry.now i e) looks man.entry.now man.exit.now }
+        { work(man, line, &scripts[i], looks, gate) },
+    );
+}

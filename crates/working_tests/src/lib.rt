@@ -1,0 +1,6 @@
+//! Tests of signalmen who work on threads of their own, behind gates that hold them back or note who comes.
+#![tactic(auto)]
+
+pub mod line;
+#[cfg(test)]
+mod tests;

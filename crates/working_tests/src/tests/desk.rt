@@ -1,0 +1,64 @@
+//! The line of the tests, what its men have told, and the one assertion.
+
+use crate::line::{read_scripts, worked};
+use line_law::{Entry, Reply};
+use line_working::Gate;
+use plan_text::read_plan;
+use rail_text::ReadError;
+use signalman_seats::Signalman;
+use std::alloc::Global;
+use std::process::Abort;
+use std::sync::Wait;
+use std::thread::Threads;
+
+// Two boxes with bells alone.
+const BELLS: &str = "plan 1\nboxes 2\ndelay 2\nlooks 1000000000\nbox Ash\nbox Beech\nend\n";
+
+/// Ends the test where a fact doesn't hold, and names it.
+pub fn holds(rt: &impl Abort, fact: &str, is_so: bool) {
+    assert!(rt; is_so, "not so: {fact}");
+}
+
+// Are the replies of these entries these?
+fn are_told(entries: &[Entry], replies: &[Reply]) -> bool {
+    entries.len() == replies.len()
+        && entries
+            .iter()
+            .zip(replies)
+            .all(|(entry, reply)| entry.reply == *reply)
+}
+
+// Are these the replies of each man?
+fn have_told(men: &[Signalman], replies: &[&[Reply]]) -> bool {
+    men.len() == replies.len()
+        && men
+            .iter()
+            .zip(replies)
+            .all(|(man, told)| are_told(man.entries(), told))
+}
+
+/// Works scripts of the two boxes, with three looks an await. Do the men have these replies?
+///
+/// # Errors
+///
+/// `Refused` where a text is no script of its box, `NoMemory` where memory runs out.
+pub fn are_replies<R: Threads + Wait + Sync, G: Gate>(
+    rt: &R,
+    alloc: Global,
+    texts: &[&str],
+    gate: &G,
+    replies: &[&[Reply]],
+) -> Result<bool, ReadError> {
+    let plan = read_plan(alloc, BELLS.as_bytes())?;
+    if texts.len() != plan.boxes.len() {
+        drop(plan);
+        return Ok(false);
+    }
+    let scripts = read_scripts(alloc, &plan, texts)?;
+    let men = worked(rt, alloc, &plan, &scripts, 3, gate)?;
+    let are_so = have_told(&men, replies);
+    drop(men);
+    drop(scripts);
+    drop(plan);
+    Ok(are_so)
+}
