@@ -1,0 +1,4 @@
+pub mod History
+pub mod Law
+pub mod States
+pub mod Trains
