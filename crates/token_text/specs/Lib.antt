@@ -1,0 +1,5 @@
+pub mod Acts
+pub mod Drafts
+pub mod Limits
+pub mod Outputs
+pub mod Scripts

@@ -1,0 +1,139 @@
+//! The token script as far as its text is read, and which line may come next.
+
+use crate::acts::read_call;
+use crate::script::{MOST_TOKEN_CALLS, TokenScript};
+use rail_text::{Cause, Draft, LineFault, TextLine, has_keyword, no_word, number_in, one_word};
+use std::alloc::Global;
+use std::marker::Model;
+use token_law::TokenCall;
+
+/// Which line comes next.
+#[derive(Clone, Copy, Debug, PartialEq, Eq)]
+pub enum Stage {
+    Version,
+    Tokens,
+    Calls,
+    Ended,
+}
+
+/// What is read so far: the stage, the tokens at each box, and the calls.
+#[derive(Drop)]
+pub struct TokenDraft {
+    stage: Stage,
+    at_0: u32,
+    at_1: u32,
+    calls: Vec<TokenCall>,
+}
+
+impl Model for TokenDraft {
+    ghost use Rattle.token_text.specs.Drafts.{TokenDraftFields};
+    ghost use Rattle.token_text.specs.Scripts.{IsTokenScript};
+
+    ghost Value = { TokenDraftFields };
+
+    ghost view = { λ d. record { stage = d.stage; at_0 = d.at_0; at_1 = d.at_1; calls = d.calls.items } };
+
+    ghost invariant = { λ d. IsTokenScript (record { at_0 = d.at_0; at_1 = d.at_1; calls = d.calls.items }) };
+}
+
+impl TokenDraft {
+    ghost use Rattle.std.specs.Prelude.{◌≡◌};
+    ghost use Rattle.rail_text.specs.Gives.{GivesLine};
+    ghost use Rattle.rail_text.specs.Lines.{words_of};
+    ghost use Rattle.token_text.specs.Drafts.{start};
+    ghost use Rattle.token_text.specs.Scripts.{call_onto, end_onto, script_from, tokens_onto, version_onto};
+
+    /// Nothing is read.
+    pub fn new(alloc: Global) -> TokenDraft
+        ensures { result ≡ start }
+    {
+        TokenDraft {
+            stage: Stage::Version,
+            at_0: 0,
+            at_1: 0,
+            calls: Vec::new(alloc),
+        }
+    }
+
+    // `token 1`: the version.
+    #[tactic(auto, unfolding(crate::specs::Scripts::version_onto))]
+    fn version_line(&mut self, line: &TextLine<'_>) -> Result<(), LineFault>
+        ensures { GivesLine (λ _. self.new) result (version_onto self.old (words_of line.now.text.now)) }
+    {
+        let word = one_word(line)?;
+        number_in(word, 1, 1)?;
+        self.stage = Stage::Tokens;
+        Ok(())
+    }
+
+    // `tokens A B`: the tokens at each box.
+    #[tactic(auto, unfolding(crate::specs::Scripts::tokens_onto))]
+    fn tokens_line(&mut self, line: &TextLine<'_>) -> Result<(), LineFault>
+        ensures { GivesLine (λ _. self.new) result (tokens_onto self.old (words_of line.now.text.now)) }
+    {
+        let (first, second) = match (line.word(1), line.word(2), line.word(3)) {
+            (Some(first), Some(second), None) => (first, second),
+            _ => return Err(LineFault::Cause(Cause::WordCount)),
+        };
+        let at_0 = number_in(first, 0, 50)?;
+        let at_1 = number_in(second, 0, 50)?;
+        self.at_0 = at_0;
+        self.at_1 = at_1;
+        self.stage = Stage::Calls;
+        Ok(())
+    }
+
+    // A call more.
+    #[tactic(auto, using(crate::proofs::Calls::more_calls), unfolding(crate::specs::Scripts::call_onto))]
+    fn call_line(&mut self, line: &TextLine<'_>) -> Result<(), LineFault>
+        ensures { GivesLine (λ _. self.new) result (call_onto self.old (words_of line.now.text.now)) }
+    {
+        let call = read_call(line)?;
+        if self.calls.len() >= MOST_TOKEN_CALLS {
+            return Err(LineFault::Cause(Cause::TooMany));
+        }
+        self.calls.push(call)?;
+        Ok(())
+    }
+
+    // `end`: the script ends.
+    #[tactic(auto, unfolding(crate::specs::Scripts::end_onto))]
+    fn end_line(&mut self, line: &TextLine<'_>) -> Result<(), LineFault>
+        ensures { GivesLine (λ _. self.new) result (end_onto self.old (words_of line.now.text.now)) }
+    {
+        no_word(line)?;
+        self.stage = Stage::Ended;
+        Ok(())
+    }
+
+    /// The script.
+    pub fn into_script(self) -> TokenScript
+        ensures { result ≡ script_from self }
+    {
+        TokenScript::new(self.at_0, self.at_1, self.calls)
+    }
+}
+
+impl Draft for TokenDraft {
+    ghost use Rattle.token_text.specs.Scripts.{has_ended, words_onto};
+
+    ghost onto = { words_onto };
+
+    ghost ended = { λ draft. has_ended draft.stage };
+
+    #[tactic(auto, unfolding(crate::specs::Scripts::stage_onto))]
+    fn read_words(&mut self, line: &TextLine<'_>) -> Result<(), LineFault> {
+        match self.stage {
+            Stage::Version if has_keyword(line, b"token") => self.version_line(line),
+            Stage::Tokens if has_keyword(line, b"tokens") => self.tokens_line(line),
+            Stage::Version | Stage::Tokens => Err(LineFault::Cause(Cause::WrongKeyword)),
+            Stage::Calls if has_keyword(line, b"end") => self.end_line(line),
+            Stage::Calls => self.call_line(line),
+            Stage::Ended => Err(LineFault::Cause(Cause::AfterEnd)),
+        }
+    }
+
+    fn has_ended(&self) -> bool {
+        self.stage == Stage::Ended
+    }
+}

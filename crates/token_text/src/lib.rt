@@ -1,0 +1,12 @@
+//! The texts of a single line with tokens: the script of its calls.
+#![tactic(auto)]
+
+pub mod acts;
+pub mod draft;
+pub mod printing;
+pub mod reading;
+pub mod script;
+
+pub use printing::put_token_entry;
+pub use reading::read_tokens;
+pub use script::{MOST_TOKEN_CALLS, TOKEN_SCRIPT_LIMIT, TokenScript};
