@@ -18,6 +18,11 @@ pub fn all_hold(rt: &impl Abort, facts: &[(&str, bool)]) {
     }
 }
 
+/// Ends the test where a case is wrong, with its text.
+pub fn none_is_wrong(rt: &impl Abort, wrong: Option<&str>) {
+    assert!(rt; wrong.is_none(), "wrong: {wrong:?}");
+}
+
 /// A line as it opens; one without tokens for numbers that no line has.
 pub fn opened(at_0: u32, at_1: u32) -> SingleLine {
     if at_0 <= 50 && at_1 <= 50 {

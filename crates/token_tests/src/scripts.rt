@@ -1,0 +1,146 @@
+//! Token scripts: each cause for which a text is refused, with its line, and the texts at the limits.
+
+use crate::facts::{all_hold, none_is_wrong};
+use rail_text::{Cause, ReadError};
+use std::alloc::{AllocError, Global};
+use std::test::Fail;
+use token_text::read_tokens;
+
+/// A text, and the line and the cause of its first fault.
+type Refused = (&'static str, u32, Cause);
+
+const FORMS: &[Refused] = &[
+    ("token 1", 1, Cause::Cut),
+    ("token 1\ntokens 1 0\n0 lo\tok\n", 3, Cause::BadByte),
+    ("token 1\ntokens 1  0\n", 2, Cause::Spacing),
+    ("token 1\ntokens 1 0\nend\n0 look\n", 4, Cause::AfterEnd),
+    ("", 1, Cause::NoEnd),
+    ("token 1\ntokens 1 0\n0 look\n", 4, Cause::NoEnd),
+];
+
+const OPENINGS: &[Refused] = &[
+    ("tokens 1 0\n", 1, Cause::WrongKeyword),
+    ("token 1\n0 look\n", 2, Cause::WrongKeyword),
+    ("token 1\ntoken 1\n", 2, Cause::WrongKeyword),
+    ("token 1\nend\n", 2, Cause::WrongKeyword),
+    ("token\n", 1, Cause::WordCount),
+    ("token 1 1\n", 1, Cause::WordCount),
+    ("token one\n", 1, Cause::BadNumber),
+    ("token 2\n", 1, Cause::OutOfRange),
+    ("token 1\ntokens x\n", 2, Cause::WordCount),
+    ("token 1\ntokens 1 0 0\n", 2, Cause::WordCount),
+    ("token 1\ntokens x 51\n", 2, Cause::BadNumber),
+    ("token 1\ntokens 1 00\n", 2, Cause::BadNumber),
+    ("token 1\ntokens 51 x\n", 2, Cause::OutOfRange),
+    ("token 1\ntokens 0 51\n", 2, Cause::OutOfRange),
+];
+
+const CALLS: &[Refused] = &[
+    ("token 1\ntokens 1 0\n2 give\n", 3, Cause::OutOfRange),
+    ("token 1\ntokens 1 0\n2\n", 3, Cause::OutOfRange),
+    ("token 1\ntokens 1 0\ntoken 1\n", 3, Cause::BadNumber),
+    ("token 1\ntokens 1 0\ntokens 1 0\n", 3, Cause::BadNumber),
+    ("token 1\ntokens 1 0\nx wave\n", 3, Cause::BadNumber),
+    ("token 1\ntokens 1 0\n0\n", 3, Cause::UnknownWord),
+    ("token 1\ntokens 1 0\n0 wave 1 2\n", 3, Cause::UnknownWord),
+    ("token 1\ntokens 1 0\n0 look 7\n", 3, Cause::WordCount),
+    ("token 1\ntokens 1 0\n0 draw\n", 3, Cause::WordCount),
+    ("token 1\ntokens 1 0\n0 draw 0 1\n", 3, Cause::WordCount),
+    ("token 1\ntokens 1 0\nend 1\n", 3, Cause::WordCount),
+    ("token 1\ntokens 1 0\n0 draw x\n", 3, Cause::BadNumber),
+    ("token 1\ntokens 1 0\n0 draw 0\n", 3, Cause::OutOfRange),
+    ("token 1\ntokens 1 0\n0 draw 65536\n", 3, Cause::OutOfRange),
+    (
+        "# one\n\ntoken 1\n#\ntokens 1 0\n2 give\n",
+        6,
+        Cause::OutOfRange,
+    ),
+];
+
+// What a text is refused for; nothing where it is read.
+fn refusal_of(alloc: Global, text: &str) -> Option<ReadError> {
+    match read_tokens(alloc, text.as_bytes()) {
+        Ok(_) => None,
+        Err(error) => Some(error),
+    }
+}
+
+// The first of these texts that isn't refused so.
+fn first_misread(alloc: Global, texts: &[Refused]) -> Option<&'static str> {
+    for (text, line, cause) in texts {
+        let due = ReadError::Refused {
+            line: *line,
+            cause: *cause,
+        };
+        if refusal_of(alloc, text) != Some(due) {
+            return Some(text);
+        }
+    }
+    None
+}
+
+#[test]
+fn each_cause_with_its_line(rt: HostRuntime) {
+    let misread = first_misread(rt.alloc(), FORMS)
+        .or(first_misread(rt.alloc(), OPENINGS))
+        .or(first_misread(rt.alloc(), CALLS));
+    none_is_wrong(&rt, misread);
+}
+
+// A script that has a piece so many times for its calls.
+fn script_of(alloc: Global, piece: &str, times: usize) -> Result<String, AllocError> {
+    let mut text = String::from_str(alloc, "token 1\ntokens 50 50\n")?;
+    for _ in 0..times {
+        text.push_str(piece)?;
+    }
+    text.push_str("\nend\n")?;
+    Ok(text)
+}
+
+// Whether the script that has a piece so many times is refused so, or read where no refusal is due.
+fn is_due(
+    alloc: Global,
+    piece: &str,
+    times: usize,
+    due: Option<ReadError>,
+) -> Result<bool, AllocError> {
+    let text = script_of(alloc, piece, times)?;
+    let is_due = refusal_of(alloc, text.as_str()) == due;
+    drop(text);
+    Ok(is_due)
+}
+
+const LONG_LINE: ReadError = ReadError::Refused {
+    line: 3,
+    cause: Cause::LongLine,
+};
+
+const TOO_MANY: ReadError = ReadError::Refused {
+    line: 10_003,
+    cause: Cause::TooMany,
+};
+
+const TOO_LONG: ReadError = ReadError::Refused {
+    line: 0,
+    cause: Cause::TooLong,
+};
+
+#[test]
+fn texts_at_the_limits(rt: HostRuntime) -> Result<(), Fail> {
+    let long_line = is_due(rt.alloc(), "x", 201, Some(LONG_LINE))?;
+    let most_calls = is_due(rt.alloc(), "1 draw 65535\n", 10_000, None)?;
+    let too_many = is_due(rt.alloc(), "0 look\n", 10_001, Some(TOO_MANY))?;
+    let longest = is_due(rt.alloc(), "\n", 1_048_550, None)?;
+    let too_long = is_due(rt.alloc(), "\n", 1_048_551, Some(TOO_LONG))?;
+    all_hold(
+        &rt,
+        &[
+            ("a line of 201 bytes", long_line),
+            ("10,000 calls are read", most_calls),
+            ("10,001 calls", too_many),
+            ("1,048,576 bytes are read", longest),
+            ("1,048,577 bytes", too_long),
+        ],
+    );
+    Ok(())
+}
