@@ -65,25 +65,32 @@ plan_is held name plan e = go (held name) e where
   go (Some bytes) f = reads bytes (plan_of bytes) refl f
 
 -- the text of this name spells a plan, and the bytes taken are what is told of it
-record PrintsOf (held : Held) (name : List ℕ) (told : PlanFields → FromTexts (List ℕ)) (old new : Option (List ℕ)) : Type 0 where
+record PrintsOf (held : Held) (name : List ℕ) (told : PlanFields → FromTexts (List ℕ))
+    (old new : Option (List ℕ)) : Type 0 where
   pub plan : PlanFields
   pub spelled : plan_told held name ≡ Gives plan
   pub text : List ℕ
   pub given : IsGiven text (told plan)
   pub taken : new ≡ appended old text
 
-plan_done : {X : Type 0} (outcome : Result X Stop) (view : X → List ℕ) (held : Held) (name : List ℕ) (told : PlanFields → FromTexts (List ℕ)) (old new : Option (List ℕ)) (status : Status)
-    → Makes view outcome (told_then (plan_told held name) told) → PutOutcome view outcome old new status → status ≡ statuses.Done → AreTold held (name ∷ []) → PrintsOf held name told old new
-plan_done {X = X} outcome view held name told old new status made put e all = go (outcome_done outcome view old new status put e) where
-  prints : (text : List ℕ) (t : FromTexts PlanFields) → new ≡ appended old text → plan_told held name ≡ t → IsTold t → IsGiven text (told_then t told) → PrintsOf held name told old new
-  prints text Untold taken is there h = absurd there
-  prints text (Gives plan) taken is there h = record { plan = plan; spelled = is; text = text; given = h; taken = taken }
-  prints text (Refuses n fault) taken is there h = absurd h
+plan_done : {X : Type 0} (outcome : Result X Stop) (view : X → List ℕ) (held : Held) (name : List ℕ)
+    (told : PlanFields → FromTexts (List ℕ)) (old new : Option (List ℕ)) (status : Status)
+    → Makes view outcome (told_then (plan_told held name) told) → PutOutcome view outcome old new status
+    → status ≡ statuses.Done → AreTold held (name ∷ []) → PrintsOf held name told old new
+plan_done {X = X} outcome view held name told old new status made put e all = go
+    (outcome_done outcome view old new status put e) where
+      prints : (text : List ℕ) (t : FromTexts PlanFields) → new ≡ appended old text → plan_told held name ≡ t → IsTold t
+          → IsGiven text (told_then t told) → PrintsOf held name told old new
+      prints text Untold taken is there h = absurd there
+      prints text (Gives plan) taken is there h = record
+          { plan = plan; spelled = is; text = text; given = h; taken = taken }
+      prints text (Refuses n fault) taken is there h = absurd h
 
-  go : IsPut outcome view old new → PrintsOf held name told old new
-  go p =
-      let given : Makes view (Ok p.made) (told_then (plan_told held name) told) = subst (λ (o : Result X Stop). Makes view o (told_then (plan_told held name) told)) p.is made in
-      prints (view p.made) (plan_told held name) p.taken refl (told_plan held name all) given
+      go : IsPut outcome view old new → PrintsOf held name told old new
+      go p =
+          let given : Makes view (Ok p.made) (told_then (plan_told held name) told) = subst
+          (λ (o : Result X Stop). Makes view o (told_then (plan_told held name) told)) p.is made in
+          prints (view p.made) (plan_told held name) p.taken refl (told_plan held name all) given
 
 -- ---- a check
 
@@ -96,7 +103,9 @@ findings_are plan is = record {
   no_starter = λ section. no_starter_exactly plan section;
 }
 
-check_done : (held : Held) (name : List ℕ) (old new : Option (List ℕ)) → PrintsOf held name (λ plan. Gives (findings_text plan (findings_of plan))) old new → PrintsFindings held name old new
+check_done : (held : Held) (name : List ℕ) (old new : Option (List ℕ))
+    → PrintsOf held name (λ plan. Gives (findings_text plan (findings_of plan))) old new
+    → PrintsFindings held name old new
 check_done held name old new p = record {
   plan = p.plan;
   spelled = p.spelled;
@@ -107,9 +116,12 @@ check_done held name old new p = record {
 
 -- ---- a frame
 
-frame_done : (held : Held) (plan_name name : List ℕ) (old new : Option (List ℕ)) → PrintsOf held plan_name (λ plan. frame_told plan name) old new → PrintsFrame held plan_name name old new
+frame_done : (held : Held) (plan_name name : List ℕ) (old new : Option (List ℕ))
+    → PrintsOf held plan_name (λ plan. frame_told plan name) old new → PrintsFrame held plan_name name old new
 frame_done held plan_name name old new p = go (box_named p.plan name) refl p.given where
-  go : (found : Option ℕ) → box_named p.plan name ≡ found → IsGiven p.text (told_then (box_told p.plan found) (λ box_plan. Gives (frame_text box_plan))) → PrintsFrame held plan_name name old new
+  go : (found : Option ℕ) → box_named p.plan name ≡ found
+      → IsGiven p.text (told_then (box_told p.plan found) (λ box_plan. Gives (frame_text box_plan)))
+      → PrintsFrame held plan_name name old new
   go None e h = absurd h
   go (Some b) e h =
       let is = found_is (names_of p.plan.boxes) name b e in
@@ -163,7 +175,8 @@ chart_done held plan_name name old new p = go (box_named p.plan name) refl p.giv
 
 -- ---- an upgrade
 
-upgrade_done : (held : Held) (name : List ℕ) (old new : Option (List ℕ)) → PrintsOf held name (λ plan. Gives (plan_text (upgraded plan))) old new → PrintsUpgrade held name old new
+upgrade_done : (held : Held) (name : List ℕ) (old new : Option (List ℕ))
+    → PrintsOf held name (λ plan. Gives (plan_text (upgraded plan))) old new → PrintsUpgrade held name old new
 upgrade_done held name old new p = record {
   plan = p.plan;
   spelled = p.spelled;
@@ -174,49 +187,74 @@ upgrade_done held name old new p = record {
 -- ---- a judgement
 
 -- what is printed of a wrong reply doesn't say that the journal is legal
-says_legal : (plan : PlanFields) (es : List Entry) (verdict : Verdict) → verdict_text plan es verdict ≡ legal_text (length es) → verdict ≡ Legal
+says_legal : (plan : PlanFields) (es : List Entry) (verdict : Verdict)
+    → verdict_text plan es verdict ≡ legal_text (length es) → verdict ≡ Legal
 unfolding legal_text wrong_text
 says_legal plan es Legal e = refl
-says_legal plan es (WrongAt line said law) e = let first : ◌≡◌ {A = ℕ} 119 108 = ap (λ (text : List ℕ). get_or text 0 0) e in absurd (omega arith)
+says_legal plan es (WrongAt line said law) e = let first : ◌≡◌ {A = ℕ} 119 108 = ap (λ (text : List ℕ). get_or text 0 0)
+    e in absurd (omega arith)
 
-legal_said : (plan : PlanFields) (es : List Entry) → judgement_text plan es ≡ legal_text (length es) → verdict_of plan es ≡ Legal
+legal_said : (plan : PlanFields) (es : List Entry) → judgement_text plan es ≡ legal_text (length es)
+    → verdict_of plan es ≡ Legal
 unfolding judgement_text
 legal_said plan es e = says_legal plan es (verdict_of plan es) e
 
-legal_told : (plan : PlanFields) (es : List Entry) → verdict_of plan es ≡ Legal → judgement_text plan es ≡ legal_text (length es)
+legal_told : (plan : PlanFields) (es : List Entry) → verdict_of plan es ≡ Legal
+    → judgement_text plan es ≡ legal_text (length es)
 unfolding judgement_text
 legal_told plan es e = ap (verdict_text plan es) e
 
 -- a journal that isn't legal is wrong at an entry
-wrong_told : (case : Case) (verdict : Verdict) → IsLawful case.plan case.entries → verdict_of case.plan case.entries ≡ verdict → ¬ IsLegal case.plan case.entries → IsWrongText case (judgement_of case)
+wrong_told : (case : Case) (verdict : Verdict) → IsLawful case.plan case.entries
+    → verdict_of case.plan case.entries ≡ verdict → ¬ IsLegal case.plan case.entries
+    → IsWrongText case (judgement_of case)
 unfolding judgement_text
 wrong_told case Legal law e not = absurd (not (law.legal.0 e))
 wrong_told case (WrongAt line said lawful) law e not =
-    record { line = line; said = said; law = lawful; is = law.wrong line said lawful e; printed = ap (verdict_text case.plan case.entries) e }
+    record {
+      line = line;
+      said = said;
+      law = lawful;
+      is = law.wrong line said lawful e;
+      printed = ap
+          (verdict_text case.plan case.entries) e;
+    }
 
 judgement_is : (case : Case) → IsJudged (Gives case) → IsJudgementOf case (judgement_of case)
 judgement_is case judged =
     let law = judged case refl in
     record {
       printed = refl;
-      legal = (λ said. law.legal.0 (legal_said case.plan case.entries said), λ is. legal_told case.plan case.entries (law.legal.1 is));
+      legal = (
+        λ said. law.legal.0 (legal_said case.plan case.entries said),
+        λ is. legal_told case.plan case.entries
+            (law.legal.1 is),
+      );
       wrong = wrong_told case (verdict_of case.plan case.entries) law refl;
     }
 
-judge_done : {X : Type 0} (outcome : Result X Stop) (view : X → List ℕ) (held : Held) (name other : List ℕ) (old new : Option (List ℕ)) (status : Status)
-    → Makes view outcome (judgement_told held name other) → OnOk outcome (IsJudged (case_told held name other)) → PutOutcome view outcome old new status → status ≡ statuses.Done
+judge_done : {X : Type 0} (outcome : Result X Stop) (view : X → List ℕ) (held : Held) (name other : List ℕ)
+    (old new : Option (List ℕ)) (status : Status)
+    → Makes view outcome (judgement_told held name other) → OnOk outcome (IsJudged (case_told held name other))
+    → PutOutcome view outcome old new status → status ≡ statuses.Done
     → AreTold held (name ∷ other ∷ []) → PrintsJudgement held name other old new
-judge_done {X = X} outcome view held name other old new status made judged put e told = go (outcome_done outcome view old new status put e) where
-  prints : (text : List ℕ) (t : FromTexts Case) → new ≡ appended old text → case_told held name other ≡ t → IsTold t → IsGiven text (told_then t (λ case. Gives (judgement_of case))) → IsJudged t → PrintsJudgement held name other old new
-  prints text Untold taken is told h judged = absurd told
-  prints text (Gives case) taken is told h judged = record { case = case; spelled = is; text = text; is = rw (sym h) (judgement_is case judged); taken = taken }
-  prints text (Refuses n fault) taken is told h judged = absurd h
+judge_done {X = X} outcome view held name other old new status made judged put e told = go
+    (outcome_done outcome view old new status put e) where
+      prints : (text : List ℕ) (t : FromTexts Case) → new ≡ appended old text → case_told held name other ≡ t → IsTold t
+          → IsGiven text (told_then t (λ case. Gives (judgement_of case))) → IsJudged t
+          → PrintsJudgement held name other old new
+      prints text Untold taken is told h judged = absurd told
+      prints text (Gives case) taken is told h judged = record
+          { case = case; spelled = is; text = text; is = rw (sym h) (judgement_is case judged); taken = taken }
+      prints text (Refuses n fault) taken is told h judged = absurd h
 
-  go : IsPut outcome view old new → PrintsJudgement held name other old new
-  go p =
-      let given : Makes view (Ok p.made) (judgement_told held name other) = subst (λ (o : Result X Stop). Makes view o (judgement_told held name other)) p.is made in
-      let sound : IsJudged (case_told held name other) = subst (λ (o : Result X Stop). OnOk o (IsJudged (case_told held name other))) p.is judged in
-      prints (view p.made) (case_told held name other) p.taken refl (told_case held name other told) given sound
+      go : IsPut outcome view old new → PrintsJudgement held name other old new
+      go p =
+          let given : Makes view (Ok p.made) (judgement_told held name other) = subst
+          (λ (o : Result X Stop). Makes view o (judgement_told held name other)) p.is made in
+          let sound : IsJudged (case_told held name other) = subst
+          (λ (o : Result X Stop). OnOk o (IsJudged (case_told held name other))) p.is judged in
+          prints (view p.made) (case_told held name other) p.taken refl (told_case held name other told) given sound
 
 -- ---- a command of the desk
 

@@ -1,5 +1,6 @@
 -- What is printed of an outcome.
-use Rattle.std.proofs.Common.{◌≡◌, ◌⊎◌, ℕ, List, [], Option, Some, None, Result, Ok, Err, IsErrOf, refl, sym, ap, subst, ◌∙◌, inl, inr}
+use Rattle.std.proofs.Common.{◌≡◌, ◌⊎◌, ℕ, List, [], Option, Some, None, Result, Ok, Err, IsErrOf, refl, sym, ap, subst}
+use Rattle.std.proofs.Common.{◌∙◌, inl, inr}
 use Rattle.std.proofs.lemmas.List.Elements.{All-get_or}
 use Rattle.rail_text.specs.Bytes.{appended}
 use Rattle.rail_text.specs.Causes.{Rose}
@@ -13,54 +14,77 @@ use Rattle.line_runs.specs.Outputs.{MakesText, MayCome}
 use Rattle.box_top.specs.Outcomes.{Exactly, IsPrintOf, NoneRose, Print, command_told, told_exactly}
 use Rattle.text_fetch.specs.FromTexts.{Held, FromTexts, Untold, Gives, Refuses, IsGiven, IsRefused, Makes, StopsAt}
 use Rattle.text_fetch.specs.FromTexts.{told_then}
-use Rattle.box_top.specs.Top.{Answers, Completes, Printed, PutOutcome, PutStop, PutText, ShelfCause, refused_line, words_line}
+use Rattle.box_top.specs.Top.{Answers, Completes, Printed, PutOutcome, PutStop, PutText, ShelfCause, refused_line}
+use Rattle.box_top.specs.Top.{words_line}
 
 answers_done : (told : FromTexts Print) (text : List ℕ) → MayCome IsPrintOf text told → Answers told statuses.Done text
 answers_done Untold text h = inl refl
 answers_done (Gives print) text h = (refl, h)
 answers_done (Refuses n fault) text h = absurd h
 
-answers_refused : (told : FromTexts Print) (n : ℕ) (fault : Fault) → IsRefused n fault told → Answers told statuses.Refused (refused_line n fault)
+answers_refused : (told : FromTexts Print) (n : ℕ) (fault : Fault) → IsRefused n fault told
+    → Answers told statuses.Refused (refused_line n fault)
 answers_refused Untold n fault h = inr refl
 answers_refused (Gives print) n fault h = absurd h
 answers_refused (Refuses k other) n fault h = (refl, rw (h.0, h.1) refl)
 
-refused_printed : (held : Held) (words : Option Command) (command : Command) (old new : Option (List ℕ)) (status : Status) (n : ℕ) (fault : Fault)
-    → words ≡ Some command → IsRefused n fault (command_told held command) → PutText old new (refused_line n fault) statuses.Refused status → Printed held words old new status
-refused_printed held words command old new status n fault e h (inl p) = rw (e, p.0) (refused_line n fault, answers_refused (command_told held command) n fault h, p.1)
-refused_printed held words command old new status n fault e h (inr p) = rw (e, p.0) (statuses.Refused, refused_line n fault, answers_refused (command_told held command) n fault h, p.1)
+refused_printed : (held : Held) (words : Option Command) (command : Command) (old new : Option (List ℕ))
+    (status : Status) (n : ℕ) (fault : Fault)
+    → words ≡ Some command → IsRefused n fault (command_told held command)
+    → PutText old new (refused_line n fault) statuses.Refused status → Printed held words old new status
+refused_printed held words command old new status n fault e h (inl p) = rw (e, p.0)
+    (refused_line n fault, answers_refused (command_told held command) n fault h, p.1)
+refused_printed held words command old new status n fault e h (inr p) = rw (e, p.0)
+    (statuses.Refused, refused_line n fault, answers_refused (command_told held command) n fault h, p.1)
 
-done_printed : (held : Held) (words : Option Command) (command : Command) (old new : Option (List ℕ)) (status : Status) (text : List ℕ)
-    → words ≡ Some command → MayCome IsPrintOf text (command_told held command) → PutText old new text statuses.Done status → Printed held words old new status
-done_printed held words command old new status text e h (inl p) = rw (e, p.0) (text, answers_done (command_told held command) text h, p.1)
-done_printed held words command old new status text e h (inr p) = rw (e, p.0) (statuses.Done, text, answers_done (command_told held command) text h, p.1)
+done_printed : (held : Held) (words : Option Command) (command : Command) (old new : Option (List ℕ)) (status : Status)
+    (text : List ℕ)
+    → words ≡ Some command → MayCome IsPrintOf text (command_told held command)
+    → PutText old new text statuses.Done status → Printed held words old new status
+done_printed held words command old new status text e h (inl p) = rw (e, p.0)
+    (text, answers_done (command_told held command) text h, p.1)
+done_printed held words command old new status text e h (inr p) = rw (e, p.0)
+    (statuses.Done, text, answers_done (command_told held command) text h, p.1)
 
-pub words_printed : (held : Held) (words : Option Command) (old new : Option (List ℕ)) (status : Status) → words ≡ None → PutText old new words_line statuses.Words status → Printed held words old new status
+pub words_printed : (held : Held) (words : Option Command) (old new : Option (List ℕ)) (status : Status) → words ≡ None
+    → PutText old new words_line statuses.Words status → Printed held words old new status
 words_printed held words old new status e (inl p) = rw (e, p.0) (words_line, (refl, refl), p.1)
 words_printed held words old new status e (inr p) = rw (e, p.0) (statuses.Words, words_line, (refl, refl), p.1)
 
-stop_printed : (stop : Stop) (held : Held) (words : Option Command) (command : Command) (old new : Option (List ℕ)) (status : Status)
-    → words ≡ Some command → StopsAt stop (command_told held command) → PutStop stop old new status → Printed held words old new status
-stop_printed (stops.Refused text line cause) held words command old new status e h (inl p) = refused_printed held words command old new status text (record { line = line; cause = cause }) e h p
+stop_printed : (stop : Stop) (held : Held) (words : Option Command) (command : Command) (old new : Option (List ℕ))
+    (status : Status)
+    → words ≡ Some command → StopsAt stop (command_told held command) → PutStop stop old new status
+    → Printed held words old new status
+stop_printed (stops.Refused text line cause) held words command old new status e h (inl p) = refused_printed held words
+    command old new status text (record { line = line; cause = cause }) e h p
 stop_printed (stops.Refused text line cause) held words command old new status e h (inr p) = rw p.0 p.1
 stop_printed stops.ShelfFault held words command old new status e h p = rw p.0 p.1
 stop_printed stops.NoMemory held words command old new status e h p = rw p.0 p.1
 
 -- an outcome of a command is printed
-pub outcome_printed : {X : Type 0} (outcome : Result X Stop) (view : X → List ℕ) (held : Held) (words : Option Command) (command : Command) (old new : Option (List ℕ)) (status : Status)
-    → words ≡ Some command → MakesText IsPrintOf view outcome (command_told held command) → PutOutcome view outcome old new status → Printed held words old new status
-outcome_printed (Ok x) view held words command old new status e h p = done_printed held words command old new status (view x) e h p
-outcome_printed (Err stop) view held words command old new status e h p = stop_printed stop held words command old new status e h p
+pub outcome_printed : {X : Type 0} (outcome : Result X Stop) (view : X → List ℕ) (held : Held) (words : Option Command)
+    (command : Command) (old new : Option (List ℕ)) (status : Status)
+    → words ≡ Some command → MakesText IsPrintOf view outcome (command_told held command)
+    → PutOutcome view outcome old new status → Printed held words old new status
+outcome_printed (Ok x) view held words command old new status e h p = done_printed held words command old new status
+    (view x) e h p
+outcome_printed (Err stop) view held words command old new status e h p = stop_printed stop held words command old new
+    status e h p
 
 -- ---- what an outcome is, by the status
 
-text_done : (status wanted : Status) (old new : Option (List ℕ)) (text : List ℕ) → PutText old new text wanted status → status ≡ statuses.Done → (wanted ≡ statuses.Done) × (new ≡ appended old text)
+text_done : (status wanted : Status) (old new : Option (List ℕ)) (text : List ℕ) → PutText old new text wanted status
+    → status ≡ statuses.Done → (wanted ≡ statuses.Done) × (new ≡ appended old text)
 text_done status wanted old new text (inl p) e = (sym p.0 ∙ e, p.1)
 text_done status wanted old new text (inr p) e = let bad : statuses.SinkFault ≡ statuses.Done = sym p.0 ∙ e in absurd cc
 
-stop_not_done : (stop : Stop) (old new : Option (List ℕ)) (status : Status) → PutStop stop old new status → status ≡ statuses.Done → ⊥
-stop_not_done (stops.Refused text line cause) old new status (inl p) e = let bad : statuses.Refused ≡ statuses.Done = (text_done status statuses.Refused old new (refused_line text (record { line = line; cause = cause })) p e).0 in cc
-stop_not_done (stops.Refused text line cause) old new status (inr p) e = let bad : statuses.NoMemory ≡ statuses.Done = sym p.0 ∙ e in cc
+stop_not_done : (stop : Stop) (old new : Option (List ℕ)) (status : Status) → PutStop stop old new status
+    → status ≡ statuses.Done → ⊥
+stop_not_done (stops.Refused text line cause) old new status (inl p) e = let bad : statuses.Refused
+    ≡ statuses.Done =
+    (text_done status statuses.Refused old new (refused_line text (record { line = line; cause = cause })) p e).0 in cc
+stop_not_done (stops.Refused text line cause) old new status (inr p) e = let bad : statuses.NoMemory
+    ≡ statuses.Done = sym p.0 ∙ e in cc
 stop_not_done stops.ShelfFault old new status p e = let bad : statuses.ShelfFault ≡ statuses.Done = sym p.0 ∙ e in cc
 stop_not_done stops.NoMemory old new status p e = let bad : statuses.NoMemory ≡ statuses.Done = sym p.0 ∙ e in cc
 
@@ -70,23 +94,35 @@ pub record IsPut {X : Type 0} (outcome : Result X Stop) (view : X → List ℕ) 
   pub is : outcome ≡ Ok made
   pub taken : new ≡ appended old (view made)
 
-pub outcome_done : {X : Type 0} (outcome : Result X Stop) (view : X → List ℕ) (old new : Option (List ℕ)) (status : Status) → PutOutcome view outcome old new status → status ≡ statuses.Done → IsPut outcome view old new
-outcome_done (Ok x) view old new status p e = record { made = x; is = refl; taken = (text_done status statuses.Done old new (view x) p e).1 }
+pub outcome_done : {X : Type 0} (outcome : Result X Stop) (view : X → List ℕ) (old new : Option (List ℕ))
+    (status : Status) → PutOutcome view outcome old new status → status ≡ statuses.Done → IsPut outcome view old new
+outcome_done (Ok x) view old new status p e = record
+    { made = x; is = refl; taken = (text_done status statuses.Done old new (view x) p e).1 }
 outcome_done (Err stop) view old new status p e = absurd (stop_not_done stop old new status p e)
 
-text_no_fault : (status wanted : Status) (old new : Option (List ℕ)) (text : List ℕ) → PutText old new text wanted status → status ≡ statuses.ShelfFault → wanted ≡ statuses.ShelfFault
+text_no_fault : (status wanted : Status) (old new : Option (List ℕ)) (text : List ℕ)
+    → PutText old new text wanted status → status ≡ statuses.ShelfFault → wanted ≡ statuses.ShelfFault
 text_no_fault status wanted old new text (inl p) e = sym p.0 ∙ e
-text_no_fault status wanted old new text (inr p) e = let bad : statuses.SinkFault ≡ statuses.ShelfFault = sym p.0 ∙ e in absurd cc
+text_no_fault status wanted old new text (inr p) e = let bad : statuses.SinkFault ≡ statuses.ShelfFault = sym p.0 ∙ e in
+    absurd cc
 
-stop_fault : (stop : Stop) (old new : Option (List ℕ)) (status : Status) → PutStop stop old new status → status ≡ statuses.ShelfFault → stop ≡ stops.ShelfFault
-stop_fault (stops.Refused text line cause) old new status (inl p) e = let bad : statuses.Refused ≡ statuses.ShelfFault = text_no_fault status statuses.Refused old new (refused_line text (record { line = line; cause = cause })) p e in absurd cc
-stop_fault (stops.Refused text line cause) old new status (inr p) e = let bad : statuses.NoMemory ≡ statuses.ShelfFault = sym p.0 ∙ e in absurd cc
+stop_fault : (stop : Stop) (old new : Option (List ℕ)) (status : Status) → PutStop stop old new status
+    → status ≡ statuses.ShelfFault → stop ≡ stops.ShelfFault
+stop_fault (stops.Refused text line cause) old new status (inl p) e = let bad : statuses.Refused
+    ≡ statuses.ShelfFault = text_no_fault status statuses.Refused old new
+    (refused_line text (record { line = line; cause = cause })) p e in absurd cc
+stop_fault (stops.Refused text line cause) old new status (inr p) e = let bad : statuses.NoMemory
+    ≡ statuses.ShelfFault = sym p.0 ∙ e in absurd cc
 stop_fault stops.ShelfFault old new status p e = refl
-stop_fault stops.NoMemory old new status p e = let bad : statuses.NoMemory ≡ statuses.ShelfFault = sym p.0 ∙ e in absurd cc
+stop_fault stops.NoMemory old new status p e = let bad : statuses.NoMemory ≡ statuses.ShelfFault = sym p.0 ∙ e in
+    absurd cc
 
 -- a fault of the shelf is one that stopped the command
-pub outcome_fault : {X : Type 0} (outcome : Result X Stop) (view : X → List ℕ) (old new : Option (List ℕ)) (status : Status) → PutOutcome view outcome old new status → status ≡ statuses.ShelfFault → IsErrOf outcome stops.ShelfFault
-outcome_fault (Ok x) view old new status p e = let bad : statuses.Done ≡ statuses.ShelfFault = text_no_fault status statuses.Done old new (view x) p e in absurd cc
+pub outcome_fault : {X : Type 0} (outcome : Result X Stop) (view : X → List ℕ) (old new : Option (List ℕ))
+    (status : Status) → PutOutcome view outcome old new status → status ≡ statuses.ShelfFault
+    → IsErrOf outcome stops.ShelfFault
+outcome_fault (Ok x) view old new status p e = let bad : statuses.Done
+    ≡ statuses.ShelfFault = text_no_fault status statuses.Done old new (view x) p e in absurd cc
 outcome_fault (Err stop) view old new status p e = ap (λ (s : Stop). Err s) (stop_fault stop old new status p e)
 
 -- ---- it is done, where all is told and no count rose
@@ -112,16 +148,21 @@ complete_by statuses.Refused held command old new print p told s t =
     let q = subst (λ (r : FromTexts Print). Answers r statuses.Refused p.0) told p.1 in
     let bad : statuses.Refused ≡ statuses.Done = q.0 in absurd cc
 
-no_shelf_fault : (held : Held) (before now : List ℕ → ℕ) (words : Option Command) → NoneRose before now words → ¬ ShelfCause held before now words
+no_shelf_fault : (held : Held) (before now : List ℕ → ℕ) (words : Option Command) → NoneRose before now words
+    → ¬ ShelfCause held before now words
 no_shelf_fault held before now None none fault = fault
 no_shelf_fault held before now (Some command) none fault =
-    All-get_or (λ (name : List ℕ). ¬ Rose (before name) (now name)) (texts_of command) fault.place [] fault.within none fault.rose
+    All-get_or (λ (name : List ℕ). ¬ Rose (before name) (now name)) (texts_of command) fault.place [] fault.within none
+    fault.rose
 
-pub completes : (held : Held) (before now : List ℕ → ℕ) (words : Option Command) (old new : Option (List ℕ)) (sink_before sink_now : ℕ) (status : Status) → Printed held words old new status
-    → (status ≡ statuses.SinkFault → Rose sink_before sink_now) → (status ≡ statuses.ShelfFault → ShelfCause held before now words)
+pub completes : (held : Held) (before now : List ℕ → ℕ) (words : Option Command) (old new : Option (List ℕ))
+    (sink_before sink_now : ℕ) (status : Status) → Printed held words old new status
+    → (status ≡ statuses.SinkFault → Rose sink_before sink_now)
+    → (status ≡ statuses.ShelfFault → ShelfCause held before now words)
     → NoneRose before now words → ¬ Rose sink_before sink_now → Completes held words old new status
 completes held before now words old new sink_before sink_now status p sink shelf none calm command print e told =
-    complete_by status held command old new print (subst (λ (o : Option Command). Printed held o old new status) e p) told
+    complete_by status held command old new print (subst (λ (o : Option Command). Printed held o old new status) e p)
+    told
     (λ failed. calm (sink failed)) (λ failed. no_shelf_fault held before now words none (shelf failed))
 
 -- ---- a step that makes the very text that is told

@@ -1,5 +1,6 @@
 -- What clap makes of the words behind `run`: the first is the plan, and each other is a script.
-use Rattle.std.proofs.Common.{le-leb, ◌≡◌, ◌∙◌, ℕ, ◌≤◌, Bool, true, false, not, ◌&&◌, eqb, List, [], ◌∷◌, ◌++◌, length, refl, sym, ap, ap₂, arith, codes, Some, None, append_assoc, append-nil}
+use Rattle.std.proofs.Common.{le-leb, ◌≡◌, ◌∙◌, ℕ, ◌≤◌, Bool, true, false, not, ◌&&◌, eqb, List, [], ◌∷◌, ◌++◌, length}
+use Rattle.std.proofs.Common.{refl, sym, ap, ap₂, arith, codes, Some, None, append_assoc, append-nil}
 use Rattle.std.specs.Prelude.{nat_le}
 use Rattle.std.specs.List.{fold, list_all}
 use Rattle.clap.specs.Lexer.{usize_max}
@@ -17,7 +18,14 @@ abbrev pub shape : Shape
 shape = shape_of (codes "run")
 
 abbrev plan_row : Text → Row
-plan_row plan = record { id = codes "plan"; values = plan ∷ []; count = None; source = Some CommandLine; reading = reading_of parsers.String }
+plan_row plan = record {
+  id = codes "plan";
+  values = plan ∷ [];
+  count = None;
+  source = Some CommandLine;
+  reading = reading_of
+      parsers.String;
+}
 
 -- the plan and these scripts are read, and more scripts may come
 abbrev among_scripts : Text → List Text → Walk
@@ -61,7 +69,8 @@ scripts_walked plan scripts ((b ∷ bs) ∷ words) h =
     ∙ scripts_walked plan (scripts ++ (b ∷ bs) ∷ []) words e.1
     ∙ ap (among_scripts plan) (append_assoc scripts ((b ∷ bs) ∷ []) words)
 
-scripts_pass : (plan : Text) (scripts words : List Text) → list_all is_plain_word words ≡ true → walk_passes shape [] (among_scripts plan scripts) words ≡ true
+scripts_pass : (plan : Text) (scripts words : List Text) → list_all is_plain_word words ≡ true
+    → walk_passes shape [] (among_scripts plan scripts) words ≡ true
 unfolding walk_passes
 scripts_pass plan scripts [] h = refl
 scripts_pass plan scripts ([] ∷ words) h = absurd cc
@@ -71,14 +80,16 @@ scripts_pass plan scripts ((b ∷ bs) ∷ words) h =
 
 -- ---- from the plan and the first script on
 
-module _ (b : ℕ) (bs : Text) (c : ℕ) (cs : Text) (h : eqb b 45 ≡ false) (k : eqb c 45 ≡ false) (words : List Text) (plain : list_all is_plain_word words ≡ true) where
+module _ (b : ℕ) (bs : Text) (c : ℕ) (cs : Text) (h : eqb b 45 ≡ false) (k : eqb c 45 ≡ false) (words : List Text)
+    (plain : list_all is_plain_word words ≡ true) where
   abbrev plan : Text
   plan = b ∷ bs
 
   abbrev scripts : List Text
   scripts = (c ∷ cs) ∷ words
 
-  starts : walked shape.rules [] (walked shape.rules [] (walk_from nothing_held) plan) (c ∷ cs) ≡ among_scripts plan ((c ∷ cs) ∷ [])
+  starts : walked shape.rules [] (walked shape.rules [] (walk_from nothing_held) plan) (c ∷ cs)
+      ≡ among_scripts plan ((c ∷ cs) ∷ [])
   unfolding clap_on_literals
   starts = simp (h, k)
 
@@ -105,5 +116,6 @@ module _ (b : ℕ) (bs : Text) (c : ℕ) (cs : Text) (h : eqb b 45 ≡ false) (k
       && (list_all default_passes shape.rules && is_valid shape (finished shape.rules w.held) false))) passes walk_is
       ∙ simp (some, few fits, all_pass)
 
-  pub run_reads : command_line_read (codes "run") (rows_after shape.rules [] (plan ∷ scripts)) ≡ Some (Command.Run plan scripts)
+  pub run_reads : command_line_read (codes "run") (rows_after shape.rules [] (plan ∷ scripts))
+      ≡ Some (Command.Run plan scripts)
   run_reads = ap (λ w. command_line_read (codes "run") (finished shape.rules w.held)) walk_is

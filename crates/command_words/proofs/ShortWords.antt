@@ -12,15 +12,18 @@ use Rattle.command_words.proofs.Enters.{shape_of}
 
 -- the command takes one plain word, and reads this of it
 pub record TakesOne (name : Text) (command : Text → Option Command) : Type 0 where
-  pub takes : (b : ℕ) (bs : Text) → eqb b 45 ≡ false → level_passes (shape_of name) [] nothing_held ((b ∷ bs) ∷ []) false ≡ true
-  pub reads : (b : ℕ) (bs : Text) → eqb b 45 ≡ false → command_line_read name (rows_after (shape_of name).rules [] ((b ∷ bs) ∷ [])) ≡ command (b ∷ bs)
+  pub takes : (b : ℕ) (bs : Text) → eqb b 45 ≡ false
+      → level_passes (shape_of name) [] nothing_held ((b ∷ bs) ∷ []) false ≡ true
+  pub reads : (b : ℕ) (bs : Text) → eqb b 45 ≡ false
+      → command_line_read name (rows_after (shape_of name).rules [] ((b ∷ bs) ∷ [])) ≡ command (b ∷ bs)
 
 -- the command takes two plain words, and reads this of them
 pub record TakesTwo (name : Text) (command : Text → Text → Option Command) : Type 0 where
   pub takes : (b : ℕ) (bs : Text) (c : ℕ) (cs : Text) → eqb b 45 ≡ false → eqb c 45 ≡ false
       → level_passes (shape_of name) [] nothing_held ((b ∷ bs) ∷ (c ∷ cs) ∷ []) false ≡ true
   pub reads : (b : ℕ) (bs : Text) (c : ℕ) (cs : Text) → eqb b 45 ≡ false → eqb c 45 ≡ false
-      → command_line_read name (rows_after (shape_of name).rules [] ((b ∷ bs) ∷ (c ∷ cs) ∷ [])) ≡ command (b ∷ bs) (c ∷ cs)
+      → command_line_read name (rows_after (shape_of name).rules [] ((b ∷ bs) ∷ (c ∷ cs) ∷ []))
+      ≡ command (b ∷ bs) (c ∷ cs)
 
 pub stress_one : TakesOne (codes "stress") (λ word. option_and_then stress_of (number_of word))
 unfolding clap_on_literals

@@ -1,10 +1,12 @@
 -- The words of `stress` name 1 to 200 trains.
-use Rattle.std.proofs.Common.{◌≡◌, ℕ, ◌≤◌, Bool, true, false, cond, List, [], ◌∷◌, Option, Some, None, refl, subst, arith, bytes_eq, codes}
+use Rattle.std.proofs.Common.{◌≡◌, ℕ, ◌≤◌, Bool, true, false, cond, List, [], ◌∷◌, Option, Some, None, refl, subst}
+use Rattle.std.proofs.Common.{arith, bytes_eq, codes}
 use Rattle.std.specs.Prelude.{◌&&◌, nat_le, option_and_then}
 use Rattle.std.specs.List.{list_all}
 use Rattle.std.proofs.lemmas.Bool.Decides.{nat_tests}
 use Rattle.rail_text.specs.Number.{number_of}
-use Rattle.command_words.specs.Commands.{Command, chart_in, check_in, command_in, command_of, is_plain_word, judge_in, run_in, stress_in, stress_of, tables_in, upgrade_in}
+use Rattle.command_words.specs.Commands.{Command, chart_in, check_in, command_in, command_of, is_plain_word, judge_in}
+use Rattle.command_words.specs.Commands.{run_in, stress_in, stress_of, tables_in, upgrade_in}
 
 abbrev IsFew : ℕ → Type 0
 IsFew n = (1 ≤ n) × (n ≤ 200)
@@ -58,7 +60,8 @@ upgrade_other (plan ∷ name ∷ words) = tt
 
 counted_few : (k n : ℕ) → stress_of k ≡ Some (Command.Stress n) → IsFew n
 counted_few k n e = go (nat_le 1 k) (nat_le k 200) refl refl e where
-  go : (low high : Bool) → nat_le 1 k ≡ low → nat_le k 200 ≡ high → cond (low && high) (Some (Command.Stress k)) None ≡ Some (Command.Stress n) → IsFew n
+  go : (low high : Bool) → nat_le 1 k ≡ low → nat_le k 200 ≡ high
+      → cond (low && high) (Some (Command.Stress k)) None ≡ Some (Command.Stress n) → IsFew n
   go true true l h f = let same : k ≡ n = cc in subst IsFew same (grind (arith, nat_tests), grind (arith, nat_tests))
   go true false l h f = absurd cc
   go false high l h f = absurd cc
@@ -72,7 +75,8 @@ stress_few (word ∷ []) n e = go (number_of word) e where
 stress_few (word ∷ more ∷ words) n e = absurd cc
 
 -- one of two
-either : (b : Bool) (o p : Option Command) (n : ℕ) → (o ≡ Some (Command.Stress n) → IsFew n) → (p ≡ Some (Command.Stress n) → IsFew n) → cond b o p ≡ Some (Command.Stress n) → IsFew n
+either : (b : Bool) (o p : Option Command) (n : ℕ) → (o ≡ Some (Command.Stress n) → IsFew n)
+    → (p ≡ Some (Command.Stress n) → IsFew n) → cond b o p ≡ Some (Command.Stress n) → IsFew n
 either true o p n f g e = f e
 either false o p n f g e = g e
 
@@ -84,10 +88,12 @@ in_few first words n =
     (either (bytes_eq first (codes "tables")) _ _ n (other (tables_in words) n (tables_other words))
     (either (bytes_eq first (codes "chart")) _ _ n (other (chart_in words) n (chart_other words))
     (either (bytes_eq first (codes "judge")) _ _ n (other (judge_in words) n (judge_other words))
-    (either (bytes_eq first (codes "upgrade")) _ _ n (other (upgrade_in words) n (upgrade_other words)) (other None n tt)))))))
+    (either (bytes_eq first (codes "upgrade")) _ _ n (other (upgrade_in words) n (upgrade_other words))
+    (other None n tt)))))))
 
 -- the words of `stress` name 1 to 200 trains
 pub stress_is_few : (words : List (List ℕ)) (n : ℕ) → command_of words ≡ Some (Command.Stress n) → (1 ≤ n) × (n ≤ 200)
 unfolding command_of
 stress_is_few [] n e = absurd cc
-stress_is_few (first ∷ words) n e = either (list_all is_plain_word (first ∷ words)) (command_in first words) None n (in_few first words n) (other None n tt) e
+stress_is_few (first ∷ words) n e = either (list_all is_plain_word (first ∷ words)) (command_in first words) None n
+    (in_few first words n) (other None n tt) e

@@ -169,7 +169,8 @@ draw_counts b other train state = by_test (Counts train (acts.Draw other) state)
           (with_shows b (tokens_at state b - 1) (record state { shown = Held b other })) in
           omega (arith, none, same)
 
-      under : (shown : Shown) → state.shown ≡ shown → Counts train (acts.Draw other) state (draw_under b other state shown)
+      under : (shown : Shown) → state.shown ≡ shown
+          → Counts train (acts.Draw other) state (draw_under b other state shown)
       under Idle e = refl
       under (Leave to) e = by_test (Counts train (acts.Draw other) state) (to == b) _ _
           (λ _. taken (ap (shown_for train) e)) (λ _. refl)
