@@ -2,9 +2,9 @@
 
 use crate::facts::{all_hold, hold};
 use rail_text::{
-    Cause, FetchFault, FileShelf, LineFault, LineForm, Lines, MemShelf, MemSink, Names, NoMemory,
-    OutSink, ReadError, Shelf, Sink, SinkFault, TextLine, cause_text, has_keyword, is_name,
-    name_in, no_word, number_in, one_word, put_all, read_number, text_error,
+    Cause, FetchFault, FileShelf, LineFault, LineForm, LineWords, Lines, MemShelf, MemSink, Names,
+    NoMemory, OutSink, ReadError, Shelf, Sink, SinkFault, TextLine, cause_text, first_word,
+    has_keyword, is_name, name_in, no_word, number_in, one_word, put_all, read_number, text_error,
 };
 use std::alloc::Global;
 use std::io::Write;
@@ -118,6 +118,125 @@ fn words_stand_between_spaces(rt: HostRuntime) {
             ("one empty word", line_of(b"", true).word_count() == 1),
             ("behind the first word", is_behind(&line, 0, b"P  Q")),
             ("nothing behind the last word", line.behind(3).is_none()),
+        ],
+    );
+}
+
+fn is_found(found: Option<&[u8]>, word: &[u8]) -> bool {
+    match found {
+        Some(found) => found == word,
+        None => false,
+    }
+}
+
+fn begins(text: &[u8], word: &[u8], rest: &[u8]) -> bool {
+    let (found, after) = first_word(text);
+    found == word && is_found(after, rest)
+}
+
+// Ten words, of which one is empty.
+const MANY_WORDS: &[u8] = b"clear up a b c d  f g h";
+
+#[test]
+fn words_are_cut_once(rt: HostRuntime) {
+    let line = line_of(MANY_WORDS, true);
+    let many = line.words();
+    all_hold(
+        &rt,
+        &[
+            ("the keyword", many.keyword() == b"clear".as_slice()),
+            ("word 0", is_found(many.word(0), b"clear")),
+            ("word 6 is empty", is_found(many.word(6), b"")),
+            ("word 7", is_found(many.word(7), b"f")),
+            ("word 8", is_found(many.word(8), b"g")),
+            ("word 9", is_found(many.word(9), b"h")),
+            ("no word 10", many.word(10).is_none()),
+            ("ten words", many.word_count() == 10),
+            ("behind word 1", is_found(many.behind(1), b"a b c d  f g h")),
+            ("behind word 8", is_found(many.behind(8), b"h")),
+            ("nothing behind word 9", many.behind(9).is_none()),
+            (
+                "the first word",
+                begins(MANY_WORDS, b"clear", b"up a b c d  f g h"),
+            ),
+            ("an empty first word", begins(b" up", b"", b"up")),
+            (
+                "nothing behind the only word",
+                first_word(b"end").1.is_none(),
+            ),
+        ],
+    );
+}
+
+#[test]
+fn few_words_are_cut_once(rt: HostRuntime) {
+    let delay = LineWords::new(b"delay 60");
+    let end = LineWords::new(b"end");
+    let none = LineWords::new(b"");
+    all_hold(
+        &rt,
+        &[
+            ("word 1", is_found(delay.word(1), b"60")),
+            ("no word 2", delay.word(2).is_none()),
+            ("two words", delay.word_count() == 2),
+            ("one word", is_found(delay.one_word().ok(), b"60")),
+            ("a word for none", delay.no_word() == Err(Cause::WordCount)),
+            (
+                "no word for one",
+                end.one_word().err() == Some(Cause::WordCount),
+            ),
+            ("no word", end.no_word() == Ok(())),
+            ("an empty keyword", none.keyword().is_empty()),
+            ("one empty word", none.word_count() == 1),
+        ],
+    );
+}
+
+fn are_formed(text: &[u8], count: usize) -> bool {
+    match line_of(text, true).formed(true) {
+        Ok(Some(words)) => words.word_count() == count,
+        _ => false,
+    }
+}
+
+fn is_passed_over(text: &[u8], skips: bool) -> bool {
+    matches!(line_of(text, true).formed(skips), Ok(None))
+}
+
+fn formed_fault(text: &[u8]) -> Option<Cause> {
+    line_of(text, true).formed(true).err()
+}
+
+#[test]
+fn formed_lines_have_words(rt: HostRuntime) {
+    all_hold(
+        &rt,
+        &[
+            ("two words", are_formed(b"box Ash", 2)),
+            ("ten words", are_formed(b"clear up a b c d e f g h", 10)),
+            ("a note", is_passed_over(b"# a  note", true)),
+            ("an empty line", is_passed_over(b"", true)),
+            ("a note where none is skipped", !is_passed_over(b"#", false)),
+            (
+                "a bad byte",
+                formed_fault(b"box \x07 Ash") == Some(Cause::BadByte),
+            ),
+            (
+                "an empty word among the first",
+                formed_fault(b"box  Ash") == Some(Cause::Spacing),
+            ),
+            (
+                "an empty word behind them",
+                formed_fault(b"clear up a b c d e f g  h") == Some(Cause::Spacing),
+            ),
+            (
+                "a bad byte behind them",
+                formed_fault(b"clear up a b c d e f g \x7f") == Some(Cause::BadByte),
+            ),
+            (
+                "no word at the end",
+                formed_fault(b"box ") == Some(Cause::Spacing),
+            ),
         ],
     );
 }

@@ -19,10 +19,10 @@ one a b h k = rw (h, k) refl
 not_both : (a b : Bool) → (a && b) ≡ false → ¬ (IsTrue a × IsTrue b)
 not_both a b h p = let e = one a b p.0 p.1 in cc
 
-may_move_none : (ends : List End) (lever : ℕ) → MayMove ends lever []
+pub may_move_none : (ends : List End) (lever : ℕ) → MayMove ends lever []
 may_move_none ends lever = record { mid = All-nil (RowHolds (stand_of ends lever AtMid)); new = All-nil (RowHolds (moved_from ends lever)) }
 
-may_move_more : (ends : List End) (lever : ℕ) (row : Row) (rows : List Row) → row_allows ends lever row ≡ true → MayMove ends lever rows → MayMove ends lever (row ∷ rows)
+pub may_move_more : (ends : List End) (lever : ℕ) (row : Row) (rows : List Row) → row_allows ends lever row ≡ true → MayMove ends lever rows → MayMove ends lever (row ∷ rows)
 may_move_more ends lever row rows h may =
     let p = both (row_holds (stand_of ends lever AtMid) row) (row_holds (moved_from ends lever) row) h in
     record { mid = All-cons (RowHolds (stand_of ends lever AtMid)) row rows p.0 may.mid; new = All-cons (RowHolds (moved_from ends lever)) row rows p.1 may.new }

@@ -3,6 +3,7 @@ pub mod WordLemmas
 pub mod RowLemmas
 pub mod PrintLemmas
 pub mod Holding
+pub mod Indexes
 pub mod RoundTrip
 pub mod Spelling
 pub mod Faults

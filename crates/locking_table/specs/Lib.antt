@@ -1,6 +1,7 @@
 pub mod Places
 pub mod Meaning
 pub mod Sound
+pub mod Index
 pub mod Words
 pub mod Printing
 pub mod Reading

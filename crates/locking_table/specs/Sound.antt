@@ -1,5 +1,5 @@
 -- Which rows a frame and a table can have.
-use Rattle.std.specs.Prelude.{ℕ, ◌≤◌, ◌<◌, ◌^◌, List, [], ◌∷◌, Bool, true, not, ◌&&◌, ◌==◌, IsTrue, All, length, map}
+use Rattle.std.specs.Prelude.{ℕ, ◌≤◌, List, [], ◌∷◌, Bool, true, not, ◌&&◌, ◌==◌, IsTrue, All, length, map}
 use Rattle.std.specs.List.{list_any}
 use Rattle.locking_table.specs.declared.row.Cond.{Cond}
 use Rattle.locking_table.specs.declared.row.Row.{Row}
@@ -38,8 +38,3 @@ pub record IsRow (row : Row) : Type 0 where
   pub levers : RowFits most_levers row
   pub differ : IsTrue (all_differ (levers_of row))
   pub few : length row.when ≤ 2
-
--- what the type of a table keeps
-pub record IsTable (rows : List Row) : Type 0 where
-  pub few : length rows < 2 ^ 32
-  pub each : All IsRow rows

@@ -5,6 +5,7 @@
 #![tactic(auto)]
 
 mod conds;
+mod index;
 mod laws;
 mod memory;
 mod places;
@@ -15,7 +16,7 @@ mod table;
 mod words;
 
 pub use conds::Conds;
-pub use laws::{holder_law, row_law};
+pub use laws::{holder_law, row_law, unnamed_lever_law};
 pub use memory::NoMemory;
 pub use places::{End, MOST_LEVERS, Stand, end_of, stand_of};
 pub use printing::{print_row, put_row};

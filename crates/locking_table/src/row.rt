@@ -2,7 +2,7 @@
 
 ghost use Rattle.std.specs.Prelude.{◌≡◌, ◌==◌, ◌↔◌, All, IsTrue, length, map};
 ghost use Rattle.std.specs.List.{list_all, list_any};
-ghost use Rattle.locking_table.specs.Places.{IsLever, other_end, end_at, stand_at, stand_of};
+ghost use Rattle.locking_table.specs.Places.{IsLever, at_ends, other_end, end_at, stand_at, stand_of};
 ghost use Rattle.locking_table.specs.Meaning.{acts, breaks, holding_lever, row_holds, row_allows};
 ghost use Rattle.locking_table.specs.Sound.{CondFits, IsRow, RowFits, all_differ, conds_differ, levers_of};
 
@@ -152,6 +152,15 @@ impl Row {
             && all_act(self.when.as_slice(), ends, moved, place)
             && self.kind.is_broken_by(object);
         !breaks
+    }
+
+    /// Whether the row holds with every lever at its end.
+    #[tactic(auto, using(crate::proofs::Indexes::end_rules))]
+    pub fn holds_at_ends(&self, ends: &[End]) -> bool
+        requires { RowFits (length ends.now) self.now }
+        ensures { result ≡ row_holds (at_ends ends.now) self.now }
+    {
+        self.holds(ends, 0, Stand::AtMid)
     }
 
     /// Whether the row lets a lever move to its other end: it holds with the lever at mid and at its new end.

@@ -2,10 +2,11 @@
 
 ghost use Rattle.std.specs.Prelude.{◌≡◌, ◌<◌, ◌-◌, ◌+◌, ◌^◌, ◌∷◌, ◌++◌, ◌==◌, [], All, OnOk, OnErr, IsNone, IsTrue};
 ghost use Rattle.std.specs.Prelude.{◌↔◌, length, option_map};
-ghost use Rattle.locking_table.specs.Places.{IsLever};
-ghost use Rattle.locking_table.specs.Meaning.{MayMove, first_holder, holder_of};
+ghost use Rattle.locking_table.specs.Places.{IsLever, at_ends};
+ghost use Rattle.locking_table.specs.Meaning.{MayMove, RowHolds, first_holder, holder_of};
 ghost use Rattle.locking_table.specs.Sound.{IsRow, RowFits};
 
+use crate::index::{Uses, file_row, first_of, uses_of};
 use crate::memory::NoMemory;
 use crate::places::End;
 use crate::row::{Holder, Row};
@@ -18,18 +19,20 @@ use std::marker::Model;
 #[derive(Debug, Drop)]
 pub struct Table {
     rows: Vec<Row>,
+    // For each lever the rows that name it.
+    uses: Vec<Uses>,
 }
 
 impl Model for Table {
     ghost use Rattle.std.specs.Prelude.{List};
     ghost use Rattle.locking_table.specs.declared.row.Row.{Row};
-    ghost use Rattle.locking_table.specs.Sound.{IsTable};
+    ghost use Rattle.locking_table.specs.Index.{IsTable};
 
     ghost Value = { List Row };
 
     ghost view = { λ t. t.rows.items };
 
-    ghost invariant = { λ t. IsTable t.rows.items };
+    ghost invariant = { λ t. IsTable t.rows.items t.uses.items };
 }
 
 /// The first of these rows that doesn't let a lever move to its other end.
@@ -56,6 +59,13 @@ fn rows_fit(rows: &[Row], levers: u32) -> bool
     rows.iter().all(|row| row.fits(levers))
 }
 
+fn rows_hold(rows: &[Row], ends: &[End]) -> bool
+    requires { All (RowFits (length ends.now)) rows.now }
+    ensures { IsTrue result ↔ All (RowHolds (at_ends ends.now)) rows.now }
+{
+    rows.iter().all(|row| row.holds_at_ends(ends))
+}
+
 impl Table {
     /// A table without rows. It keeps the allocator and takes no memory.
     pub fn new(alloc: Global) -> Self
@@ -63,6 +73,7 @@ impl Table {
     {
         Table {
             rows: Vec::new(alloc),
+            uses: Vec::new(alloc),
         }
     }
 
@@ -73,8 +84,16 @@ impl Table {
         ensures ok { OnOk result (self.new ≡ self.old ++ row ∷ []) }
         ensures err { OnErr result (self.new ≡ self.old) }
     {
+        let alloc = *self.rows.allocator();
+        let number = self.rows.len();
         self.rows.push(row)?;
-        Ok(())
+        match file_row(&mut self.uses, alloc, &self.rows[number], number as u32) {
+            Ok(()) => Ok(()),
+            Err(_) => {
+                let _row = self.rows.pop();
+                Err(NoMemory)
+            }
+        }
     }
 
     /// The rows in table order.
@@ -108,6 +127,14 @@ impl Table {
         rows_fit(&self.rows, levers)
     }
 
+    /// Whether every row holds with the levers at these ends: that of lever 1 stands first.
+    pub fn all_hold(&self, positions: &[End]) -> bool
+        requires { All (RowFits (length positions.now)) self.now }
+        ensures { IsTrue result ↔ All (RowHolds (at_ends positions.now)) self.now }
+    {
+        rows_hold(&self.rows, positions)
+    }
+
     /// The number, from 1, of the first row that doesn't let a lever move to its other end: the row fails
     /// with the lever at mid or at its new end. `None` exactly where every row lets it move.
     ///
@@ -129,5 +156,16 @@ impl Table {
         ensures { result ≡ holder_of positions.now lever self.now }
     {
         first_holder(&self.rows, positions, lever)
+    }
+
+    /// The holder as `named_holder` gives it, where every row holds in the positions. Only the rows that name the lever
+    /// are read: where it holds, any other lets the lever move.
+    pub fn holder_among_its_rows(&self, positions: &[End], lever: u32) -> Option<Holder>
+        requires lever { IsLever (length positions.now) lever }
+        requires rows { All (RowFits (length positions.now)) self.now }
+        requires hold { All (RowHolds (at_ends positions.now)) self.now }
+        ensures { result ≡ holder_of positions.now lever self.now }
+    {
+        first_of(&self.rows, uses_of(&self.uses, lever), positions, lever)
     }
 }
