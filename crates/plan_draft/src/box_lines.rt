@@ -4,7 +4,6 @@ ghost use Rattle.std.specs.Prelude.{◌≡◌, ◌<◌, ◌==◌, ◌++◌, [], 
 ghost use Rattle.std.specs.Prelude.{option_map};
 ghost use Rattle.std.specs.List.{join_with_byte, list_any};
 ghost use Rattle.rail_text.specs.Gives.{GivesLine};
-ghost use Rattle.rail_text.specs.Lines.{words_of};
 ghost use Rattle.locking_table.specs.Reading.{row_of};
 ghost use Rattle.locking_table.specs.Sound.{IsRow, all_differ, levers_of};
 ghost use Rattle.line_plan.specs.Frames.{begins_at, berth_places, end_places, entered_by, frame_size, homes_of};
@@ -24,7 +23,7 @@ use line_plan::{
     leaves,
 };
 use locking_table::{Cond, MOST_LEVERS, Row, RowError, read_row};
-use rail_text::{Cause, LineFault, NoMemory, TextLine, number_in};
+use rail_text::{Cause, LineFault, LineWords, NoMemory, number_in};
 use std::alloc::Global;
 
 // ---- places and levers
@@ -43,12 +42,12 @@ fn new_place<'a>(here: &BoxPlan, word: &'a [u8]) -> Result<&'a str, LineFault>
 
 /// `place NAME`
 #[tactic(auto, unfolding(crate::specs::BoxLines::place_onto))]
-pub fn place_line(here: &mut BoxPlan, line: &TextLine<'_>) -> Result<(), LineFault>
-    ensures gives { GivesLine (λ _. here.new) result (place_onto here.old (words_of line.now.text.now)) }
+pub fn place_line(here: &mut BoxPlan, words: &LineWords<'_>) -> Result<(), LineFault>
+    ensures gives { GivesLine (λ _. here.new) result (place_onto here.old words.now) }
     ensures name { here.new.name ≡ here.old.name }
 {
-    counted(line, 2, 2)?;
-    let name = new_place(here, word(line, 1))?;
+    counted(words, 2, 2)?;
+    let name = new_place(here, word(words, 1))?;
     if here.places.len() >= MOST_PLACES {
         return Err(LineFault::Cause(Cause::TooMany));
     }
@@ -72,13 +71,13 @@ fn next_number(here: &BoxPlan, word: &[u8]) -> Result<u32, LineFault>
 
 /// `lever L KIND`
 #[tactic(auto, unfolding(crate::specs::BoxLines::lever_onto))]
-pub fn lever_line(alloc: Global, here: &mut BoxPlan, line: &TextLine<'_>) -> Result<(), LineFault>
-    ensures gives { GivesLine (λ _. here.new) result (lever_onto here.old (words_of line.now.text.now)) }
+pub fn lever_line(alloc: Global, here: &mut BoxPlan, words: &LineWords<'_>) -> Result<(), LineFault>
+    ensures gives { GivesLine (λ _. here.new) result (lever_onto here.old words.now) }
     ensures name { here.new.name ≡ here.old.name }
 {
-    counted(line, 3, 3)?;
-    let number = next_number(here, word(line, 1))?;
-    let kind = kind_in(word(line, 2))?;
+    counted(words, 3, 3)?;
+    let number = next_number(here, word(words, 1))?;
+    let kind = kind_in(word(words, 2))?;
     here.add_lever(alloc, Lever { number, kind })?;
     Ok(())
 }
@@ -103,26 +102,26 @@ fn arm_in(here: &BoxPlan, word: &[u8]) -> Result<u32, LineFault>
 
 // The places behind the word `over`, where the line goes on.
 #[tactic(auto, unfolding(crate::specs::BoxLines::over_in))]
-fn over_in(alloc: Global, here: &BoxPlan, line: &TextLine<'_>) -> Result<Items<u32>, LineFault>
-    ensures { GivesLine (λ places. places) result (over_in here.now (words_of line.now.text.now)) }
+fn over_in(alloc: Global, here: &BoxPlan, words: &LineWords<'_>) -> Result<Items<u32>, LineFault>
+    ensures { GivesLine (λ places. places) result (over_in here.now words.now) }
 {
-    if line.word_count() == 4 {
+    if words.word_count() == 4 {
         return Ok(Items::new(alloc));
     }
-    if word(line, 4) != b"over".as_slice() {
+    if word(words, 4) != b"over".as_slice() {
         return Err(LineFault::Cause(Cause::UnknownWord));
     }
-    places_from(alloc, &here.places, line, 5)
+    places_from(alloc, &here.places, words, 5)
 }
 
 // Four words, or six to nine.
-fn counted_over(line: &TextLine<'_>) -> Result<(), LineFault>
-    ensures { GivesLine (λ _. tt) result (counted_over (words_of line.now.text.now)) }
+fn counted_over(words: &LineWords<'_>) -> Result<(), LineFault>
+    ensures { GivesLine (λ _. tt) result (counted_over words.now) }
 {
-    if line.word_count() == 4 {
+    if words.word_count() == 4 {
         return Ok(());
     }
-    counted(line, 6, 9)
+    counted(words, 6, 9)
 }
 
 // The places that a signal's line names.
@@ -174,15 +173,19 @@ fn with_signal(alloc: Global, here: &mut BoxPlan, signal: Signal) -> Result<(), 
 
 /// `signal L FROM TO`, and, if wanted, `over P..`
 #[tactic(auto, unfolding(crate::specs::BoxLines::signal_onto))]
-pub fn signal_line(alloc: Global, here: &mut BoxPlan, line: &TextLine<'_>) -> Result<(), LineFault>
-    ensures gives { GivesLine (λ _. here.new) result (signal_onto here.old (words_of line.now.text.now)) }
+pub fn signal_line(
+    alloc: Global,
+    here: &mut BoxPlan,
+    words: &LineWords<'_>,
+) -> Result<(), LineFault>
+    ensures gives { GivesLine (λ _. here.new) result (signal_onto here.old words.now) }
     ensures name { here.new.name ≡ here.old.name }
 {
-    counted_over(line)?;
-    let lever = arm_in(here, word(line, 1))?;
-    let from = number_in_names(&here.places, word(line, 2))?;
-    let to = end_in(&here.places, word(line, 3))?;
-    let over = over_in(alloc, here, line)?;
+    counted_over(words)?;
+    let lever = arm_in(here, word(words, 1))?;
+    let from = number_in_names(&here.places, word(words, 2))?;
+    let to = end_in(&here.places, word(words, 3))?;
+    let over = over_in(alloc, here, words)?;
     let signal = Signal {
         lever,
         from,
@@ -214,16 +217,16 @@ pub fn starter_line(
     boxes: u32,
     box_no: u32,
     here: &mut BoxPlan,
-    line: &TextLine<'_>,
+    words: &LineWords<'_>,
 ) -> Result<(), LineFault>
-    ensures gives { GivesLine (λ _. here.new) result (starter_onto boxes box_no here.old (words_of line.now.text.now)) }
+    ensures gives { GivesLine (λ _. here.new) result (starter_onto boxes box_no here.old words.now) }
     ensures name { here.new.name ≡ here.old.name }
 {
-    counted_over(line)?;
-    let way = leaving_in(boxes, box_no, here, word(line, 1))?;
-    let lever = arm_in(here, word(line, 2))?;
-    let from = number_in_names(&here.places, word(line, 3))?;
-    let over = over_in(alloc, here, line)?;
+    counted_over(words)?;
+    let way = leaving_in(boxes, box_no, here, word(words, 1))?;
+    let lever = arm_in(here, word(words, 2))?;
+    let from = number_in_names(&here.places, word(words, 3))?;
+    let over = over_in(alloc, here, words)?;
     let signal = Signal {
         lever,
         from,
@@ -346,14 +349,14 @@ pub fn berth_line(
     boxes: u32,
     box_no: u32,
     here: &mut BoxPlan,
-    line: &TextLine<'_>,
+    words: &LineWords<'_>,
 ) -> Result<(), LineFault>
-    ensures gives { GivesLine (λ _. here.new) result (berth_onto boxes box_no here.old (words_of line.now.text.now)) }
+    ensures gives { GivesLine (λ _. here.new) result (berth_onto boxes box_no here.old words.now) }
     ensures name { here.new.name ≡ here.old.name }
 {
-    counted(line, 3, 3)?;
-    let way = coming_in(boxes, box_no, here, word(line, 1))?;
-    let place = number_in_names(&here.places, word(line, 2))?;
+    counted(words, 3, 3)?;
+    let way = coming_in(boxes, box_no, here, word(words, 1))?;
+    let place = number_in_names(&here.places, word(words, 2))?;
     let berth = berth_at(alloc, here, place)?;
     here.set_berth(way, berth);
     Ok(())
@@ -372,11 +375,11 @@ fn clearing_in(
     alloc: Global,
     here: &BoxPlan,
     berth: &Berth,
-    line: &TextLine<'_>,
+    words: &LineWords<'_>,
 ) -> Result<Items<u32>, LineFault>
-    ensures { GivesLine (λ places. places) result (clearing_in here.now berth.now (words_of line.now.text.now)) }
+    ensures { GivesLine (λ places. places) result (clearing_in here.now berth.now words.now) }
 {
-    let places = places_from(alloc, &here.places, line, 2)?;
+    let places = places_from(alloc, &here.places, words, 2)?;
     if !differ_from(berth.place, places.as_slice()) {
         return Err(LineFault::Cause(Cause::SamePlace));
     }
@@ -385,38 +388,38 @@ fn clearing_in(
 
 /// `clear WAY P..`
 #[tactic(auto, unfolding(crate::specs::BoxLines::clear_onto))]
-pub fn clear_line(alloc: Global, here: &mut BoxPlan, line: &TextLine<'_>) -> Result<(), LineFault>
-    ensures gives { GivesLine (λ _. here.new) result (clear_onto here.old (words_of line.now.text.now)) }
+pub fn clear_line(alloc: Global, here: &mut BoxPlan, words: &LineWords<'_>) -> Result<(), LineFault>
+    ensures gives { GivesLine (λ _. here.new) result (clear_onto here.old words.now) }
     ensures name { here.new.name ≡ here.old.name }
 {
-    counted(line, 3, 10)?;
-    let way = way_in(word(line, 1))?;
+    counted(words, 3, 10)?;
+    let way = way_in(word(words, 1))?;
     let Some(berth) = here.berth(way) else {
         return Err(LineFault::Cause(Cause::NoBerth));
     };
     if !berth.clearing.is_empty() {
         return Err(LineFault::Cause(Cause::Taken));
     }
-    let places = clearing_in(alloc, here, berth, line)?;
+    let places = clearing_in(alloc, here, berth, words)?;
     here.set_clearing(way, places);
     Ok(())
 }
 
 /// `permissive WAY N`
 #[tactic(auto, unfolding(crate::specs::BoxLines::permissive_onto))]
-pub fn permissive_line(here: &mut BoxPlan, line: &TextLine<'_>) -> Result<(), LineFault>
-    ensures gives { GivesLine (λ _. here.new) result (permissive_onto here.old (words_of line.now.text.now)) }
+pub fn permissive_line(here: &mut BoxPlan, words: &LineWords<'_>) -> Result<(), LineFault>
+    ensures gives { GivesLine (λ _. here.new) result (permissive_onto here.old words.now) }
     ensures name { here.new.name ≡ here.old.name }
 {
-    counted(line, 3, 3)?;
-    let way = way_in(word(line, 1))?;
+    counted(words, 3, 3)?;
+    let way = way_in(word(words, 1))?;
     let Some(berth) = here.berth(way) else {
         return Err(LineFault::Cause(Cause::NoBerth));
     };
     if berth.permissive.is_some() {
         return Err(LineFault::Cause(Cause::Taken));
     }
-    let most = number_in(word(line, 2), 1, 3)?;
+    let most = number_in(word(words, 2), 1, 3)?;
     here.set_permissive(way, most as u8);
     Ok(())
 }
@@ -438,13 +441,13 @@ fn track_in(here: &BoxPlan, word: &[u8]) -> Result<u32, LineFault>
 
 /// `track L P..`
 #[tactic(auto, unfolding(crate::specs::BoxLines::track_onto))]
-pub fn track_line(alloc: Global, here: &mut BoxPlan, line: &TextLine<'_>) -> Result<(), LineFault>
-    ensures gives { GivesLine (λ _. here.new) result (track_onto here.old (words_of line.now.text.now)) }
+pub fn track_line(alloc: Global, here: &mut BoxPlan, words: &LineWords<'_>) -> Result<(), LineFault>
+    ensures gives { GivesLine (λ _. here.new) result (track_onto here.old words.now) }
     ensures name { here.new.name ≡ here.old.name }
 {
-    counted(line, 3, 10)?;
-    let lever = track_in(here, word(line, 1))?;
-    let places = places_from(alloc, &here.places, line, 2)?;
+    counted(words, 3, 10)?;
+    let lever = track_in(here, word(words, 1))?;
+    let places = places_from(alloc, &here.places, words, 2)?;
     if !all_differ(places.as_slice()) {
         return Err(LineFault::Cause(Cause::SamePlace));
     }
@@ -454,10 +457,10 @@ pub fn track_line(alloc: Global, here: &mut BoxPlan, line: &TextLine<'_>) -> Res
 
 // What stands behind the line's first word.
 #[tactic(auto, using(crate::proofs::Behind::behind_rules))]
-fn rest<'a>(line: &TextLine<'a>) -> &'a [u8]
-    ensures { result.now ≡ join_with_byte 32 (drop 1 (words_of line.now.text.now)) }
+fn rest<'a>(words: &LineWords<'a>) -> &'a [u8]
+    ensures { result.now ≡ join_with_byte 32 (drop 1 words.now) }
 {
-    match line.behind(0) {
+    match words.behind(0) {
         Some(rest) => rest,
         None => &[],
     }
@@ -518,11 +521,11 @@ fn row_worked(here: &BoxPlan, row: &Row) -> Result<(), LineFault>
 
 /// `row`, and behind it the text of a row
 #[tactic(auto, unfolding(crate::specs::BoxLines::row_onto))]
-pub fn row_line(alloc: Global, here: &mut BoxPlan, line: &TextLine<'_>) -> Result<(), LineFault>
-    ensures gives { GivesLine (λ _. here.new) result (row_onto here.old (words_of line.now.text.now)) }
+pub fn row_line(alloc: Global, here: &mut BoxPlan, words: &LineWords<'_>) -> Result<(), LineFault>
+    ensures gives { GivesLine (λ _. here.new) result (row_onto here.old words.now) }
     ensures name { here.new.name ≡ here.old.name }
 {
-    let row = spelled_row(alloc, rest(line))?;
+    let row = spelled_row(alloc, rest(words))?;
     row_worked(here, &row)?;
     if here.table.len() >= MOST_ROWS {
         return Err(LineFault::Cause(Cause::TooMany));

@@ -2,7 +2,6 @@
 
 ghost use Rattle.std.specs.Prelude.{◌≡◌, false, true};
 ghost use Rattle.rail_text.specs.Gives.{GivesLine};
-ghost use Rattle.rail_text.specs.Lines.{words_of};
 ghost use Rattle.plan_draft.specs.Drafts.{behind_box, in_box};
 ghost use Rattle.line_plan.specs.Plans.{box_at};
 ghost use Rattle.plan_draft.specs.Reading.{box_onto, box_with, boxes_onto, brought_in, class_onto, delay_onto, end_onto};
@@ -16,17 +15,17 @@ use crate::box_lines::{
 use crate::draft::{PlanDraft, Stage};
 use crate::line_words::{code_in, counted, new_name, number_in_names, word};
 use line_plan::{BoxPlan, MOST_LOOKS, most_boxes, most_delay};
-use rail_text::{Cause, LineFault, TextLine, number_in};
+use rail_text::{Cause, LineFault, LineWords, number_in};
 use std::alloc::Global;
 
 // `plan V`: the version, 1 or 2.
 #[tactic(auto, unfolding(crate::specs::Reading::plan_onto))]
-fn plan_line(draft: &mut PlanDraft, line: &TextLine<'_>) -> Result<(), LineFault>
+fn plan_line(draft: &mut PlanDraft, words: &LineWords<'_>) -> Result<(), LineFault>
     requires { in_box draft.old.stage ≡ false }
-    ensures { GivesLine (λ _. draft.new) result (plan_onto draft.old (words_of line.now.text.now)) }
+    ensures { GivesLine (λ _. draft.new) result (plan_onto draft.old words.now) }
 {
-    counted(line, 2, 2)?;
-    let version = number_in(word(line, 1), 1, 2)?;
+    counted(words, 2, 2)?;
+    let version = number_in(word(words, 1), 1, 2)?;
     draft.version = version as u8;
     draft.stage = Stage::Plan;
     Ok(())
@@ -34,62 +33,62 @@ fn plan_line(draft: &mut PlanDraft, line: &TextLine<'_>) -> Result<(), LineFault
 
 // `boxes N`: how many boxes follow.
 #[tactic(auto, unfolding(crate::specs::Reading::boxes_onto))]
-fn boxes_line(draft: &mut PlanDraft, line: &TextLine<'_>) -> Result<(), LineFault>
+fn boxes_line(draft: &mut PlanDraft, words: &LineWords<'_>) -> Result<(), LineFault>
     requires { in_box draft.old.stage ≡ false }
-    ensures { GivesLine (λ _. draft.new) result (boxes_onto draft.old (words_of line.now.text.now)) }
+    ensures { GivesLine (λ _. draft.new) result (boxes_onto draft.old words.now) }
 {
-    counted(line, 2, 2)?;
-    draft.count = number_in(word(line, 1), 2, most_boxes(draft.version))?;
+    counted(words, 2, 2)?;
+    draft.count = number_in(word(words, 1), 2, most_boxes(draft.version))?;
     draft.stage = Stage::Boxes;
     Ok(())
 }
 
 // `delay D`: how long a winding takes.
 #[tactic(auto, unfolding(crate::specs::Reading::delay_onto))]
-fn delay_line(draft: &mut PlanDraft, line: &TextLine<'_>) -> Result<(), LineFault>
+fn delay_line(draft: &mut PlanDraft, words: &LineWords<'_>) -> Result<(), LineFault>
     requires { in_box draft.old.stage ≡ false }
-    ensures { GivesLine (λ _. draft.new) result (delay_onto draft.old (words_of line.now.text.now)) }
+    ensures { GivesLine (λ _. draft.new) result (delay_onto draft.old words.now) }
 {
-    counted(line, 2, 2)?;
-    draft.delay = number_in(word(line, 1), 0, most_delay(draft.version))?;
+    counted(words, 2, 2)?;
+    draft.delay = number_in(word(words, 1), 0, most_delay(draft.version))?;
     draft.stage = Stage::Delay;
     Ok(())
 }
 
 // `looks K`: the most looks of an await.
 #[tactic(auto, unfolding(crate::specs::Reading::looks_onto))]
-fn looks_line(draft: &mut PlanDraft, line: &TextLine<'_>) -> Result<(), LineFault>
+fn looks_line(draft: &mut PlanDraft, words: &LineWords<'_>) -> Result<(), LineFault>
     requires { in_box draft.old.stage ≡ false }
-    ensures { GivesLine (λ _. draft.new) result (looks_onto draft.old (words_of line.now.text.now)) }
+    ensures { GivesLine (λ _. draft.new) result (looks_onto draft.old words.now) }
 {
-    counted(line, 2, 2)?;
-    draft.looks = number_in(word(line, 1), 1, MOST_LOOKS)?;
+    counted(words, 2, 2)?;
+    draft.looks = number_in(word(words, 1), 1, MOST_LOOKS)?;
     draft.stage = Stage::Looks;
     Ok(())
 }
 
 // `class NAME CODE`
 #[tactic(auto, unfolding(crate::specs::Reading::class_onto))]
-fn class_line(draft: &mut PlanDraft, line: &TextLine<'_>) -> Result<(), LineFault>
+fn class_line(draft: &mut PlanDraft, words: &LineWords<'_>) -> Result<(), LineFault>
     requires { in_box draft.old.stage ≡ false }
-    ensures { GivesLine (λ _. draft.new) result (class_onto draft.old (words_of line.now.text.now)) }
+    ensures { GivesLine (λ _. draft.new) result (class_onto draft.old words.now) }
 {
-    counted(line, 3, 3)?;
-    let name = new_name(&draft.class_names, word(line, 1))?;
-    let code = code_in(word(line, 2))?;
+    counted(words, 3, 3)?;
+    let name = new_name(&draft.class_names, word(words, 1))?;
+    let code = code_in(word(words, 2))?;
     draft.add_class(name, code)
 }
 
 // `box NAME`: first whether all announced boxes stand already, then the name.
 #[tactic(auto, unfolding(crate::specs::Reading::box_onto))]
-fn box_line(draft: &mut PlanDraft, line: &TextLine<'_>) -> Result<(), LineFault>
-    ensures { GivesLine (λ _. draft.new) result (box_onto draft.old (words_of line.now.text.now)) }
+fn box_line(draft: &mut PlanDraft, words: &LineWords<'_>) -> Result<(), LineFault>
+    ensures { GivesLine (λ _. draft.new) result (box_onto draft.old words.now) }
 {
-    counted(line, 2, 2)?;
+    counted(words, 2, 2)?;
     if draft.is_full() {
         return Err(LineFault::Cause(Cause::TooMany));
     }
-    let name = new_name(&draft.box_names, word(line, 1))?;
+    let name = new_name(&draft.box_names, word(words, 1))?;
     draft.open_box(name)?;
     Ok(())
 }
@@ -119,36 +118,36 @@ fn brought_at(boxes: &[BoxPlan], box_no: u32, word: &[u8]) -> Result<u32, LineFa
 
 // `train NAME CLASS BOX PLACE`, where all boxes are complete.
 #[tactic(auto, unfolding(crate::specs::Reading::train_in))]
-fn train_in(draft: &mut PlanDraft, line: &TextLine<'_>) -> Result<(), LineFault>
+fn train_in(draft: &mut PlanDraft, words: &LineWords<'_>) -> Result<(), LineFault>
     requires { in_box draft.old.stage ≡ false }
-    ensures { GivesLine (λ _. draft.new) result (train_in draft.old (words_of line.now.text.now)) }
+    ensures { GivesLine (λ _. draft.new) result (train_in draft.old words.now) }
 {
-    let name = new_name(&draft.train_names, word(line, 1))?;
-    let class_no = number_in_names(&draft.class_names, word(line, 2))?;
-    let box_no = number_in_names(&draft.box_names, word(line, 3))?;
-    let place = brought_at(&draft.boxes, box_no, word(line, 4))?;
+    let name = new_name(&draft.train_names, word(words, 1))?;
+    let class_no = number_in_names(&draft.class_names, word(words, 2))?;
+    let box_no = number_in_names(&draft.box_names, word(words, 3))?;
+    let place = brought_at(&draft.boxes, box_no, word(words, 4))?;
     draft.add_train(name, class_no, box_no, place)
 }
 
 // `train NAME CLASS BOX PLACE`: first whether all announced boxes stand.
 #[tactic(auto, unfolding(crate::specs::Reading::train_onto))]
-fn train_line(draft: &mut PlanDraft, line: &TextLine<'_>) -> Result<(), LineFault>
-    ensures { GivesLine (λ _. draft.new) result (train_onto draft.old (words_of line.now.text.now)) }
+fn train_line(draft: &mut PlanDraft, words: &LineWords<'_>) -> Result<(), LineFault>
+    ensures { GivesLine (λ _. draft.new) result (train_onto draft.old words.now) }
 {
-    counted(line, 5, 5)?;
+    counted(words, 5, 5)?;
     if !draft.is_full() {
         return Err(LineFault::Cause(Cause::TooFewBoxes));
     }
     draft.close(Stage::Train)?;
-    train_in(draft, line)
+    train_in(draft, words)
 }
 
 // `end`: all announced boxes stand.
 #[tactic(auto, unfolding(crate::specs::Reading::end_onto))]
-fn end_line(draft: &mut PlanDraft, line: &TextLine<'_>) -> Result<(), LineFault>
-    ensures { GivesLine (λ _. draft.new) result (end_onto draft.old (words_of line.now.text.now)) }
+fn end_line(draft: &mut PlanDraft, words: &LineWords<'_>) -> Result<(), LineFault>
+    ensures { GivesLine (λ _. draft.new) result (end_onto draft.old words.now) }
 {
-    counted(line, 1, 1)?;
+    counted(words, 1, 1)?;
     if !draft.is_full() {
         return Err(LineFault::Cause(Cause::TooFewBoxes));
     }
@@ -164,32 +163,32 @@ fn box_with(
     boxes: u32,
     box_no: u32,
     here: &mut BoxPlan,
-    line: &TextLine<'_>,
+    words: &LineWords<'_>,
 ) -> Result<(), LineFault>
     ensures gives { GivesLine (λ _. here.new) result
-        (box_with kind boxes box_no here.old (words_of line.now.text.now)) }
+        (box_with kind boxes box_no here.old words.now) }
     ensures name { here.new.name ≡ here.old.name }
 {
     match kind {
-        Stage::Place => place_line(here, line),
-        Stage::Lever => lever_line(alloc, here, line),
-        Stage::Signal => signal_line(alloc, here, line),
-        Stage::Starter => starter_line(alloc, boxes, box_no, here, line),
-        Stage::Berth => berth_line(alloc, boxes, box_no, here, line),
-        Stage::Clear => clear_line(alloc, here, line),
-        Stage::Permissive => permissive_line(here, line),
-        Stage::Track => track_line(alloc, here, line),
-        Stage::Row => row_line(alloc, here, line),
+        Stage::Place => place_line(here, words),
+        Stage::Lever => lever_line(alloc, here, words),
+        Stage::Signal => signal_line(alloc, here, words),
+        Stage::Starter => starter_line(alloc, boxes, box_no, here, words),
+        Stage::Berth => berth_line(alloc, boxes, box_no, here, words),
+        Stage::Clear => clear_line(alloc, here, words),
+        Stage::Permissive => permissive_line(here, words),
+        Stage::Track => track_line(alloc, here, words),
+        Stage::Row => row_line(alloc, here, words),
         _ => Err(LineFault::Cause(Cause::WrongKeyword)),
     }
 }
 
 // A line of this kind of the box whose lines are being read.
 #[tactic(auto, unfolding(crate::specs::Reading::here_onto))]
-fn here_line(kind: Stage, draft: &mut PlanDraft, line: &TextLine<'_>) -> Result<(), LineFault>
+fn here_line(kind: Stage, draft: &mut PlanDraft, words: &LineWords<'_>) -> Result<(), LineFault>
     requires here { in_box draft.old.stage ≡ true }
     requires kind { in_box kind ≡ true }
-    ensures { GivesLine (λ _. draft.new) result (here_onto kind draft.old (words_of line.now.text.now)) }
+    ensures { GivesLine (λ _. draft.new) result (here_onto kind draft.old words.now) }
 {
     let box_no = (draft.box_names.len() - 1) as u32;
     match box_with(
@@ -198,7 +197,7 @@ fn here_line(kind: Stage, draft: &mut PlanDraft, line: &TextLine<'_>) -> Result<
         draft.count,
         box_no,
         &mut draft.here,
-        line,
+        words,
     ) {
         Ok(()) => {
             draft.stage = kind;
@@ -210,29 +209,33 @@ fn here_line(kind: Stage, draft: &mut PlanDraft, line: &TextLine<'_>) -> Result<
 
 // The same, where the kind may follow the last line.
 #[tactic(auto, using(crate::proofs::Following::behind))]
-fn following_line(kind: Stage, draft: &mut PlanDraft, line: &TextLine<'_>) -> Result<(), LineFault>
+fn following_line(
+    kind: Stage,
+    draft: &mut PlanDraft,
+    words: &LineWords<'_>,
+) -> Result<(), LineFault>
     requires kind { behind_box kind ≡ true }
     requires follows { may_follow kind draft.old.stage ≡ true }
-    ensures { GivesLine (λ _. draft.new) result (here_onto kind draft.old (words_of line.now.text.now)) }
+    ensures { GivesLine (λ _. draft.new) result (here_onto kind draft.old words.now) }
 {
-    here_line(kind, draft, line)
+    here_line(kind, draft, words)
 }
 
 /// What a line of this kind makes of the plan so far.
 #[tactic(auto, unfolding(crate::specs::Reading::kind_onto))]
-pub fn kind_line(kind: Stage, draft: &mut PlanDraft, line: &TextLine<'_>) -> Result<(), LineFault>
+pub fn kind_line(kind: Stage, draft: &mut PlanDraft, words: &LineWords<'_>) -> Result<(), LineFault>
     requires { may_follow kind draft.old.stage ≡ true }
-    ensures { GivesLine (λ _. draft.new) result (kind_onto kind draft.old (words_of line.now.text.now)) }
+    ensures { GivesLine (λ _. draft.new) result (kind_onto kind draft.old words.now) }
 {
     match kind {
-        Stage::Plan => plan_line(draft, line),
-        Stage::Boxes => boxes_line(draft, line),
-        Stage::Delay => delay_line(draft, line),
-        Stage::Looks => looks_line(draft, line),
-        Stage::Class => class_line(draft, line),
-        Stage::Box => box_line(draft, line),
-        Stage::Train => train_line(draft, line),
-        Stage::Ended => end_line(draft, line),
+        Stage::Plan => plan_line(draft, words),
+        Stage::Boxes => boxes_line(draft, words),
+        Stage::Delay => delay_line(draft, words),
+        Stage::Looks => looks_line(draft, words),
+        Stage::Class => class_line(draft, words),
+        Stage::Box => box_line(draft, words),
+        Stage::Train => train_line(draft, words),
+        Stage::Ended => end_line(draft, words),
         Stage::Start => Err(LineFault::Cause(Cause::WrongKeyword)),
         Stage::Place
         | Stage::Lever
@@ -242,6 +245,6 @@ pub fn kind_line(kind: Stage, draft: &mut PlanDraft, line: &TextLine<'_>) -> Res
         | Stage::Clear
         | Stage::Permissive
         | Stage::Track
-        | Stage::Row => following_line(kind, draft, line),
+        | Stage::Row => following_line(kind, draft, words),
     }
 }

@@ -2,8 +2,7 @@
 
 ghost use Rattle.std.specs.Prelude.{◌≡◌, [], IfOk, bytes_eq, drop, false};
 ghost use Rattle.std.specs.List.{list_any};
-ghost use Rattle.rail_text.specs.Gives.{GivesLine};
-ghost use Rattle.rail_text.specs.Lines.{words_of};
+ghost use Rattle.rail_text.specs.Gives.{GivesLine, TakesNoMemory};
 ghost use Rattle.plan_draft.specs.LineWords.{code_in, counted, end_in, kind_in, lever_in, new_name, number_in_names};
 ghost use Rattle.plan_draft.specs.LineWords.{places_onto, way_in, word, working_in};
 
@@ -11,14 +10,15 @@ use bell_codes::{Code, read_code};
 use block_words::Way;
 use line_plan::{BoxPlan, Items, Kind, Lever, To};
 use locking_table::MOST_LEVERS;
-use rail_text::{Cause, LineFault, Names, TextLine, is_name, name_in, number_in};
+use rail_text::{Cause, LineFault, LineWords, Names, is_name, name_in, number_in};
 use std::alloc::Global;
 
 /// The line has so many words, its first among them.
-pub fn counted(line: &TextLine<'_>, low: usize, high: usize) -> Result<(), LineFault>
-    ensures { GivesLine (λ _. tt) result (counted low high (words_of line.now.text.now)) }
+pub fn counted(words: &LineWords<'_>, low: usize, high: usize) -> Result<(), LineFault>
+    ensures gives { GivesLine (λ _. tt) result (counted low high words.now) }
+    ensures memory { TakesNoMemory result }
 {
-    let count = line.word_count();
+    let count = words.word_count();
     if low <= count && count <= high {
         Ok(())
     } else {
@@ -27,10 +27,10 @@ pub fn counted(line: &TextLine<'_>, low: usize, high: usize) -> Result<(), LineF
 }
 
 /// The word with this number; the first of the line has the number 0.
-pub fn word<'a>(line: &TextLine<'a>, i: usize) -> &'a [u8]
-    ensures { result.now ≡ word i (words_of line.now.text.now) }
+pub fn word<'a>(words: &LineWords<'a>, i: usize) -> &'a [u8]
+    ensures { result.now ≡ word i words.now }
 {
-    match line.word(i) {
+    match words.word(i) {
         Some(word) => word,
         None => &[],
     }
@@ -41,6 +41,7 @@ pub fn word<'a>(line: &TextLine<'a>, i: usize) -> &'a [u8]
 pub fn new_name<'a>(names: &Names, word: &'a [u8]) -> Result<&'a str, LineFault>
     ensures gives { GivesLine (λ name. name.now) result (new_name names.now word.now) }
     ensures new { IfOk result (λ name. list_any (bytes_eq name.now) names.now ≡ false) }
+    ensures memory { TakesNoMemory result }
 {
     let name = name_in(word)?;
     if names.contains(name) {
@@ -52,7 +53,8 @@ pub fn new_name<'a>(names: &Names, word: &'a [u8]) -> Result<&'a str, LineFault>
 /// The number of a name among these.
 #[tactic(auto, unfolding(crate::specs::LineWords::number_in_names))]
 pub fn number_in_names(names: &Names, word: &[u8]) -> Result<u32, LineFault>
-    ensures { GivesLine (λ number. number) result (number_in_names names.now word.now) }
+    ensures gives { GivesLine (λ number. number) result (number_in_names names.now word.now) }
+    ensures memory { TakesNoMemory result }
 {
     if !is_name(word) {
         return Err(LineFault::Cause(Cause::UnknownName));
@@ -69,14 +71,14 @@ pub fn number_in_names(names: &Names, word: &[u8]) -> Result<u32, LineFault>
 pub fn places_from(
     alloc: Global,
     names: &Names,
-    line: &TextLine<'_>,
+    words: &LineWords<'_>,
     first: usize,
 ) -> Result<Items<u32>, LineFault>
-    ensures { GivesLine (λ places. places) result (places_onto names.now [] (drop first (words_of line.now.text.now))) }
+    ensures { GivesLine (λ places. places) result (places_onto names.now [] (drop first words.now)) }
 {
     let mut places = Vec::new(alloc);
-    for i in first..line.word_count() {
-        let place = number_in_names(names, word(line, i))?;
+    for i in first..words.word_count() {
+        let place = number_in_names(names, word(words, i))?;
         places.push(place)?;
     }
     Ok(Items::from_vec(places))
@@ -85,7 +87,8 @@ pub fn places_from(
 /// `up` or `down`.
 #[tactic(auto, unfolding(crate::specs::LineWords::way_in))]
 pub fn way_in(word: &[u8]) -> Result<Way, LineFault>
-    ensures { GivesLine (λ way. way) result (way_in word.now) }
+    ensures gives { GivesLine (λ way. way) result (way_in word.now) }
+    ensures memory { TakesNoMemory result }
 {
     if word == b"up".as_slice() {
         Ok(Way::Up)
@@ -99,7 +102,8 @@ pub fn way_in(word: &[u8]) -> Result<Way, LineFault>
 /// The kind of a lever.
 #[tactic(auto, unfolding(crate::specs::LineWords::kind_in))]
 pub fn kind_in(word: &[u8]) -> Result<Kind, LineFault>
-    ensures { GivesLine (λ kind. kind) result (kind_in word.now) }
+    ensures gives { GivesLine (λ kind. kind) result (kind_in word.now) }
+    ensures memory { TakesNoMemory result }
 {
     if word == b"signal".as_slice() {
         Ok(Kind::Signal)
@@ -118,7 +122,8 @@ pub fn kind_in(word: &[u8]) -> Result<Kind, LineFault>
 
 /// A bell code.
 pub fn code_in(word: &[u8]) -> Result<Code, LineFault>
-    ensures { GivesLine (λ code. code) result (code_in word.now) }
+    ensures gives { GivesLine (λ code. code) result (code_in word.now) }
+    ensures memory { TakesNoMemory result }
 {
     match read_code(word) {
         Ok(code) => Ok(code),
@@ -129,7 +134,8 @@ pub fn code_in(word: &[u8]) -> Result<Code, LineFault>
 /// Where a signal leads: off the line, or to a place.
 #[tactic(auto, unfolding(crate::specs::LineWords::end_in))]
 pub fn end_in(places: &Names, word: &[u8]) -> Result<To, LineFault>
-    ensures { GivesLine (λ to. to) result (end_in places.now word.now) }
+    ensures gives { GivesLine (λ to. to) result (end_in places.now word.now) }
+    ensures memory { TakesNoMemory result }
 {
     if word == b"away".as_slice() {
         return Ok(To::Away);
@@ -141,7 +147,8 @@ pub fn end_in(places: &Names, word: &[u8]) -> Result<To, LineFault>
 /// A lever of the box.
 #[tactic(auto, unfolding(crate::specs::LineWords::lever_in))]
 pub fn lever_in(here: &BoxPlan, word: &[u8]) -> Result<Lever, LineFault>
-    ensures { GivesLine (λ lever. lever) result (lever_in here.now word.now) }
+    ensures gives { GivesLine (λ lever. lever) result (lever_in here.now word.now) }
+    ensures memory { TakesNoMemory result }
 {
     let number = number_in(word, 1, MOST_LEVERS)?;
     match here.lever(number) {
@@ -153,7 +160,8 @@ pub fn lever_in(here: &BoxPlan, word: &[u8]) -> Result<Lever, LineFault>
 /// A lever of the box that is no spare one.
 #[tactic(auto, unfolding(crate::specs::LineWords::working_in))]
 pub fn working_in(here: &BoxPlan, word: &[u8]) -> Result<u32, LineFault>
-    ensures { GivesLine (λ number. number) result (working_in here.now word.now) }
+    ensures gives { GivesLine (λ number. number) result (working_in here.now word.now) }
+    ensures memory { TakesNoMemory result }
 {
     let lever = lever_in(here, word)?;
     if lever.kind == Kind::Spare {

@@ -6,7 +6,7 @@ ghost use Rattle.plan_draft.specs.Reading.{between, line_kind, may_follow};
 use crate::draft::{PlanDraft, Stage};
 use crate::kinds::kind_line;
 use crate::line_words::word;
-use rail_text::{Cause, Draft, LineFault, TextLine};
+use rail_text::{Cause, Draft, LineFault, LineWords};
 
 // The kind of line that a keyword begins.
 #[tactic(auto, unfolding(crate::specs::Reading::line_kind))]
@@ -95,12 +95,12 @@ impl Draft for PlanDraft {
     ghost ended = { λ draft. has_ended draft.stage };
 
     #[tactic(auto, unfolding(crate::specs::Reading::words_onto))]
-    fn read_words(&mut self, line: &TextLine<'_>) -> Result<(), LineFault> {
+    fn read_words(&mut self, words: &LineWords<'_>) -> Result<(), LineFault> {
         if self.stage == Stage::Ended {
             return Err(LineFault::Cause(Cause::AfterEnd));
         }
-        match line_kind(word(line, 0)) {
-            Some(kind) if may_follow(kind, self.stage) => kind_line(kind, self, line),
+        match line_kind(word(words, 0)) {
+            Some(kind) if may_follow(kind, self.stage) => kind_line(kind, self, words),
             _ => Err(LineFault::Cause(Cause::WrongKeyword)),
         }
     }

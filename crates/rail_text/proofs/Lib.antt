@@ -13,4 +13,6 @@ pub mod Keeps
 pub mod PrintedWords
 pub mod Limits
 pub mod KeptLines
+pub mod CutWords
+pub mod FirstByte
 pub mod Texts

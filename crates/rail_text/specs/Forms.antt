@@ -1,8 +1,9 @@
 -- What a line is before its words are read.
 use Rattle.std.specs.Prelude.{ℕ, Bool, true, not, nat_le, nat_lt, ◌==◌, ◌&&◌, List, [], ◌∷◌, length, Result, Ok, Err}
-use Rattle.std.specs.Prelude.{if◌then◌else◌}
+use Rattle.std.specs.Prelude.{if◌then◌else◌, Option, Some, None}
 use Rattle.std.specs.List.{list_all, list_any}
 pub use Rattle.rail_text.specs.Lines.{is_empty_word}
+use Rattle.rail_text.specs.Gives.{◌>>=◌}
 use Rattle.rail_text.specs.Lines.{Line, words_of}
 use Rattle.rail_text.specs.declared.cause.Cause.{Cause}
 use Rattle.rail_text.specs.declared.cause.Cause.TheVariants as causes
@@ -27,6 +28,15 @@ form_of skips line =
     else if skips && is_skipped line.text then Ok forms.Skipped
     else if list_any is_empty_word (words_of line.text) then Err causes.Spacing
     else Ok forms.Words
+
+-- the words of a line that isn't skipped
+abbrev pub words_unless_skipped : List (List ℕ) → LineForm → Result (Option (List (List ℕ))) Cause
+words_unless_skipped words forms.Skipped = Ok None
+words_unless_skipped words forms.Words = Ok (Some words)
+
+-- the words of a line that has its form, if it isn't skipped
+unfoldable pub formed_words : Bool → Line → Result (Option (List (List ℕ))) Cause
+formed_words skips line = form_of skips line >>= words_unless_skipped (words_of line.text)
 
 -- a byte of a word: no space
 abbrev pub is_word_byte : ℕ → Bool

@@ -22,6 +22,11 @@ abbrev pub GivesLine : {X Y : Type 0} → (X → Y) → Result X LineFault → R
 GivesLine view (Ok x) read = read ≡ Ok (view x)
 GivesLine view (Err e) read = FailsLine e read
 
+-- The reader gives what reading gives, or its cause.
+abbrev pub GivesCause : {X Y : Type 0} → (X → Y) → Result X Cause → Result Y Cause → Type 0
+GivesCause view (Ok x) read = read ≡ Ok (view x)
+GivesCause view (Err cause) read = read ≡ Err cause
+
 -- The line's reader takes no memory, so it never fails for want of it.
 abbrev pub TakesNoMemory : {X : Type 0} → Result X LineFault → Type 0
 TakesNoMemory result = result ≢ Err faults.NoMemory

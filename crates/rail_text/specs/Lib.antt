@@ -6,6 +6,7 @@ pub mod MemSinkFields
 pub mod MemSink
 pub mod Adapters
 pub mod Lines
+pub mod LineWords
 pub mod Number
 pub mod Names
 pub mod Gives

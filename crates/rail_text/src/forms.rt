@@ -2,10 +2,12 @@
 
 ghost use Rattle.std.specs.Prelude.{◌≡◌, ℕ, ◌≤◌, Bool, true, false, List, ◌∷◌, length, Ok};
 ghost use Rattle.std.specs.List.{list_all, list_any, join_with_byte};
+ghost use Rattle.rail_text.specs.Gives.{GivesCause};
 ghost use Rattle.rail_text.specs.Lines.{words_of, ended_line};
-ghost use Rattle.rail_text.specs.Forms.{is_printable, is_skipped, is_empty_word, is_word, form_of};
+ghost use Rattle.rail_text.specs.Forms.{is_printable, is_skipped, is_empty_word, is_word, form_of, formed_words};
 
-use crate::{Cause, TextLine};
+use crate::line_words::{Seen, seen_of, seen_words};
+use crate::{Cause, LineWords, TextLine};
 
 /// The most bytes of a line, its end not counted.
 const LONGEST_LINE: usize = 200;
@@ -19,12 +21,6 @@ pub enum LineForm {
     Words,
 }
 
-fn is_printable_text(text: &[u8]) -> bool
-    ensures { result ≡ list_all is_printable text.now }
-{
-    text.iter().all(|b| (b' '..=b'~').contains(b))
-}
-
 fn is_skipped(text: &[u8]) -> bool
     ensures { result ≡ is_skipped text.now }
 {
@@ -34,23 +30,32 @@ fn is_skipped(text: &[u8]) -> bool
     }
 }
 
-// Some word is empty: a space stands at an end or beside another.
-#[tactic(auto, using(crate::proofs::Gaps::gap_any))]
-fn has_empty_word(text: &[u8]) -> bool
-    ensures { result ≡ list_any is_empty_word (words_of text.now) }
+// What the line is, by what is seen of its text.
+#[tactic(auto, unfolding(crate::specs::Forms::form_of))]
+fn form_seen(line: &TextLine<'_>, skips: bool, seen: Seen) -> Result<LineForm, Cause>
+    requires printable { seen.printable ≡ list_all is_printable line.now.text.now }
+    requires gap { seen.gap ≡ list_any is_empty_word (words_of line.now.text.now) }
+    ensures { result ≡ form_of skips (record {
+      text = line.now.text.now;
+      ended = line.now.ended;
+    }) }
 {
-    let mut empty = true;
-    for b in text {
-        if *b == b' ' {
-            if empty {
-                return true;
-            }
-            empty = true;
-        } else {
-            empty = false;
-        }
+    if !line.ended {
+        return Err(Cause::Cut);
     }
-    empty
+    if !seen.printable {
+        return Err(Cause::BadByte);
+    }
+    if line.text.len() > LONGEST_LINE {
+        return Err(Cause::LongLine);
+    }
+    if skips && is_skipped(line.text) {
+        return Ok(LineForm::Skipped);
+    }
+    if seen.gap {
+        return Err(Cause::Spacing);
+    }
+    Ok(LineForm::Words)
 }
 
 impl<'a> TextLine<'a> {
@@ -58,29 +63,30 @@ impl<'a> TextLine<'a> {
     /// end (`Cut`), a byte off 32 to 126 (`BadByte`), more than 200 bytes (`LongLine`); where the
     /// text has skipped lines, it is empty or begins with `#` (`Skipped`); some word of it is empty
     /// (`Spacing`).
-    #[tactic(auto, unfolding(crate::specs::Forms::form_of))]
     pub fn form(&self, skips: bool) -> Result<LineForm, Cause>
         ensures { result ≡ form_of skips (record {
           text = self.now.text.now;
           ended = self.now.ended;
         }) }
     {
-        if !self.ended {
-            return Err(Cause::Cut);
+        form_seen(self, skips, seen_of(self.text))
+    }
+
+    /// The words of the line, once its form is tested as `form` tells; `None` exactly where it is
+    /// skipped.
+    #[tactic(auto, unfolding(crate::specs::Forms::formed_words))]
+    pub fn formed(&self, skips: bool) -> Result<Option<LineWords<'a>>, Cause>
+        ensures { GivesCause (λ words. words) result (formed_words skips (record {
+          text = self.now.text.now;
+          ended = self.now.ended;
+        })) }
+    {
+        let (words, seen) = seen_words(self.text);
+        match form_seen(self, skips, seen) {
+            Ok(LineForm::Words) => Ok(Some(words)),
+            Ok(LineForm::Skipped) => Ok(None),
+            Err(cause) => Err(cause),
         }
-        if !is_printable_text(self.text) {
-            return Err(Cause::BadByte);
-        }
-        if self.text.len() > LONGEST_LINE {
-            return Err(Cause::LongLine);
-        }
-        if skips && is_skipped(self.text) {
-            return Ok(LineForm::Skipped);
-        }
-        if has_empty_word(self.text) {
-            return Err(Cause::Spacing);
-        }
-        Ok(LineForm::Words)
     }
 }
 

@@ -7,6 +7,7 @@ mod fault;
 mod file_shelf;
 mod forms;
 mod line_fault;
+mod line_words;
 mod lines;
 mod mem_shelf;
 mod mem_sink;
@@ -23,7 +24,10 @@ pub use fault::{FetchFault, NoMemory, SinkFault};
 pub use file_shelf::FileShelf;
 pub use forms::{LineForm, printed_words_are_read};
 pub use line_fault::LineFault;
-pub use lines::{Lines, TextLine, lines_are_lines, printed_lines_are_read, words_are_words};
+pub use line_words::LineWords;
+pub use lines::{
+    Lines, TextLine, first_word, lines_are_lines, printed_lines_are_read, words_are_words,
+};
 pub use mem_shelf::MemShelf;
 pub use mem_sink::MemSink;
 pub use names::Names;

@@ -6,19 +6,33 @@ ghost use Rattle.std.specs.List.{list_all, flat_map};
 ghost use Rattle.rail_text.specs.Lines.{Line, AreLinesOf, AreWordsOf, lacks, ended_line, printed_line, cut_of};
 ghost use Rattle.rail_text.specs.Lines.{lines_of, words_of, words_after};
 
+use memchr::memchr;
 use std::marker::Model;
 
-// What stands before the first such byte, and what after it, if there is one.
-fn cut(bytes: &[u8], at: u8) -> (&[u8], Option<&[u8]>)
-    ensures front { result.0.now ≡ (cut_of at bytes.now).0 }
-    ensures rest { option_map (λ s. s.now) result.1 ≡ (cut_of at bytes.now).1 }
+// What stands before the first space, and what after it, if there is one. Words are short, so a loop
+// is faster than a search by vectors.
+fn cut_at_space(bytes: &[u8]) -> (&[u8], Option<&[u8]>)
+    ensures front { result.0.now ≡ (cut_of 32 bytes.now).0 }
+    ensures rest { option_map (λ s. s.now) result.1 ≡ (cut_of 32 bytes.now).1 }
 {
     for (i, b) in bytes.iter().enumerate() {
-        if *b == at {
+        if *b == b' ' {
             return (&bytes[..i], Some(&bytes[i + 1..]));
         }
     }
     (bytes, None)
+}
+
+// What stands before the first line end, and what after it, if there is one.
+#[tactic(auto, using(crate::proofs::FirstByte::first_rules))]
+fn cut_at_line_end(bytes: &[u8]) -> (&[u8], Option<&[u8]>)
+    ensures front { result.0.now ≡ (cut_of 10 bytes.now).0 }
+    ensures rest { option_map (λ s. s.now) result.1 ≡ (cut_of 10 bytes.now).1 }
+{
+    match memchr(b'\n', bytes) {
+        Some(i) => (&bytes[..i], Some(&bytes[i + 1..])),
+        None => (bytes, None),
+    }
 }
 
 // The first line, whether it has an end, and what is after it.
@@ -29,23 +43,24 @@ fn first_line(bytes: &[u8]) -> (&[u8], bool, &[u8])
         record { text = result.0.now; ended = result.1 } ∷ lines_of result.2.now }
     ensures fewer { length result.2.now < length bytes.now }
 {
-    let (text, rest) = cut(bytes, b'\n');
+    let (text, rest) = cut_at_line_end(bytes);
     match rest {
         Some(rest) => (text, true, rest),
         None => (text, false, &[]),
     }
 }
 
-// The first word, and what is after the space behind it, if there is one.
+/// The first word of a text, and what is after the space behind it; `None` where the word is the
+/// last.
 #[tactic(auto, using(crate::proofs::LineRules::word_rules))]
-fn first_word(bytes: &[u8]) -> (&[u8], Option<&[u8]>)
+pub fn first_word(bytes: &[u8]) -> (&[u8], Option<&[u8]>)
     ensures { words_of bytes.now ≡ result.0.now ∷ words_after (option_map (λ s. s.now) result.1) }
 {
-    cut(bytes, b' ')
+    cut_at_space(bytes)
 }
 
 // The word with this number, from 0.
-fn word_at(bytes: &[u8], i: usize) -> Option<&[u8]>
+pub(crate) fn word_at(bytes: &[u8], i: usize) -> Option<&[u8]>
     ensures { option_map (λ s. s.now) result ≡ slice_get (words_of bytes.now) i }
 {
     let mut rest = bytes;
@@ -85,7 +100,7 @@ pub struct TextLine<'a> {
 }
 
 // The bytes behind the word with this number and its space, where there is a space.
-fn behind(bytes: &[u8], i: usize) -> Option<&[u8]>
+pub(crate) fn behind(bytes: &[u8], i: usize) -> Option<&[u8]>
     ensures { words_after (option_map (λ s. s.now) result) ≡ drop (i + 1) (words_of bytes.now) }
 {
     let mut rest = bytes;
@@ -99,7 +114,7 @@ fn behind(bytes: &[u8], i: usize) -> Option<&[u8]>
 
 // One more than the spaces.
 #[tactic(auto, using(crate::proofs::LineRules::count_rules))]
-fn count_words(bytes: &[u8]) -> usize
+pub(crate) fn count_words(bytes: &[u8]) -> usize
     ensures { result ≡ length (words_of bytes.now) }
 {
     bytes.iter().filter(|b| **b == b' ').count() + 1

@@ -2,10 +2,9 @@
 
 ghost use Rattle.std.specs.Prelude.{◌≡◌, ◌<◌, ◌+◌, ◌^◌, Bool, true, OnOk};
 ghost use Rattle.rail_text.specs.Gives.{GivesLine, GivesText};
-ghost use Rattle.rail_text.specs.Lines.{words_of};
 ghost use Rattle.rail_text.specs.Texts.{Reads, line_onto, lines_onto, text_onto};
 
-use crate::{Cause, LineFault, LineForm, Lines, ReadError, TextLine, text_error};
+use crate::{Cause, LineFault, LineWords, Lines, ReadError, TextLine, text_error};
 
 /// What a reader makes of a text line by line.
 pub trait Draft {
@@ -16,8 +15,8 @@ pub trait Draft {
     ghost ended: { Self → Bool };
 
     /// Reads the words of a line.
-    fn read_words(&mut self, line: &TextLine<'_>) -> Result<(), LineFault>
-        ensures { GivesLine (λ _. self.new) result (onto self.old (words_of line.now.text.now)) };
+    fn read_words(&mut self, words: &LineWords<'_>) -> Result<(), LineFault>
+        ensures { GivesLine (λ _. self.new) result (onto self.old words.now) };
 
     /// Whether the text's line `end` has stood.
     fn has_ended(&self) -> bool
@@ -25,16 +24,17 @@ pub trait Draft {
 }
 
 // Reads a line: its form first, then its words.
-#[tactic(auto, unfolding(crate::specs::Texts::line_onto))]
+#[tactic(auto, unfolding(crate::specs::Texts::line_onto, crate::specs::Forms::formed_words))]
 fn read_line<D: Draft>(draft: &mut D, line: &TextLine<'_>) -> Result<(), LineFault>
     ensures { GivesLine (λ _. draft.new) result (line_onto D.onto draft.old (record {
       text = line.now.text.now;
       ended = line.now.ended;
     })) }
 {
-    match line.form(true)? {
-        LineForm::Skipped => Ok(()),
-        LineForm::Words => draft.read_words(line),
+    match line.formed(true) {
+        Ok(Some(words)) => draft.read_words(&words),
+        Ok(None) => Ok(()),
+        Err(cause) => Err(LineFault::Cause(cause)),
     }
 }
 

@@ -1,4 +1,3 @@
-pub mod Gives
 pub mod Limits
 pub mod Moments
 pub mod Names

@@ -1,7 +1,6 @@
 //! The reply that a text spells for a call.
 
 ghost use Rattle.std.specs.Prelude.{◌≡◌, ◌↔◌, ◌<◌, IfOk, IsErr, IfErr, length};
-ghost use Rattle.rail_text.specs.Lines.{words_of};
 ghost use Rattle.line_law.specs.declared.call.Reply.{Reply};
 ghost use Rattle.line_plan.specs.Plans.{IsPlan};
 ghost use Rattle.script_text.specs.Answers.{small_number, state_named, spent_named, lone_reply, count_reply};
@@ -19,7 +18,7 @@ use bell_codes::CodeNo;
 use block_words::WelwynState;
 use line_law::{Act, Call, Reply};
 use line_plan::Plan;
-use rail_text::{Cause, TextLine, read_number};
+use rail_text::{Cause, LineWords, read_number};
 
 // A number of 32 bits.
 fn small_number(word: &[u8]) -> Option<u32>
@@ -306,24 +305,24 @@ fn instrument_reply(
 
 // The reply that the words of a line have the shape of.
 #[tactic(auto, unfolding(crate::specs::Answers::shaped_reply))]
-fn shaped_reply(plan: &Plan, box_no: u32, line: &TextLine<'_>) -> Option<Reply>
+fn shaped_reply(plan: &Plan, box_no: u32, words: &LineWords<'_>) -> Option<Reply>
     requires { box_no < length plan.now.boxes }
-    ensures { result ≡ shaped_reply plan.now box_no (words_of line.now.text.now) }
+    ensures { result ≡ shaped_reply plan.now box_no words.now }
 {
-    let word = line.word(0)?;
-    let Some(second) = line.word(1) else {
+    let word = words.word(0)?;
+    let Some(second) = words.word(1) else {
         return lone_reply(word);
     };
-    let Some(third) = line.word(2) else {
+    let Some(third) = words.word(2) else {
         return pair_reply(plan, word, second);
     };
-    let Some(fourth) = line.word(3) else {
+    let Some(fourth) = words.word(3) else {
         return triple_reply(plan, box_no, word, second, third);
     };
-    let Some(fifth) = line.word(4) else {
+    let Some(fifth) = words.word(4) else {
         return lever_reply(word, second, third, fourth);
     };
-    match line.word(5) {
+    match words.word(5) {
         None => instrument_reply(word, second, third, fourth, fifth),
         Some(_) => None,
     }
@@ -338,12 +337,8 @@ fn reply_of(plan: &Plan, box_no: u32, act: Act, text: &[u8]) -> Result<Reply, Ca
     ensures plan { IsPlan plan.now }
 {
     let _version = plan.version;
-    let line = TextLine {
-        number: 0,
-        text,
-        ended: true,
-    };
-    match shaped_reply(plan, box_no, &line) {
+    let words = LineWords::new(text);
+    match shaped_reply(plan, box_no, &words) {
         Some(reply) if may_answer(act, &reply) && is_spelled_reply(plan, box_no, &reply) => {
             Ok(reply)
         }

@@ -1,7 +1,6 @@
 //! A call's line: the moment, then what is done.
 
 ghost use Rattle.std.specs.Prelude.{◌≡◌, ◌↔◌, ◌<◌, ◌++◌, IfOk, OnOk, IsErr, length, string_bytes};
-ghost use Rattle.rail_text.specs.Lines.{words_of};
 ghost use Rattle.line_plan.specs.Plans.{IsPlan};
 ghost use Rattle.line_law.specs.Known.{KnowsCall, moments_of};
 ghost use Rattle.line_law.specs.declared.call.Call.{Call};
@@ -13,19 +12,16 @@ use crate::acts::read_act;
 use crate::moments::{put_moment, read_moment};
 use line_law::Call;
 use line_plan::Plan;
-use rail_text::{Cause, NoMemory, TextLine};
+use rail_text::{Cause, LineWords, NoMemory};
 use std::alloc::{AllocError, Global};
 
-/// The moment that begins a line, in the form of the plan's version.
+/// The moment that begins the words of a line, in the form of the plan's version.
 #[tactic(auto, unfolding(crate::specs::Calls::moment_in))]
-pub fn moment_in(version: u8, line: &TextLine<'_>) -> Result<u32, Cause>
-    ensures exact { result ≡ moment_in version (words_of line.now.text.now) }
+pub fn moment_in(version: u8, words: &LineWords<'_>) -> Result<u32, Cause>
+    ensures exact { result ≡ moment_in version words.now }
     ensures day { IfOk result (λ moment. moment < moments_of version) }
 {
-    let Some(word) = line.word(0) else {
-        return Err(Cause::BadMoment);
-    };
-    read_moment(version, word).ok_or(Cause::BadMoment)
+    read_moment(version, words.keyword()).ok_or(Cause::BadMoment)
 }
 
 // The call of a box that a text spells, or the first cause.
@@ -35,13 +31,9 @@ fn call_of(plan: &Plan, box_no: u32, text: &[u8]) -> Result<Call, Cause>
     ensures exact { result ≡ call_of plan.now box_no text.now }
     ensures plan { IsPlan plan.now }
 {
-    let line = TextLine {
-        number: 0,
-        text,
-        ended: true,
-    };
-    let moment = moment_in(plan.version, &line)?;
-    let act = read_act(plan, box_no, &line)?;
+    let words = LineWords::new(text);
+    let moment = moment_in(plan.version, &words)?;
+    let act = read_act(plan, box_no, &words)?;
     Ok(Call { moment, act })
 }
 

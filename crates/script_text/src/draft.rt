@@ -5,7 +5,7 @@ use crate::calls::moment_in;
 use crate::script::{MOST_CALLS, Script};
 use line_law::Call;
 use line_plan::{Items, Plan};
-use rail_text::{Cause, Draft, LineFault, TextLine, has_keyword, no_word, one_word};
+use rail_text::{Cause, Draft, LineFault, LineWords};
 use std::alloc::Global;
 use std::marker::Model;
 
@@ -48,7 +48,6 @@ impl<'a> Model for ScriptDraft<'a> {
 impl<'a> ScriptDraft<'a> {
     ghost use Rattle.std.specs.Prelude.{◌≡◌, ◌<◌, length};
     ghost use Rattle.rail_text.specs.Gives.{GivesLine};
-    ghost use Rattle.rail_text.specs.Lines.{words_of};
     ghost use Rattle.script_text.specs.Drafts.{start};
     ghost use Rattle.script_text.specs.Scripts.{script_onto, call_onto, end_onto};
 
@@ -68,10 +67,10 @@ impl<'a> ScriptDraft<'a> {
 
     /// `script NAME`: the box for which it is read.
     #[tactic(auto, unfolding(crate::specs::Scripts::script_onto))]
-    fn script_line(&mut self, line: &TextLine<'_>) -> Result<(), LineFault>
-        ensures { GivesLine (λ _. self.new) result (script_onto self.old (words_of line.now.text.now)) }
+    fn script_line(&mut self, words: &LineWords<'_>) -> Result<(), LineFault>
+        ensures { GivesLine (λ _. self.new) result (script_onto self.old words.now) }
     {
-        let name = one_word(line)?;
+        let name = words.one_word()?;
         let plan = self.plan;
         if name != plan.box_name(self.box_no).as_bytes() {
             return Err(LineFault::Cause(Cause::WrongBox));
@@ -82,15 +81,15 @@ impl<'a> ScriptDraft<'a> {
 
     /// A call more, whose moment isn't below the one before.
     #[tactic(auto, unfolding(crate::specs::Scripts::call_onto))]
-    fn call_line(&mut self, line: &TextLine<'_>) -> Result<(), LineFault>
-        ensures { GivesLine (λ _. self.new) result (call_onto self.old (words_of line.now.text.now)) }
+    fn call_line(&mut self, words: &LineWords<'_>) -> Result<(), LineFault>
+        ensures { GivesLine (λ _. self.new) result (call_onto self.old words.now) }
     {
         let plan = self.plan;
-        let moment = moment_in(plan.version, line)?;
+        let moment = moment_in(plan.version, words)?;
         if moment < self.moment {
             return Err(LineFault::Cause(Cause::MomentFalls));
         }
-        let act = read_act(plan, self.box_no, line)?;
+        let act = read_act(plan, self.box_no, words)?;
         if self.calls.len() >= MOST_CALLS {
             return Err(LineFault::Cause(Cause::TooMany));
         }
@@ -101,10 +100,10 @@ impl<'a> ScriptDraft<'a> {
 
     /// `end`: the script ends.
     #[tactic(auto, unfolding(crate::specs::Scripts::end_onto))]
-    fn end_line(&mut self, line: &TextLine<'_>) -> Result<(), LineFault>
-        ensures { GivesLine (λ _. self.new) result (end_onto self.old (words_of line.now.text.now)) }
+    fn end_line(&mut self, words: &LineWords<'_>) -> Result<(), LineFault>
+        ensures { GivesLine (λ _. self.new) result (end_onto self.old words.now) }
     {
-        no_word(line)?;
+        words.no_word()?;
         self.stage = Stage::Ended;
         Ok(())
     }
@@ -128,12 +127,12 @@ impl<'a> Draft for ScriptDraft<'a> {
     ghost ended = { λ draft. has_ended draft.stage };
 
     #[tactic(auto, unfolding(crate::specs::Scripts::stage_onto))]
-    fn read_words(&mut self, line: &TextLine<'_>) -> Result<(), LineFault> {
+    fn read_words(&mut self, words: &LineWords<'_>) -> Result<(), LineFault> {
         match self.stage {
-            Stage::Script if has_keyword(line, b"script") => self.script_line(line),
+            Stage::Script if words.keyword() == b"script".as_slice() => self.script_line(words),
             Stage::Script => Err(LineFault::Cause(Cause::WrongKeyword)),
-            Stage::Calls if has_keyword(line, b"end") => self.end_line(line),
-            Stage::Calls => self.call_line(line),
+            Stage::Calls if words.keyword() == b"end".as_slice() => self.end_line(words),
+            Stage::Calls => self.call_line(words),
             Stage::Ended => Err(LineFault::Cause(Cause::AfterEnd)),
         }
     }

@@ -17,8 +17,9 @@ mod rows;
 mod script;
 mod spelled;
 
+pub use acts::read_act;
 pub use answers::read_reply;
-pub use calls::{print_call, put_call, read_call};
+pub use calls::{moment_in, print_call, put_call, read_call};
 pub use entries::{is_spelled, put_told};
 pub use laws::{calls_law, moments_law, replies_law, scripts_law};
 pub use moments::{put_moment, read_moment, read_ready};

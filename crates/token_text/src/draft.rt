@@ -2,7 +2,7 @@
 
 use crate::acts::read_call;
 use crate::script::{MOST_TOKEN_CALLS, TokenScript};
-use rail_text::{Cause, Draft, LineFault, TextLine, has_keyword, no_word, number_in, one_word};
+use rail_text::{Cause, Draft, LineFault, LineWords, number_in};
 use std::alloc::Global;
 use std::marker::Model;
 use token_law::TokenCall;
@@ -39,7 +39,6 @@ impl Model for TokenDraft {
 impl TokenDraft {
     ghost use Rattle.std.specs.Prelude.{◌≡◌};
     ghost use Rattle.rail_text.specs.Gives.{GivesLine};
-    ghost use Rattle.rail_text.specs.Lines.{words_of};
     ghost use Rattle.token_text.specs.Drafts.{start};
     ghost use Rattle.token_text.specs.Scripts.{call_onto, end_onto, script_from, tokens_onto, version_onto};
 
@@ -57,10 +56,10 @@ impl TokenDraft {
 
     // `token 1`: the version.
     #[tactic(auto, unfolding(crate::specs::Scripts::version_onto))]
-    fn version_line(&mut self, line: &TextLine<'_>) -> Result<(), LineFault>
-        ensures { GivesLine (λ _. self.new) result (version_onto self.old (words_of line.now.text.now)) }
+    fn version_line(&mut self, words: &LineWords<'_>) -> Result<(), LineFault>
+        ensures { GivesLine (λ _. self.new) result (version_onto self.old words.now) }
     {
-        let word = one_word(line)?;
+        let word = words.one_word()?;
         number_in(word, 1, 1)?;
         self.stage = Stage::Tokens;
         Ok(())
@@ -68,10 +67,10 @@ impl TokenDraft {
 
     // `tokens A B`: the tokens at each box.
     #[tactic(auto, unfolding(crate::specs::Scripts::tokens_onto))]
-    fn tokens_line(&mut self, line: &TextLine<'_>) -> Result<(), LineFault>
-        ensures { GivesLine (λ _. self.new) result (tokens_onto self.old (words_of line.now.text.now)) }
+    fn tokens_line(&mut self, words: &LineWords<'_>) -> Result<(), LineFault>
+        ensures { GivesLine (λ _. self.new) result (tokens_onto self.old words.now) }
     {
-        let (first, second) = match (line.word(1), line.word(2), line.word(3)) {
+        let (first, second) = match (words.word(1), words.word(2), words.word(3)) {
             (Some(first), Some(second), None) => (first, second),
             _ => return Err(LineFault::Cause(Cause::WordCount)),
         };
@@ -85,10 +84,10 @@ impl TokenDraft {
 
     // A call more.
     #[tactic(auto, using(crate::proofs::Calls::more_calls), unfolding(crate::specs::Scripts::call_onto))]
-    fn call_line(&mut self, line: &TextLine<'_>) -> Result<(), LineFault>
-        ensures { GivesLine (λ _. self.new) result (call_onto self.old (words_of line.now.text.now)) }
+    fn call_line(&mut self, words: &LineWords<'_>) -> Result<(), LineFault>
+        ensures { GivesLine (λ _. self.new) result (call_onto self.old words.now) }
     {
-        let call = read_call(line)?;
+        let call = read_call(words)?;
         if self.calls.len() >= MOST_TOKEN_CALLS {
             return Err(LineFault::Cause(Cause::TooMany));
         }
@@ -98,10 +97,10 @@ impl TokenDraft {
 
     // `end`: the script ends.
     #[tactic(auto, unfolding(crate::specs::Scripts::end_onto))]
-    fn end_line(&mut self, line: &TextLine<'_>) -> Result<(), LineFault>
-        ensures { GivesLine (λ _. self.new) result (end_onto self.old (words_of line.now.text.now)) }
+    fn end_line(&mut self, words: &LineWords<'_>) -> Result<(), LineFault>
+        ensures { GivesLine (λ _. self.new) result (end_onto self.old words.now) }
     {
-        no_word(line)?;
+        words.no_word()?;
         self.stage = Stage::Ended;
         Ok(())
     }
@@ -122,13 +121,13 @@ impl Draft for TokenDraft {
     ghost ended = { λ draft. has_ended draft.stage };
 
     #[tactic(auto, unfolding(crate::specs::Scripts::stage_onto))]
-    fn read_words(&mut self, line: &TextLine<'_>) -> Result<(), LineFault> {
+    fn read_words(&mut self, words: &LineWords<'_>) -> Result<(), LineFault> {
         match self.stage {
-            Stage::Version if has_keyword(line, b"token") => self.version_line(line),
-            Stage::Tokens if has_keyword(line, b"tokens") => self.tokens_line(line),
+            Stage::Version if words.keyword() == b"token".as_slice() => self.version_line(words),
+            Stage::Tokens if words.keyword() == b"tokens".as_slice() => self.tokens_line(words),
             Stage::Version | Stage::Tokens => Err(LineFault::Cause(Cause::WrongKeyword)),
-            Stage::Calls if has_keyword(line, b"end") => self.end_line(line),
-            Stage::Calls => self.call_line(line),
+            Stage::Calls if words.keyword() == b"end".as_slice() => self.end_line(words),
+            Stage::Calls => self.call_line(words),
             Stage::Ended => Err(LineFault::Cause(Cause::AfterEnd)),
         }
     }

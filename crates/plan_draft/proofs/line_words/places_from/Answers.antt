@@ -1,9 +1,8 @@
 use Rattle.std.proofs.Common.{◌<◌, length, arith}
-use Rattle.rail_text.specs.Lines.{words_of}
 use Rattle.plan_draft.proofs.PlaceWords.{places_next}
 use Rattle.plan_draft.proofs.line_words.places_from.Goals as goal
 
 pub loop-i-preserved : goal.loop-i-preserved
 loop-i-preserved c =
-    let lt : c.loop-i.i < length (words_of c.args.line.now.text.now) = omega (arith, c.loop-i-test.true, c.word_count-i-end.ensures) in
-    places_next c.args.names.now (words_of c.args.line.now.text.now) c.loop-i.places.items c.push.new.self.items c.word.result.now c.loop-i.i c.in_ok-place.place _ lt c.loop-i.invariant c.in_ok-push.ensures.items c.word.ensures c.in_ok-place.ensures
+    let lt : c.loop-i.i < length c.args.words.now = omega (arith, c.loop-i-test.true, c.word_count-i-end.ensures) in
+    places_next c.args.names.now c.args.words.now c.loop-i.places.items c.push.new.self.items c.word.result.now c.loop-i.i c.in_ok-place.place _ lt c.loop-i.invariant c.in_ok-push.ensures.items c.word.ensures c.in_ok-place.ensures.gives

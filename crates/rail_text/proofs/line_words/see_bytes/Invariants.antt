@@ -1,0 +1,13 @@
+use Rattle.std.proofs.Common.{◌≡◌, ◌++◌, ◌&&◌, take, drop}
+use Rattle.std.specs.List.{list_all}
+use Rattle.rail_text.specs.Forms.{is_printable}
+use Rattle.rail_text.specs.Lines.{cut_of}
+use Rattle.rail_text.proofs.line_words.see_bytes.Given as goal
+
+abbrev pub invariant-loop-i : goal.invariant-loop-i
+invariant-loop-i l = record {
+  front : take l.i l.bytes ++ (cut_of 32 (drop l.i l.bytes)).0 ≡ (cut_of 32 l.bytes).0;
+  rest : (cut_of 32 (drop l.i l.bytes)).1 ≡ (cut_of 32 l.bytes).1;
+  printable : (l.printable && list_all is_printable (drop l.i l.bytes))
+      ≡ (l.fn.printable && list_all is_printable l.bytes);
+}
