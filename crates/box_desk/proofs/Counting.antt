@@ -274,7 +274,7 @@ BringsNo act = Unit {0}
 outcome_counts : (plan : PlanFields) (box_plan : BoxFields) (n m : ℕ) (here : BoxState) (act : Act) (d : Decision)
     → Outcome plan box_plan here act d → BringsNo act → IsCounted n m here
     → LeavesCounted (n + 1) m (link_of box_plan act) here d
-outcome_counts plan box_plan n m here act d (Refused a reply) fits is = later n m here is
+outcome_counts plan box_plan n m here act d (Refused a reply refused) fits is = later n m here is
 outcome_counts plan box_plan n m here act d (Rings side code) fits is = λ bell agrees.
     rung_counts n m here side code bell.count bell.unheard
     (subst (λ (k : ℕ). k ≤ n) (sym agrees.rung) (is.rung side)) is

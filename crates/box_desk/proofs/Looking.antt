@@ -180,7 +180,7 @@ enters_short box_plan act here word lever signal train way is to (Overruns free)
 
 outcome_short : (plan : PlanFields) (box_plan : BoxFields) (act : Act) (here : BoxState) (word : ℕ) (d : Decision)
     → Outcome plan box_plan here act d → AwaitsCode act → IsOnWord (kind_of d) → TellsShort box_plan act here word d
-outcome_short plan box_plan act here word d (Refused a reply) code on = absurd on
+outcome_short plan box_plan act here word d (Refused a reply refused) code on = absurd on
 outcome_short plan box_plan act here word d (Rings side c) code on = λ pair agrees packs.
     rung_short here side c (of_way pair.bells side).count (of_way pair.bells side).unheard
 outcome_short plan box_plan act here word d (Hears side) code on = λ pair agrees packs.

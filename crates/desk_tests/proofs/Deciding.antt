@@ -58,7 +58,7 @@ pub first_decides_it : (plan : PlanFields) (box_plan : BoxFields) (act : Act) (h
     → Outcome plan box_plan here act d
     → IsNotDue (second_on (kind_of d) (second_by box_plan act here)) (met_by box_plan act here n)
     → FirstOn (kind_of d) (FirstDecides box_plan act here n)
-first_decides_it plan box_plan act here d n (Refused a reply) h = tt
+first_decides_it plan box_plan act here d n (Refused a reply refused) h = tt
 first_decides_it plan box_plan act here d n (Rings side code) h = tt
 first_decides_it plan box_plan act here d n (Hears side) h = tt
 first_decides_it plan box_plan act here d n (AwaitsBell side code) h = bell_not n code (ops.Hear side) h

@@ -51,7 +51,7 @@ pub pull_agrees : (plan : PlanFields) (box_plan : BoxFields) (act : Act) (here :
     (block : Block)
     → Outcome plan box_plan here act d → act ≡ acts.Pull lever → IsOnWord (kind_of d) → block.turns < 2 ^ 61
     → NumberAgrees (kind_of d) (link_of box_plan act) here (block_number block)
-pull_agrees plan box_plan act here d lever block (Refused a reply) same on few = absurd on
+pull_agrees plan box_plan act here d lever block (Refused a reply refused) same on few = absurd on
 pull_agrees plan box_plan act here d lever block (Rings side code) same on few = absurd cc
 pull_agrees plan box_plan act here d lever block (Hears side) same on few = absurd cc
 pull_agrees plan box_plan act here d lever block (AwaitsBell side code) same on few = absurd cc

@@ -168,7 +168,7 @@ room_found : (plan : PlanFields) (log : List Entry) (posts : List ℕ) (here : B
     → op_decides (box_plan_of plan (caller_of posts)) act here
     (first_on (kind_of d) (first_by (box_plan_of plan (caller_of posts)) act here)) last n ≡ false
     → RoomFound plan log posts act
-room_found plan log posts here act d last n is within known holds same (Refused a reply) found h = absurd cc
+room_found plan log posts here act d last n is within known holds same (Refused a reply refused) found h = absurd cc
 room_found plan log posts here act d last n is within known holds same (Rings side code) found h = absurd cc
 room_found plan log posts here act d last n is within known holds same (Hears side) found h = absurd cc
 room_found plan log posts here act d last n is within known holds same (AwaitsBell side code) found h = λ room r. r

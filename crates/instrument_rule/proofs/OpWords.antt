@@ -62,7 +62,7 @@ starter_is box_plan lever signal way is to = ap starter_way is ∙ to
 pub first_word : (plan : PlanFields) (box_plan : BoxFields) (b : ℕ) (act : Act) (here : BoxState) (d : Decision)
     → Outcome plan box_plan here act d
     → op_word b act (first_on (kind_of d) (first_by box_plan act here)) ≡ decided_on box_plan b act d
-first_word plan box_plan b act here d (Refused a reply) = refl
+first_word plan box_plan b act here d (Refused a reply refused) = refl
 first_word plan box_plan b act here d (Rings side code) = refl
 first_word plan box_plan b act here d (Hears side) = refl
 first_word plan box_plan b act here d (AwaitsBell side code) = refl
@@ -108,7 +108,7 @@ enter_word b train act here (Some way) op e = some_second b act _ (line_on b (Ou
 pub second_word : (plan : PlanFields) (box_plan : BoxFields) (b : ℕ) (act : Act) (here : BoxState) (d : Decision)
     → Outcome plan box_plan here act d
     → SecondWord b act (second_on (kind_of d) (second_by box_plan act here)) (decided_on box_plan b act d)
-second_word plan box_plan b act here d (Refused a reply) = none_second b a _
+second_word plan box_plan b act here d (Refused a reply refused) = none_second b a _
 second_word plan box_plan b act here d (Rings side code) = none_second b act _
 second_word plan box_plan b act here d (Hears side) = none_second b act _
 second_word plan box_plan b act here d (AwaitsBell side code) = some_second b act (ops.Hear side) _ refl
@@ -165,7 +165,7 @@ pub first_decides : (plan : PlanFields) (box_plan : BoxFields) (act : Act) (here
     → Outcome plan box_plan here act d
     → op_decides box_plan act here (first_on (kind_of d) (first_by box_plan act here)) last n ≡ true
     → FirstOn (kind_of d) (FirstDecides box_plan act here n)
-first_decides plan box_plan act here d last n (Refused a reply) h = tt
+first_decides plan box_plan act here d last n (Refused a reply refused) h = tt
 first_decides plan box_plan act here d last n (Rings side code) h = tt
 first_decides plan box_plan act here d last n (Hears side) h = tt
 first_decides plan box_plan act here d last n (AwaitsBell side code) h = not_equal last (bell_code n) code h

@@ -3,10 +3,12 @@
 use crate::facts::holds;
 use block_words::Way;
 use line_law::{
-    ByWay, DAY_OF_MINUTES, DAY_OF_SECONDS, Link, Reply, box_law, history_law, moments_of,
-    outcome_law, replies_law, run_law, serial_law, shape_law,
+    ByWay, DAY_OF_MINUTES, DAY_OF_SECONDS, Link, Reply, box_law, history_law, is_refused,
+    moments_of, outcome_law, refusal_law, replies_law, run_law, serial_law, shape_law,
 };
-use line_report::{held_law, is_refused, most_trains_law, refused_count, verdict_law};
+use line_report::{
+    answers_law, held_law, most_trains_law, printed_journal_law, refused_count, verdict_law,
+};
 
 #[test]
 fn ways_moments_and_replies(rt: HostRuntime) {
@@ -38,12 +40,15 @@ fn ways_moments_and_replies(rt: HostRuntime) {
 #[test]
 fn laws_hold() {
     outcome_law();
+    refusal_law();
     history_law();
     run_law();
     box_law();
     shape_law();
     serial_law();
     replies_law();
+    answers_law();
+    printed_journal_law();
     verdict_law();
     held_law();
     most_trains_law();

@@ -333,7 +333,7 @@ LawOf act (OnPlainLine f) = WordLaw FitsPlainLine plain_line_made f
 
 pub law_of : (plan : PlanFields) (box_plan : BoxFields) (here : BoxState) (act : Act) (d : Decision)
     → Outcome plan box_plan here act d → LawOf act d
-law_of plan box_plan here act d (Refused a reply) = tt
+law_of plan box_plan here act d (Refused a reply refused) = tt
 law_of plan box_plan here act d (Rings side code) = ring_law here side code
 law_of plan box_plan here act d (Hears side) = hear_law (acts.Hear side) here
 law_of plan box_plan here act d (AwaitsBell side code) = await_bell_law (acts.AwaitBell side code) here code

@@ -349,7 +349,7 @@ turns_keeps trains bp n here way position berth block e free is =
 -- every call keeps what its box keeps, with one call more
 pub box_keeps : (plan : PlanFields) (bp : BoxFields) (n : ℕ) (here : BoxState) (pair : PairState) (v : Way) (act : Act) (d : Decision) → IsSound bp → FitsHere plan bp act → Outcome plan bp here act d
     → IsPairAfter plan.trains n pair → IsBoxAfter plan.trains bp n here → IsBoxAfter plan.trains bp (n + 1) (on_pair v d pair).here
-box_keeps plan bp n here pair v act d sound fits (Refused a reply) has is = later plan.trains bp n here is
+box_keeps plan bp n here pair v act d sound fits (Refused a reply refused) has is = later plan.trains bp n here is
 box_keeps plan bp n here pair v act d sound fits (Rings side code) has is = later plan.trains bp n _ (rung_keeps plan.trains bp n here side code (of_way pair.bells v).count (of_way pair.bells v).unheard is)
 box_keeps plan bp n here pair v act d sound fits (Hears side) has is = later plan.trains bp n _ (heard_keeps plan.trains bp n here (of_way pair.bells v).count (of_way pair.bells v).unheard is)
 box_keeps plan bp n here pair v act d sound fits (AwaitsBell side code) has is = later plan.trains bp n _ (awaited_keeps plan.trains bp n here code (of_way pair.bells v).count (of_way pair.bells v).unheard is)

@@ -81,7 +81,7 @@ cleared_moment None here way j line = refl
 cleared_moment (Some train) here way j line = refl
 
 out_moment : (plan : PlanFields) (bp : BoxFields) (here : BoxState) (pair : PairState) (v : Way) (act : Act) (d : Decision) → Outcome plan bp here act d → (on_pair v d pair).here.moment ≡ here.moment
-out_moment plan bp here pair v act d (Refused a reply) = refl
+out_moment plan bp here pair v act d (Refused a reply refused) = refl
 out_moment plan bp here pair v act d (Rings side code) = rung_moment here side code (of_way pair.bells v).count (of_way pair.bells v).unheard
 out_moment plan bp here pair v act d (Hears side) = heard_moment here (of_way pair.bells v).count (of_way pair.bells v).unheard
 out_moment plan bp here pair v act d (AwaitsBell side code) = awaited_moment here code (of_way pair.bells v).count (of_way pair.bells v).unheard

@@ -1,3 +1,4 @@
+pub mod Refusing
 pub mod Outcomes
 pub mod Found
 pub mod PlanFacts
@@ -17,6 +18,7 @@ pub mod Lines
 pub mod Histories
 pub mod KeepingLaws
 pub mod Left
+pub mod RefusalLaws
 pub mod SerialLaws
 pub mod Turns
 pub mod ToldReplies

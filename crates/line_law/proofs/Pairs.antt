@@ -84,7 +84,7 @@ entered_on trains here left way train line one all =
 -- every call keeps what its pair keeps, with one call more
 pub pair_keeps : (plan : PlanFields) (bp : BoxFields) (n : ℕ) (here : BoxState) (pair : PairState) (v : Way) (act : Act) (d : Decision) → IsSound bp → IsBoxOf plan.trains bp here → Outcome plan bp here act d
     → IsPairAfter plan.trains n pair → IsPairAfter plan.trains (n + 1) (on_pair v d pair).word
-pair_keeps plan bp n here pair v act d sound is (Refused a reply) h = more plan.trains n pair h
+pair_keeps plan bp n here pair v act d sound is (Refused a reply refused) h = more plan.trains n pair h
 pair_keeps plan bp n here pair v act d sound is (Rings side code) h = let c = rung_count here side code (of_way pair.bells v).count (of_way pair.bells v).unheard in bell_keeps plan.trains n pair v _ (omega (arith, c, h.bells v)) h
 pair_keeps plan bp n here pair v act d sound is (Hears side) h = let c = heard_count here (of_way pair.bells v).count (of_way pair.bells v).unheard in bell_keeps plan.trains n pair v _ (omega (arith, c, h.bells v)) h
 pair_keeps plan bp n here pair v act d sound is (AwaitsBell side code) h = let c = awaited_count here code (of_way pair.bells v).count (of_way pair.bells v).unheard in bell_keeps plan.trains n pair v _ (omega (arith, c, h.bells v)) h

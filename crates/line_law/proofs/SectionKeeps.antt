@@ -313,7 +313,7 @@ moves_link bp here act lever signal way e to (Overruns free) = ap (λ (s : Optio
 
 rear_own : (w : Way) (plan : PlanFields) (bp : BoxFields) (r a : BoxState) (b : Bell) (k : Block) (t : List Passage) (act : Act) (d : Decision) → Outcome plan bp r act d → link_of bp act ≡ Out w → IsSectionBetween w r a b k t
     → AfterOwn d (λ h b k t. IsSectionBetween w h a b k t) b k t
-rear_own w plan bp r a b k t act d (Refused x reply) link h = h
+rear_own w plan bp r a b k t act d (Refused x reply refused) link h = h
 rear_own w plan bp r a b k t act d (Rings side code) link h =
     subst (λ (v : Way). IsSectionBetween w (rung r v code b.count b.unheard).here a (rung r v code b.count b.unheard).word k t) (sym (out_same side w link)) (rung_own w r a code b.count b.unheard k t h)
 rear_own w plan bp r a b k t act d (Hears side) link h = in_out (opposite side) w link
@@ -340,7 +340,7 @@ rear_own w plan bp r a b k t act d (Releases way free) link h = in_out way w lin
 
 rear_off : (w : Way) (plan : PlanFields) (bp : BoxFields) (r a : BoxState) (b : Bell) (k : Block) (t : List Passage) (act : Act) (d : Decision) → Outcome plan bp r act d → (link_of bp act ≡ Out w → ⊥) → IsSectionBetween w r a b k t
     → AfterElsewhere d (λ h. IsSectionBetween w h a b k t)
-rear_off w plan bp r a b k t act d (Refused x reply) off h = h
+rear_off w plan bp r a b k t act d (Refused x reply refused) off h = h
 rear_off w plan bp r a b k t act d (Rings side code) off h = λ bell. rung_off w side r a code bell.count bell.unheard b k t (apart_out side w off) h
 rear_off w plan bp r a b k t act d (Hears side) off h = λ bell. heard_here (λ here. IsSectionBetween w here a b k t) r bell.count bell.unheard h
 rear_off w plan bp r a b k t act d (AwaitsBell side code) off h = λ bell. awaited_here (λ here. IsSectionBetween w here a b k t) r code bell.count bell.unheard h
@@ -369,7 +369,7 @@ rear_off w plan bp r a b k t act d (Releases way free) off h = rear_like w r _ a
 
 advance_own : (w : Way) (plan : PlanFields) (bp : BoxFields) (r a : BoxState) (b : Bell) (k : Block) (t : List Passage) (act : Act) (d : Decision) → Outcome plan bp a act d → link_of bp act ≡ In w → IsSectionBetween w r a b k t
     → AfterOwn d (λ h b k t. IsSectionBetween w r h b k t) b k t
-advance_own w plan bp r a b k t act d (Refused x reply) link h = h
+advance_own w plan bp r a b k t act d (Refused x reply refused) link h = h
 advance_own w plan bp r a b k t act d (Rings side code) link h = out_in side w link
 advance_own w plan bp r a b k t act d (Hears side) link h = heard_own w r a b.count b.unheard k t h
 advance_own w plan bp r a b k t act d (AwaitsBell side code) link h = awaited_own w r a code b.count b.unheard k t h
@@ -402,7 +402,7 @@ advance_own w plan bp r a b k t act d (Releases way free) link h = advance_like 
 
 advance_off : (w : Way) (plan : PlanFields) (bp : BoxFields) (r a : BoxState) (b : Bell) (k : Block) (t : List Passage) (act : Act) (d : Decision) → Outcome plan bp a act d → (link_of bp act ≡ In w → ⊥) → IsSectionBetween w r a b k t
     → AfterElsewhere d (λ h. IsSectionBetween w r h b k t)
-advance_off w plan bp r a b k t act d (Refused x reply) off h = h
+advance_off w plan bp r a b k t act d (Refused x reply refused) off h = h
 advance_off w plan bp r a b k t act d (Rings side code) off h = λ bell. rung_there bell.unheard bell.count where
   rung_there : (u : Option ℕ) (count : ℕ) → IsSectionBetween w r (rung a side code count u).here b k t
   rung_there (Some held) count = h

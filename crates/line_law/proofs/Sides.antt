@@ -70,7 +70,7 @@ enters_has plan b here act lever signal way is within e to (Overruns free) = lin
 
 link_by : (plan : PlanFields) (b : ℕ) (here : BoxState) (act : Act) (d : Decision) → IsPlan plan → b < length plan.boxes → IsTrue (knows_act plan b act) → Outcome plan (box_plan_of plan b) here act d
     → (HasLink (length plan.boxes) b (link_of (box_plan_of plan b) act)) ⊎ IsLocal d
-link_by plan b here act d is within known (Refused a reply) = inr tt
+link_by plan b here act d is within known (Refused a reply refused) = inr tt
 link_by plan b here act d is within known (Rings side code) = inl (both (knows_side plan b side) (is_code_no plan code) known).0
 link_by plan b here act d is within known (Hears side) = inl (comes_from (length plan.boxes) b side known)
 link_by plan b here act d is within known (AwaitsBell side code) = inl (comes_from (length plan.boxes) b side (both (knows_side plan b side) (is_code_no plan code) known).0)

@@ -92,7 +92,7 @@ cleared_tells_here (Some train) plan here way j line h = line_here plan here way
 -- every call at a moment of the day keeps what its box has to tell
 pub box_tells : (plan : PlanFields) (bp : BoxFields) (here : BoxState) (pair : PairState) (v : Way) (act : Act) (d : Decision) → Outcome plan bp here act d → here.moment < moments_of plan.version
     → ((w : Way) → All (λ passage. IsTrue (is_train plan.trains passage.train)) (of_way pair.lines w)) → BoxTells plan here → BoxTells plan (on_pair v d pair).here
-box_tells plan bp here pair v act d (Refused a reply) day lines h = h
+box_tells plan bp here pair v act d (Refused a reply refused) day lines h = h
 box_tells plan bp here pair v act d (Rings side code) day lines h = rung_here plan here side code (of_way pair.bells v).count (of_way pair.bells v).unheard h
 box_tells plan bp here pair v act d (Hears side) day lines h = heard_here plan here (of_way pair.bells v).count (of_way pair.bells v).unheard h
 box_tells plan bp here pair v act d (AwaitsBell side code) day lines h = awaited_here plan here code (of_way pair.bells v).count (of_way pair.bells v).unheard h
@@ -137,7 +137,7 @@ awaited_bell plan here code count None h = tt
 
 -- every known call keeps what its pair has to tell
 pub pair_tells : (plan : PlanFields) (b : ℕ) (bp : BoxFields) (here : BoxState) (pair : PairState) (v : Way) (act : Act) (d : Decision) → Outcome plan bp here act d → IsTrue (knows_act plan b act) → PairTells plan pair → PairTells plan (on_pair v d pair).word
-pair_tells plan b bp here pair v act d (Refused a reply) known h = h
+pair_tells plan b bp here pair v act d (Refused a reply refused) known h = h
 pair_tells plan b bp here pair v act d (Rings side code) known h =
     bell_here plan pair v _ (rung_bell plan here side code (of_way pair.bells v).count (of_way pair.bells v).unheard (both (knows_side plan b side) (is_code_no plan code) known).1 (h v)) h
 pair_tells plan b bp here pair v act d (Hears side) known h = bell_here plan pair v _ (heard_bell plan here (of_way pair.bells v).count (of_way pair.bells v).unheard) h

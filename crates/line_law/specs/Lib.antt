@@ -16,6 +16,7 @@ pub mod Lines
 pub mod Sections
 pub mod History
 pub mod Serial
+pub mod Refusals
 pub mod Outcomes
 pub mod SectionFacts
 pub mod Sound

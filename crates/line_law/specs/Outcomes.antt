@@ -1,6 +1,6 @@
 -- How a call may come out: refused in its box, or past every test there. Facts of a line are proved by these cases, one
 -- for each thing that a call may do.
-use Rattle.std.specs.Prelude.{◌≡◌, ℕ, ◌+◌, Some, None}
+use Rattle.std.specs.Prelude.{◌≡◌, ℕ, ◌+◌, Some, None, IsTrue}
 use Rattle.block_words.specs.declared.Position.{Position}
 use Rattle.block_words.specs.declared.Way.{Way}
 use Rattle.line_plan.specs.Frames.{BoxFields, berth_of, signal_of}
@@ -19,6 +19,7 @@ use Rattle.line_law.specs.Controls.{release_refusal, released_here, wind_refusal
 use Rattle.line_law.specs.Decisions.{Decision, Here, OnBell, OnBlock, OnPlainLine}
 use Rattle.line_law.specs.Instruments.{await_block, turn_refusal, turned}
 use Rattle.line_law.specs.Levers.{pull_refusal, pulled, pulled_under, put_back, put_refusal, starter_way}
+use Rattle.line_law.specs.Refusals.{is_refused_here}
 use Rattle.line_law.specs.Tracks.{train_on}
 use Rattle.line_law.specs.Trains.{bring_refusal, brought_here, enter, left_by, overrun_refusal, pass_refusal, put_at}
 use Rattle.line_law.specs.Ways.{of_way}
@@ -28,9 +29,11 @@ pub data Moves (here : BoxState) (lever : ℕ) (signal : Signal) : Act → Type 
   Passes : pass_refusal here signal ≡ None → Moves here lever signal (acts.Pass lever)
   Overruns : overrun_refusal here signal ≡ None → Moves here lever signal (acts.Overrun lever)
 
--- how a call of a box with this plan comes out, by the state of the box
+-- how a call of a box with this plan comes out, by the state of the box: refused there, with a reply that is a refusal
+-- by the box alone, or past every test there
 pub data Outcome (plan : PlanFields) (box_plan : BoxFields) (here : BoxState) : Act → Decision → Type 0 where
-  Refused : (act : Act) (reply : Reply) → Outcome plan box_plan here act (Here reply here)
+  Refused : (act : Act) (reply : Reply) → IsTrue (is_refused_here reply)
+      → Outcome plan box_plan here act (Here reply here)
   Rings : (side : Way) (code : ℕ) → Outcome plan box_plan here (acts.Ring side code) (OnBell (ring here side code))
   Hears : (side : Way) → Outcome plan box_plan here (acts.Hear side) (OnBell (hear here))
   AwaitsBell : (side : Way) (code : ℕ)

@@ -9,7 +9,7 @@ ghost use Rattle.line_law.specs.Decisions.{OnPlainLine, on_pair};
 ghost use Rattle.line_law.specs.Instruments.{turn};
 ghost use Rattle.line_law.specs.Law.{at_moment, pair_of, box_plan_of, step, step_at};
 ghost use Rattle.line_law.specs.Levers.{lever_link, pull, put, starter_link, starter_way};
-ghost use Rattle.line_law.specs.Lines.{HasFrame};
+ghost use Rattle.line_law.specs.Lines.{HasFrame, RowsHold};
 ghost use Rattle.line_law.specs.Links.{way_of};
 ghost use Rattle.line_law.specs.Ready.{IsReady};
 ghost use Rattle.line_law.specs.Sound.{BerthFits, IsSound, SignalFits};
@@ -60,10 +60,11 @@ impl BoxState {
         requires sound { IsSound plan.now }
         requires frame { HasFrame plan.now self.now }
         requires lever { IsLever (frame_size plan.now.levers) lever }
+        requires rows { RowsHold plan.now self.now }
         ensures { (moment : ℕ) → (on_pair (way_of (lever_link plan.now lever))
             (pull plan.now (at_moment self.now moment) lever) pair.now).reply ≡ result }
     {
-        if let Some(reply) = self.pull_refusal(plan, lever) {
+        if let Some(reply) = self.steady_pull_refusal(plan, lever) {
             return reply;
         }
         let Some(way) = starter_way(plan.signal(lever)) else {
@@ -77,10 +78,11 @@ impl BoxState {
         requires sound { IsSound plan.now }
         requires frame { HasFrame plan.now self.now }
         requires lever { IsLever (frame_size plan.now.levers) lever }
+        requires rows { RowsHold plan.now self.now }
         ensures { (moment : ℕ) (way : Way) (pair : PairState)
             → (on_pair way (put plan.now (at_moment self.now moment) lever) pair).reply ≡ result }
     {
-        if let Some(reply) = self.put_refusal(plan, lever) {
+        if let Some(reply) = self.steady_put_refusal(plan, lever) {
             return reply;
         }
         Reply::Put
@@ -252,7 +254,8 @@ fn answer_at(
     box_plan: &BoxPlan,
     call: &Call,
 ) -> Reply
-    requires { IsReady plan.now box_plan.now call.now here.now pair.now }
+    requires ready { IsReady plan.now box_plan.now call.now here.now pair.now }
+    requires rows { RowsHold box_plan.now here.now }
     ensures { (step_at plan.now box_plan.now call.now here.now pair.now).reply ≡ result }
 {
     match call.act {
@@ -297,7 +300,8 @@ fn answer_at(
     }
 }
 
-/// The reply that a call of box `box_no` would get, in the states of all boxes and pairs.
+/// The reply that a call of box `box_no` would get, in the states of all boxes and pairs, where every row of the box
+/// holds.
 #[tactic(auto, unfolding(crate::specs::Law::step))]
 pub fn answer_on(
     boxes: &[BoxState],
@@ -312,6 +316,8 @@ pub fn answer_on(
     requires ready { IsReady plan.now (box_plan_of plan.now box_no) call.now
         (box_at (record { boxes = boxes.now; pairs = pairs.now }) box_no)
         (pair_at (record { boxes = boxes.now; pairs = pairs.now }) (pair_of plan.now box_no call.now)) }
+    requires rows { RowsHold (box_plan_of plan.now box_no)
+        (box_at (record { boxes = boxes.now; pairs = pairs.now }) box_no) }
     ensures { result ≡ (step plan.now (record { boxes = boxes.now; pairs = pairs.now }) box_no call.now).reply }
 {
     let at = box_no as usize;

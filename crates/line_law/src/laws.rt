@@ -8,6 +8,7 @@ ghost use Rattle.line_plan.specs.Ways.{leaves};
 ghost use Rattle.line_law.specs.declared.call.Act.{Act};
 ghost use Rattle.line_law.specs.declared.call.Call.{Call};
 ghost use Rattle.line_law.specs.declared.call.Entry.{Entry};
+ghost use Rattle.line_law.specs.declared.call.Reply.{Reply};
 ghost use Rattle.line_law.specs.declared.link.Link.TheVariants.{Out};
 ghost use Rattle.line_law.specs.declared.state.Bell.{Bell};
 ghost use Rattle.line_law.specs.declared.state.Block.{Block};
@@ -19,6 +20,7 @@ ghost use Rattle.line_law.specs.Known.{KnowsCall};
 ghost use Rattle.line_law.specs.Law.{MayCall, box_plan_of, decide, done_at, link_of, pair_of, step, step_at};
 ghost use Rattle.line_law.specs.Lines.{IsLineOf, IsSectionBetween, PlainState};
 ghost use Rattle.line_law.specs.Outcomes.{Outcome};
+ghost use Rattle.line_law.specs.Refusals.{is_refused, is_refused_here};
 ghost use Rattle.line_law.specs.SectionFacts.{HasLink, IsLocal, decided};
 ghost use Rattle.line_law.specs.Serial.{AreCalls, AreScripts, calls_left, serial_journal};
 ghost use Rattle.line_law.specs.States.{IsStateOf, LineState, box_at, pair_at};
@@ -26,11 +28,13 @@ ghost use Rattle.line_law.specs.States.{opening_box, opening_pair, opening_state
 ghost use Rattle.line_law.specs.Trains.{holds};
 ghost use Rattle.line_law.specs.Ways.{of_way};
 
-/// A law: each call comes out in one of the listed ways, refused in its box or past every test there.
-#[tactic(auto, using(crate::proofs::Outcomes::outcome_of))]
+/// A law: each call comes out in one of the listed ways, refused in its box or past every test there; and what a box
+/// refuses a call with is a refusal.
+#[tactic(auto, using(crate::proofs::Outcomes::outcome_of, crate::proofs::Refusing::here_refused))]
 pub fn outcome_law()
-    ensures { (plan : PlanFields) (box_plan : BoxFields) (act : Act) (here : BoxState)
+    ensures outcome { (plan : PlanFields) (box_plan : BoxFields) (act : Act) (here : BoxState)
         → Outcome plan box_plan here act (decide plan box_plan act here) }
+    ensures refused { (reply : Reply) → IsTrue (is_refused_here reply) → IsTrue (is_refused reply) }
 {}
 
 /// A law: a legal history grows by a call that may be made where it ends, with the law's reply; every prefix of a legal

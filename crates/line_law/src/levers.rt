@@ -1,6 +1,7 @@
 //! Where the levers stand; pulling a lever, and putting it back.
 
 ghost use Rattle.std.specs.Prelude.{◌≡◌, ◌<◌, All, length, option_map};
+ghost use Rattle.locking_table.specs.Meaning.{holder_of};
 ghost use Rattle.locking_table.specs.Places.{IsLever};
 ghost use Rattle.line_plan.specs.Frames.{frame_size, leads_to};
 ghost use Rattle.line_law.specs.declared.state.BoxState.{BoxState};
@@ -8,7 +9,7 @@ ghost use Rattle.line_law.specs.Decisions.{Here, on_pair};
 ghost use Rattle.line_law.specs.LeverEnds.{first_reversed};
 ghost use Rattle.line_law.specs.Levers.{is_unspent_clear, lever_link, lock_refusal, pull, pull_refusal, pulled};
 ghost use Rattle.line_law.specs.Levers.{pulled_under, put, put_back, put_refusal, starter_way};
-ghost use Rattle.line_law.specs.Lines.{HasFrame};
+ghost use Rattle.line_law.specs.Lines.{HasFrame, RowsHold};
 ghost use Rattle.line_law.specs.Links.{way_of};
 ghost use Rattle.line_law.specs.Sound.{IsSound};
 
@@ -17,7 +18,7 @@ use crate::state::{Block, BoxState, PairState};
 use crate::tracks::first_standing;
 use block_words::{Position, Way};
 use line_plan::{BoxPlan, Kind, Signal, To};
-use locking_table::{End, end_of};
+use locking_table::{End, Holder, end_of};
 
 /// The first of these levers that is reversed.
 pub fn first_reversed(ends: &[End], levers: &[u32]) -> Option<u32>
@@ -68,14 +69,15 @@ impl Block {
 }
 
 impl BoxState {
-    // What keeps a lever where it stands: a row of the locking table, or a train on a place that locks it.
-    fn lock_refusal(&self, plan: &BoxPlan, lever: u32) -> Option<Reply>
+    // What keeps a lever where it stands: the row that holds it, or a train on a place that locks it.
+    fn lock_refusal(&self, plan: &BoxPlan, lever: u32, holder: Option<Holder>) -> Option<Reply>
         requires sound { IsSound plan.now }
         requires frame { HasFrame plan.now self.now }
         requires lever { IsLever (frame_size plan.now.levers) lever }
+        requires holder { holder ≡ holder_of self.now.ends lever plan.now.rows }
         ensures { result ≡ lock_refusal plan.now self.now lever }
     {
-        if let Some(holder) = plan.table.named_holder(self.ends.as_slice(), lever) {
+        if let Some(holder) = holder {
             return Some(Reply::HeldByLever {
                 lever: holder.lever,
                 row: holder.row,
@@ -88,11 +90,12 @@ impl BoxState {
         })
     }
 
-    /// What a pull is refused for in the box.
-    pub fn pull_refusal(&self, plan: &BoxPlan, lever: u32) -> Option<Reply>
+    // What a pull is refused for in the box, by the row that holds the lever.
+    fn pull_refusal_by(&self, plan: &BoxPlan, lever: u32, holder: Option<Holder>) -> Option<Reply>
         requires sound { IsSound plan.now }
         requires frame { HasFrame plan.now self.now }
         requires lever { IsLever (frame_size plan.now.levers) lever }
+        requires holder { holder ≡ holder_of self.now.ends lever plan.now.rows }
         ensures { result ≡ pull_refusal plan.now self.now lever }
     {
         if end_of(self.ends.as_slice(), lever) == End::Reversed {
@@ -101,7 +104,32 @@ impl BoxState {
         if plan.kind(lever) == Some(Kind::Spare) {
             return Some(Reply::Spare);
         }
-        self.lock_refusal(plan, lever)
+        self.lock_refusal(plan, lever, holder)
+    }
+
+    // What putting a lever back is refused for, by the row that holds it.
+    fn put_refusal_by(&self, plan: &BoxPlan, lever: u32, holder: Option<Holder>) -> Option<Reply>
+        requires sound { IsSound plan.now }
+        requires frame { HasFrame plan.now self.now }
+        requires lever { IsLever (frame_size plan.now.levers) lever }
+        requires holder { holder ≡ holder_of self.now.ends lever plan.now.rows }
+        ensures { result ≡ put_refusal plan.now self.now lever }
+    {
+        if end_of(self.ends.as_slice(), lever) == End::Normal {
+            return Some(Reply::AlreadyNormal);
+        }
+        self.lock_refusal(plan, lever, holder)
+    }
+
+    /// What a pull is refused for in the box.
+    pub fn pull_refusal(&self, plan: &BoxPlan, lever: u32) -> Option<Reply>
+        requires sound { IsSound plan.now }
+        requires frame { HasFrame plan.now self.now }
+        requires lever { IsLever (frame_size plan.now.levers) lever }
+        ensures { result ≡ pull_refusal plan.now self.now lever }
+    {
+        let holder = plan.table.named_holder(self.ends.as_slice(), lever);
+        self.pull_refusal_by(plan, lever, holder)
     }
 
     /// What putting a lever back is refused for.
@@ -111,10 +139,36 @@ impl BoxState {
         requires lever { IsLever (frame_size plan.now.levers) lever }
         ensures { result ≡ put_refusal plan.now self.now lever }
     {
-        if end_of(self.ends.as_slice(), lever) == End::Normal {
-            return Some(Reply::AlreadyNormal);
-        }
-        self.lock_refusal(plan, lever)
+        let holder = plan.table.named_holder(self.ends.as_slice(), lever);
+        self.put_refusal_by(plan, lever, holder)
+    }
+
+    /// What a pull is refused for, where every row holds: only the rows that name the lever are read.
+    pub(crate) fn steady_pull_refusal(&self, plan: &BoxPlan, lever: u32) -> Option<Reply>
+        requires sound { IsSound plan.now }
+        requires frame { HasFrame plan.now self.now }
+        requires lever { IsLever (frame_size plan.now.levers) lever }
+        requires rows { RowsHold plan.now self.now }
+        ensures { result ≡ pull_refusal plan.now self.now lever }
+    {
+        let holder = plan
+            .table
+            .holder_among_its_rows(self.ends.as_slice(), lever);
+        self.pull_refusal_by(plan, lever, holder)
+    }
+
+    /// What putting a lever back is refused for, where every row holds: only the rows that name the lever are read.
+    pub(crate) fn steady_put_refusal(&self, plan: &BoxPlan, lever: u32) -> Option<Reply>
+        requires sound { IsSound plan.now }
+        requires frame { HasFrame plan.now self.now }
+        requires lever { IsLever (frame_size plan.now.levers) lever }
+        requires rows { RowsHold plan.now self.now }
+        ensures { result ≡ put_refusal plan.now self.now lever }
+    {
+        let holder = plan
+            .table
+            .holder_among_its_rows(self.ends.as_slice(), lever);
+        self.put_refusal_by(plan, lever, holder)
     }
 
     /// Reverses a lever, and lets its arm go off if it has one.
@@ -129,15 +183,23 @@ impl BoxState {
         }
     }
 
-    /// Pulls a lever; the pull of a starter reaches its instrument, and leaves it spent.
-    pub fn pull(&mut self, pair: &mut PairState, plan: &BoxPlan, lever: u32) -> Reply
+    // Pulls a lever, unless that is refused in the box; the pull of a starter reaches its instrument, and leaves it
+    // spent.
+    fn pull_unless(
+        &mut self,
+        refusal: Option<Reply>,
+        pair: &mut PairState,
+        plan: &BoxPlan,
+        lever: u32,
+    ) -> Reply
         requires sound { IsSound plan.now }
         requires frame { HasFrame plan.now self.old }
         requires lever { IsLever (frame_size plan.now.levers) lever }
+        requires refusal { refusal ≡ pull_refusal plan.now self.old lever }
         ensures { on_pair (way_of (lever_link plan.now lever)) (pull plan.now self.old lever) pair.old
             ≡ record { reply = result; here = self.new; word = pair.new } }
     {
-        if let Some(reply) = self.pull_refusal(plan, lever) {
+        if let Some(reply) = refusal {
             return reply;
         }
         let signal = plan.signal(lever);
@@ -159,6 +221,33 @@ impl BoxState {
         block.pull_reply(way)
     }
 
+    // Puts a lever back with its arm at danger, unless that is refused.
+    fn put_unless(&mut self, refusal: Option<Reply>, plan: &BoxPlan, lever: u32) -> Reply
+        requires frame { HasFrame plan.now self.old }
+        requires lever { IsLever (frame_size plan.now.levers) lever }
+        requires refusal { refusal ≡ put_refusal plan.now self.old lever }
+        ensures { put plan.now self.old lever ≡ Here result self.new }
+    {
+        if let Some(reply) = refusal {
+            return reply;
+        }
+        self.ends.set(lever as usize - 1, End::Normal);
+        self.off.set(lever as usize - 1, false);
+        Reply::Put
+    }
+
+    /// Pulls a lever; the pull of a starter reaches its instrument, and leaves it spent.
+    pub fn pull(&mut self, pair: &mut PairState, plan: &BoxPlan, lever: u32) -> Reply
+        requires sound { IsSound plan.now }
+        requires frame { HasFrame plan.now self.old }
+        requires lever { IsLever (frame_size plan.now.levers) lever }
+        ensures { on_pair (way_of (lever_link plan.now lever)) (pull plan.now self.old lever) pair.old
+            ≡ record { reply = result; here = self.new; word = pair.new } }
+    {
+        let refusal = self.pull_refusal(plan, lever);
+        self.pull_unless(refusal, pair, plan, lever)
+    }
+
     /// Puts a lever back, with its arm at danger.
     pub fn put(&mut self, plan: &BoxPlan, lever: u32) -> Reply
         requires sound { IsSound plan.now }
@@ -166,11 +255,32 @@ impl BoxState {
         requires lever { IsLever (frame_size plan.now.levers) lever }
         ensures { put plan.now self.old lever ≡ Here result self.new }
     {
-        if let Some(reply) = self.put_refusal(plan, lever) {
-            return reply;
-        }
-        self.ends.set(lever as usize - 1, End::Normal);
-        self.off.set(lever as usize - 1, false);
-        Reply::Put
+        let refusal = self.put_refusal(plan, lever);
+        self.put_unless(refusal, plan, lever)
+    }
+
+    /// The pull where every row holds: only the rows that name the lever are read.
+    pub(crate) fn steady_pull(&mut self, pair: &mut PairState, plan: &BoxPlan, lever: u32) -> Reply
+        requires sound { IsSound plan.now }
+        requires frame { HasFrame plan.now self.old }
+        requires lever { IsLever (frame_size plan.now.levers) lever }
+        requires rows { RowsHold plan.now self.old }
+        ensures { on_pair (way_of (lever_link plan.now lever)) (pull plan.now self.old lever) pair.old
+            ≡ record { reply = result; here = self.new; word = pair.new } }
+    {
+        let refusal = self.steady_pull_refusal(plan, lever);
+        self.pull_unless(refusal, pair, plan, lever)
+    }
+
+    /// The putting back where every row holds: only the rows that name the lever are read.
+    pub(crate) fn steady_put(&mut self, plan: &BoxPlan, lever: u32) -> Reply
+        requires sound { IsSound plan.now }
+        requires frame { HasFrame plan.now self.old }
+        requires lever { IsLever (frame_size plan.now.levers) lever }
+        requires rows { RowsHold plan.now self.old }
+        ensures { put plan.now self.old lever ≡ Here result self.new }
+    {
+        let refusal = self.steady_put_refusal(plan, lever);
+        self.put_unless(refusal, plan, lever)
     }
 }

@@ -4,7 +4,7 @@ ghost use Rattle.std.specs.Prelude.{◌≡◌, ◌<◌, ◌^◌, ◌+◌, ◌↔
 ghost use Rattle.line_plan.specs.Sections.{IsSection};
 ghost use Rattle.line_law.specs.History.{Performs};
 ghost use Rattle.line_law.specs.Law.{MayCall, pair_of, box_plan_of, step};
-ghost use Rattle.line_law.specs.Lines.{IsLineOf};
+ghost use Rattle.line_law.specs.Lines.{IsLineOf, RowsHold};
 ghost use Rattle.line_law.specs.Ready.{IsReady};
 ghost use Rattle.line_law.specs.Sections.{count_of, held_by};
 ghost use Rattle.line_law.specs.Tracks.{train_on};
@@ -108,6 +108,7 @@ impl Plain {
         requires pair { pair_of plan.now box_no call.now < length self.now.line.pairs }
         requires ready { IsReady plan.now (box_plan_of plan.now box_no) call.now (box_at self.now.line box_no)
             (pair_at self.now.line (pair_of plan.now box_no call.now)) }
+        requires rows { RowsHold (box_plan_of plan.now box_no) (box_at self.now.line box_no) }
         ensures { result ≡ (step plan.now self.now.line box_no call.now).reply }
     {
         answer_on(&self.boxes, &self.pairs, plan, box_no, call)
@@ -131,6 +132,7 @@ impl Plain {
         requires pair { pair_of plan.now box_no call.now < length self.old.line.pairs }
         requires ready { IsReady plan.now (box_plan_of plan.now box_no) call.now (box_at self.old.line box_no)
             (pair_at self.old.line (pair_of plan.now box_no call.now)) }
+        requires rows { RowsHold (box_plan_of plan.now box_no) (box_at self.old.line box_no) }
         requires few { self.old.calls < 2 ^ 32 }
         ensures told { step plan.now self.old.line box_no call.now ≡ record { reply = result; after = self.new.line } }
         ensures calls { self.new.calls ≡ self.old.calls + 1 }

@@ -3,6 +3,7 @@
 ghost use Rattle.std.specs.Prelude.{◌≡◌, ◌<◌, length};
 ghost use Rattle.line_law.specs.Law.{link_of, pair_of, box_plan_of, step, step_at};
 ghost use Rattle.line_law.specs.Levers.{lever_link};
+ghost use Rattle.line_law.specs.Lines.{RowsHold};
 ghost use Rattle.line_law.specs.Ready.{IsReady};
 ghost use Rattle.line_law.specs.States.{box_at, pair_at};
 
@@ -87,7 +88,33 @@ pub fn perform_at(
     }
 }
 
-/// One call of box `box_no`, in the states of all boxes and pairs.
+// One call of a box in which every row holds: what holds a lever is sought among the rows that name it.
+fn perform_steadily(
+    here: &mut BoxState,
+    pair: &mut PairState,
+    plan: &Plan,
+    box_plan: &BoxPlan,
+    call: &Call,
+) -> Reply
+    requires ready { IsReady plan.now box_plan.now call.now here.old pair.old }
+    requires rows { RowsHold box_plan.now here.old }
+    ensures { step_at plan.now box_plan.now call.now here.old pair.old
+        ≡ record { reply = result; here = here.new; word = pair.new } }
+{
+    match call.act {
+        Act::Pull { lever } => {
+            here.moment = call.moment;
+            here.steady_pull(pair, box_plan, lever)
+        }
+        Act::Put { lever } => {
+            here.moment = call.moment;
+            here.steady_put(box_plan, lever)
+        }
+        _ => perform_at(here, pair, plan, box_plan, call),
+    }
+}
+
+/// One call of box `box_no`, in the states of all boxes and pairs, where every row of the box holds.
 #[tactic(auto, unfolding(crate::specs::Law::step))]
 pub fn perform_on(
     boxes: &mut [BoxState],
@@ -102,6 +129,8 @@ pub fn perform_on(
     requires ready { IsReady plan.now (box_plan_of plan.now box_no) call.now
         (box_at (record { boxes = boxes.old; pairs = pairs.old }) box_no)
         (pair_at (record { boxes = boxes.old; pairs = pairs.old }) (pair_of plan.now box_no call.now)) }
+    requires rows { RowsHold (box_plan_of plan.now box_no)
+        (box_at (record { boxes = boxes.old; pairs = pairs.old }) box_no) }
     ensures { step plan.now (record { boxes = boxes.old; pairs = pairs.old }) box_no call.now
         ≡ record { reply = result; after = record { boxes = boxes.new; pairs = pairs.new } } }
 {
@@ -109,5 +138,5 @@ pub fn perform_on(
     let box_plan = &plan.boxes.as_slice()[at];
     let here = &mut boxes[at];
     let pair = &mut pairs[link_of(box_plan, call.act).pair_no(at)];
-    perform_at(here, pair, plan, box_plan, call)
+    perform_steadily(here, pair, plan, box_plan, call)
 }

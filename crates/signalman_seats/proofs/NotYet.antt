@@ -193,7 +193,7 @@ pub not_yet_missed : (plan : PlanFields) (box_plan : BoxFields) (act : Act) (her
     (pair : PairState) → Outcome plan box_plan here act d → TellsKind d → HasCode act
     → Agrees (kind_of d) (link_of box_plan act) here pair → is_not_yet (on_pair (way_of (link_of box_plan act)) d
     pair).reply ≡ true → Missed box_plan act here (number_at (kind_of d) (way_of (link_of box_plan act)) pair)
-not_yet_missed plan box_plan act here d pair (Refused a reply) tells coded agrees e = not_so (is_not_yet reply)
+not_yet_missed plan box_plan act here d pair (Refused a reply refused) tells coded agrees e = not_so (is_not_yet reply)
     (tally_ends reply tells) e
 not_yet_missed plan box_plan act here d pair (Rings side code) tells coded agrees e = not_so _
     (rung_ends here side code (of_way pair.bells (way_of (link_of box_plan (acts.Ring side code)))).count

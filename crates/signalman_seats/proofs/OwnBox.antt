@@ -139,7 +139,7 @@ OneHere d way = (p q : PairState) → (on_pair way d p).reply ≡ (on_pair way d
 
 here_told : (plan : PlanFields) (box_plan : BoxFields) (act : Act) (here : BoxState) (d : Decision) (way : Way)
     → Outcome plan box_plan here act d → OneHere d way
-here_told plan box_plan act here d way (Refused a reply) p q e = refl
+here_told plan box_plan act here d way (Refused a reply refused) p q e = refl
 here_told plan box_plan act here d way (Rings side code) p q e = rung_one here side code (of_way p.bells way).count
     (of_way q.bells way).count (of_way p.bells way).unheard (of_way q.bells way).unheard e
 here_told plan box_plan act here d way (Hears side) p q e = heard_here here _ (of_way p.bells way).unheard

@@ -229,7 +229,7 @@ pub told_by_word : (plan : PlanFields) (box_plan : BoxFields) (act : Act) (here 
     → Agrees (kind_of d) (link_of box_plan act) here pair
     → IsRefusedBy (word_refusal box_plan act here (number_at (kind_of d) (way_of (link_of box_plan act)) pair))
     (on_pair (way_of (link_of box_plan act)) d pair).reply
-told_by_word plan box_plan act here d pair (Refused a reply) on agrees = absurd on
+told_by_word plan box_plan act here d pair (Refused a reply refused) on agrees = absurd on
 told_by_word plan box_plan act here d pair (Rings side code) on agrees =
     let bell = of_way pair.bells side in
     by_bell bell.count bell.unheard ring_refusal _ agrees.code (rung_told here side code bell.count bell.unheard)

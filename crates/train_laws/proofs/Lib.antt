@@ -1,9 +1,12 @@
+pub mod ArmsPassed
 pub mod GuardedSections
 pub mod InSeconds
 pub mod OnePull
+pub mod PullTold
 pub mod OneTrain
 pub mod OneTrainAdvance
 pub mod OneTrainRear
 pub mod SectionReplies
 pub mod StarterFacts
 pub mod Upgrading
+pub mod TrainOrder

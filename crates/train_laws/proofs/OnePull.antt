@@ -62,7 +62,7 @@ turned_past v block (inl less) = omega (arith, less)
 turned_past v block (inr same) = let e = same.0 in omega (arith, e)
 
 own_past : (v : ℕ) (plan : PlanFields) (box_plan : BoxFields) (here : BoxState) (act : Act) (d : Decision) (l : Bell) (k : Block) (t : List Passage) → Outcome plan box_plan here act d → IsPast v k → ThenOwn d (λ reply h l k t. IsPast v k) l k t
-own_past v plan box_plan here a d l k t (Refused act reply) past = past
+own_past v plan box_plan here a d l k t (Refused act reply refused) past = past
 own_past v plan box_plan here a d l k t (Rings side code) past = past
 own_past v plan box_plan here a d l k t (Hears side) past = past
 own_past v plan box_plan here a d l k t (AwaitsBell side code) past = past

@@ -114,7 +114,7 @@ moves_other w here lever signal act (Overruns free) = tt
 -- a call of the box in advance elsewhere leaves its berth and the control of the line, or a train leaves the berth
 pub advance_eased : (plan : PlanFields) (b : ℕ) (w : Way) (here : BoxState) (act : Act) (d : Decision) → IsPlan plan → IsBox (length plan.boxes) b (box_at plan.boxes b) → IsTrue (knows_act plan b act) → Outcome plan (box_at plan.boxes b) here act d
     → IsOther w act → ThenElsewhere d (λ reply h. IsEased (berth_of (box_at plan.boxes b) w) w here h)
-advance_eased plan b w here a d sound is known (Refused act reply) other = ease_same _ w here here refl refl
+advance_eased plan b w here a d sound is known (Refused act reply refused) other = ease_same _ w here here refl refl
 advance_eased plan b w here a d sound is known (Rings side code) other = λ bell. rung_eased _ w here side code bell.count bell.unheard
 advance_eased plan b w here a d sound is known (Hears side) other = λ bell. ease_here _ w here _ (heard_here here bell.count bell.unheard)
 advance_eased plan b w here a d sound is known (AwaitsBell side code) other = λ bell. ease_here _ w here _ (awaited_here here code bell.count bell.unheard)
@@ -305,7 +305,7 @@ pub advance_guarded : (plan : PlanFields) (b : ℕ) (w : Way) (starter : Option 
     → ((j train : ℕ) → N (acts.BerthPart w) (replies.PartBerthed j train) → ⊥) → (N (acts.Release w) replies.Released → ⊥)
     → Outcome plan (box_at plan.boxes b) here act d → link_of (box_at plan.boxes b) act ≡ Link.In w → IsGuarded starter (berth_of (box_at plan.boxes b) w) w rear here k t
     → ThenOwn d (λ reply h l k t. N act reply → IsGuarded starter (berth_of (box_at plan.boxes b) w) w rear h k t) l k t
-advance_guarded plan b w starter N rear here l k t a d sound is known parts releases (Refused act reply) line g = λ n. g
+advance_guarded plan b w starter N rear here l k t a d sound is known parts releases (Refused act reply refused) line g = λ n. g
 advance_guarded plan b w starter N rear here l k t a d sound is known parts releases (Rings side code) line g = absurd (out_not_in side w line)
 advance_guarded plan b w starter N rear here l k t a d sound is known parts releases (Hears side) line g =
     λ n. eased_guarded starter _ w rear here _ k t (ease_here _ w here _ (heard_here here l.count l.unheard)) g

@@ -76,7 +76,7 @@ off_same starter here after e = arm_same starter here after (ap (λ (h : BoxStat
 -- a call of the rear box elsewhere leaves the starter's arm, or sets it to danger
 pub rear_quiet : (plan : PlanFields) (boxes b : ℕ) (box_plan : BoxFields) (w : Way) (here : BoxState) (act : Act) (d : Decision) → IsBox boxes b box_plan → Outcome plan box_plan here act d → (link_of box_plan act ≡ Link.Out w → ⊥)
     → ThenElsewhere d (λ reply h. IsQuiet (starter_of box_plan w) here h)
-rear_quiet plan boxes b box_plan w here a d is (Refused act reply) other = arm_same _ here here refl
+rear_quiet plan boxes b box_plan w here a d is (Refused act reply refused) other = arm_same _ here here refl
 rear_quiet plan boxes b box_plan w here a d is (Rings side code) other = λ bell. arm_same _ here _ (rung_off here side code bell.count bell.unheard)
 rear_quiet plan boxes b box_plan w here a d is (Hears side) other = λ bell. off_same _ here _ (heard_here here bell.count bell.unheard)
 rear_quiet plan boxes b box_plan w here a d is (AwaitsBell side code) other = λ bell. off_same _ here _ (awaited_here here code bell.count bell.unheard)
@@ -178,7 +178,7 @@ pub rear_guarded : (plan : PlanFields) (boxes b : ℕ) (box_plan : BoxFields) (w
     → IsBox boxes b box_plan → ((lever k train : ℕ) → starter_way (signal_of box_plan lever) ≡ Some w → N (acts.Overrun lever) (replies.Entered k train) → ⊥)
     → Outcome plan box_plan here act d → link_of box_plan act ≡ Link.Out w → IsGuarded (starter_of box_plan w) berth w here advance k t
     → ThenOwn d (λ reply h l k t. N act reply → IsGuarded (starter_of box_plan w) berth w h advance k t) l k t
-rear_guarded plan boxes b box_plan w berth N here advance l k t a d is clean (Refused act reply) line g = λ n. g
+rear_guarded plan boxes b box_plan w berth N here advance l k t a d is clean (Refused act reply refused) line g = λ n. g
 rear_guarded plan boxes b box_plan w berth N here advance l k t a d is clean (Rings side code) line g = λ n. quiet_guarded _ berth w here _ advance k t (arm_same _ here _ (rung_off here side code l.count l.unheard)) g
 rear_guarded plan boxes b box_plan w berth N here advance l k t a d is clean (Hears side) line g = absurd (in_not_out (opposite side) w line)
 rear_guarded plan boxes b box_plan w berth N here advance l k t a d is clean (AwaitsBell side code) line g = absurd (in_not_out (opposite side) w line)

@@ -1,3 +1,6 @@
+pub mod Arms
 pub mod Authorities
+pub mod MayPull
+pub mod Passages
 pub mod Pulls
 pub mod Upgrades

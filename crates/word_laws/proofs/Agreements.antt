@@ -78,7 +78,7 @@ awaited_keeps plan here code count (Some held) h =
     if_keeps plan (held == code) (record { reply = replies.Heard count held; here = here; word = silent count }) (record { reply = replies.BellNotYet count (Some held); here = here; word = record { count = count; unheard = Some held } }) tt h
 
 code_keeps : (plan : PlanFields) (b : ℕ) (box_plan : BoxFields) (act : Act) (here : BoxState) (d : Decision) → IsTrue (knows_act plan b act) → Outcome plan box_plan here act d → KeepsCode plan d
-code_keeps plan b box_plan act here d known (Refused a reply) = tt
+code_keeps plan b box_plan act here d known (Refused a reply refused) = tt
 code_keeps plan b box_plan act here d known (Rings side code) = λ bell h. rung_keeps plan here side code bell.count bell.unheard (both (knows_side plan b side) (is_code_no plan code) known).1 h
 code_keeps plan b box_plan act here d known (Hears side) = λ bell h. heard_keeps plan here bell.count bell.unheard
 code_keeps plan b box_plan act here d known (AwaitsBell side code) = λ bell h. awaited_keeps plan here code bell.count bell.unheard h

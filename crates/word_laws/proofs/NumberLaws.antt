@@ -180,7 +180,7 @@ pub told_alike : (plan : PlanFields) (box_plan : BoxFields) (act : Act) (here : 
     → Agrees (kind_of d) (link_of box_plan act) here pair → Agrees (kind_of d) (link_of box_plan act) here other
     → number_at (kind_of d) (way_of (link_of box_plan act)) pair ≡ number_at (kind_of d) (way_of (link_of box_plan act)) other
     → ToldAlike PairState (on_pair (way_of (link_of box_plan act)) d pair) (on_pair (way_of (link_of box_plan act)) d other)
-told_alike plan box_plan act here d pair other (Refused a reply) h k e = record { reply = refl; here = refl }
+told_alike plan box_plan act here d pair other (Refused a reply refused) h k e = record { reply = refl; here = refl }
 told_alike plan box_plan act here d pair other (Rings side code) h k e = on_bells (ring here side code) (Out side) here pair other h k e
 told_alike plan box_plan act here d pair other (Hears side) h k e = on_bells (hear here) (In (opposite side)) here pair other h k e
 told_alike plan box_plan act here d pair other (AwaitsBell side code) h k e = on_bells (await_bell here code) (In (opposite side)) here pair other h k e

@@ -93,7 +93,7 @@ enters box_plan here lever signal train way pair is to there has =
 
 pub follows : (plan : PlanFields) (box_plan : BoxFields) (act : Act) (here : BoxState) (d : Decision) (pair : PairState) → Outcome plan box_plan here act d → IsOnWord (kind_of d) → HasTrainNos here
     → Agrees (kind_of d) (link_of box_plan act) here pair → Follows box_plan act here d pair
-follows plan box_plan act here d pair (Refused a reply) on has agrees = absurd on
+follows plan box_plan act here d pair (Refused a reply refused) on has agrees = absurd on
 follows plan box_plan act here d pair (Rings side code) on has agrees = record {
   first = λ h. on_bell (ring here side code) side pair (first_by box_plan (acts.Ring side code) here) (ring_makes here side code (of_way pair.bells side) agrees);
   second = λ op is h. absurd h;

@@ -122,7 +122,7 @@ bell_is bp (Release v) = inl refl
 
 -- a call that is on no bell leaves both
 no_bell : (plan : PlanFields) (bp : BoxFields) (here : BoxState) (pair : PairState) (v : Way) (act : Act) (d : Decision) → Outcome plan bp here act d → bell_link act ≡ None → (on_pair v d pair).word.bells ≡ pair.bells
-no_bell plan bp here pair v act d (Refused a reply) e = refl
+no_bell plan bp here pair v act d (Refused a reply refused) e = refl
 no_bell plan bp here pair v act d (Rings side code) e = absurd cc
 no_bell plan bp here pair v act d (Hears side) e = absurd cc
 no_bell plan bp here pair v act d (AwaitsBell side code) e = absurd cc

@@ -164,7 +164,7 @@ clears_rises None here way line = same_box here
 clears_rises (Some train) here way line = record { sent = λ w. omega arith; taken = line_rises here way (line_cleared (of_way here.incoming way) (next_number here way)) (omega arith) }
 
 call_rises : (plan : PlanFields) (box_plan : BoxFields) (act : Act) (here : BoxState) (d : Decision) → Outcome plan box_plan here act d → RisesAt here d
-call_rises plan box_plan act here d (Refused a reply) = same_box here
+call_rises plan box_plan act here d (Refused a reply refused) = same_box here
 call_rises plan box_plan act here d (Rings side code) = λ bell. rung_rises here side code bell.count bell.unheard
 call_rises plan box_plan act here d (Hears side) = λ bell. heard_rises here bell.count bell.unheard
 call_rises plan box_plan act here d (AwaitsBell side code) = λ bell. awaited_rises here code bell.count bell.unheard

@@ -130,7 +130,7 @@ moved_link box_plan here act lever signal way is to (Passes free) = ap starter_l
 moved_link box_plan here act lever signal way is to (Overruns free) = ap starter_link (ap starter_way is ∙ ap way_to to)
 
 call_counts : (plan : PlanFields) (box_plan : BoxFields) (act : Act) (here : BoxState) (d : Decision) → Outcome plan box_plan here act d → CountsAt (link_of box_plan act) here d
-call_counts plan box_plan act here d (Refused a reply) = tt
+call_counts plan box_plan act here d (Refused a reply refused) = tt
 call_counts plan box_plan act here d (Rings side code) = λ bell. rung_counts here side code bell.count bell.unheard
 call_counts plan box_plan act here d (Hears side) = λ bell. heard_counts here bell.count bell.unheard
 call_counts plan box_plan act here d (AwaitsBell side code) = λ bell. awaited_counts here code bell.count bell.unheard

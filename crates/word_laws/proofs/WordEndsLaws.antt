@@ -25,7 +25,7 @@ in_box (Out way) reply here h = h
 in_box (In way) reply here h = h
 
 at_end : (plan : PlanFields) (box_plan : BoxFields) (act : Act) (here : BoxState) (d : Decision) → Outcome plan box_plan here act d → TellsKind d → AtEnd (link_of box_plan act) d
-at_end plan box_plan act here d (Refused a reply) h = in_box (link_of box_plan a) reply here h
+at_end plan box_plan act here d (Refused a reply refused) h = in_box (link_of box_plan a) reply here h
 at_end plan box_plan act here d (Rings side code) h = RingsIt here code
 at_end plan box_plan act here d (Hears side) h = HearsIt here
 at_end plan box_plan act here d (AwaitsBell side code) h = AwaitsIt here code

@@ -19,3 +19,6 @@ pub answer_here-requires-clause-ready : goal.answer_here-requires-clause-ready
 answer_here-requires-clause-ready c =
     let is : IsPlan c.args.plan.now = c.meets_conditions.ensures in
     is_ready _ _ _ _ is c.requires.line c.requires.call.known c.requires.few
+
+pub answer_here-requires-clause-rows : goal.answer_here-requires-clause-rows
+answer_here-requires-clause-rows c = (c.requires.line.boxes _ (known_box _ _ _ c.requires.call.known)).rows

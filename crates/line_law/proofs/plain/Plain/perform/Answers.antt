@@ -24,3 +24,6 @@ pub returns-clause-line : goal.returns-clause-line
 returns-clause-line c =
     let is : IsPlan c.args.plan.now = c.meets_conditions.ensures in
     goes_on _ _ _ _ _ _ is c.requires.line c.requires.call.known c.step.ensures.told c.step.ensures.calls
+
+pub step-requires-clause-rows : goal.step-requires-clause-rows
+step-requires-clause-rows c = (c.requires.line.boxes _ (known_box _ _ _ c.requires.call.known)).rows

@@ -1,0 +1,85 @@
+-- Which replies are refusals, and what a refused call leaves.
+use Rattle.std.specs.Prelude.{ℕ, Bool, true, false, not, slice_set}
+use Rattle.block_words.specs.declared.Way.{Way}
+use Rattle.line_law.specs.declared.call.Call.{Call}
+use Rattle.line_law.specs.declared.call.Reply.{Reply}
+use Rattle.line_law.specs.declared.call.Reply.TheVariants as replies
+use Rattle.line_law.specs.declared.link.Link.TheVariants.{Out}
+use Rattle.line_law.specs.declared.state.PairState.{PairState}
+use Rattle.line_law.specs.Law.{at_moment}
+use Rattle.line_law.specs.Links.{pair_no}
+use Rattle.line_law.specs.States.{LineState, box_at, pair_at}
+use Rattle.line_law.specs.Ways.{of_way, with_way}
+
+-- a reply by which what was asked for is done
+abbrev pub is_success : Reply → Bool
+is_success (replies.Rung k) = true
+is_success (replies.Heard k code) = true
+is_success (replies.Turned v) = true
+is_success (replies.Seen v) = true
+is_success replies.Pulled = true
+is_success (replies.PulledUnder v) = true
+is_success replies.Put = true
+is_success replies.Brought = true
+is_success (replies.Passed train) = true
+is_success (replies.Entered k train) = true
+is_success (replies.Approaching j train) = true
+is_success (replies.Berthed j train) = true
+is_success (replies.PartBerthed j train) = true
+is_success (replies.Cleared j train) = true
+is_success (replies.Winding ready_at) = true
+is_success replies.Released = true
+is_success reply = false
+
+-- every other reply is a refusal
+abbrev pub is_refused : Reply → Bool
+is_refused reply = not (is_success reply)
+
+-- a refusal by the state of the box alone, whatever it shares with its neighbours
+abbrev pub is_refused_here : Reply → Bool
+is_refused_here replies.AlreadyThere = true
+is_refused_here replies.NotFromNormal = true
+is_refused_here (replies.HomeReversed lever) = true
+is_refused_here (replies.TrackOccupied place train) = true
+is_refused_here (replies.WelwynHolds state) = true
+is_refused_here (replies.CountFull out) = true
+is_refused_here replies.AlreadyReversed = true
+is_refused_here replies.Spare = true
+is_refused_here (replies.HeldByLever lever row) = true
+is_refused_here (replies.HeldByTrack place train) = true
+is_refused_here replies.AlreadyNormal = true
+is_refused_here replies.AlreadyBrought = true
+is_refused_here (replies.Occupied place train) = true
+is_refused_here replies.NoTrain = true
+is_refused_here replies.AtDanger = true
+is_refused_here replies.ArmOff = true
+is_refused_here (replies.BerthOccupied train) = true
+is_refused_here (replies.PortionAhead train) = true
+is_refused_here replies.NoPortion = true
+is_refused_here replies.AlreadyWinding = true
+is_refused_here replies.NotAtNormal = true
+is_refused_here replies.NotWinding = true
+is_refused_here (replies.TooSoon ready_at) = true
+is_refused_here reply = false
+
+-- ---- a line after a refused call
+
+-- a starter's pull was refused by its instrument
+abbrev pub is_held_by_instrument : Reply → Bool
+is_held_by_instrument (replies.HeldByInstrument way v shown spent) = true
+is_held_by_instrument reply = false
+
+-- the line with the last moment of box b at that of its call, and all else as it was
+abbrev pub with_moment : LineState → ℕ → Call → LineState
+with_moment state b call = record state { boxes = slice_set state.boxes b (at_moment (box_at state b) call.moment) }
+
+-- two neighbours with the instrument of that way spent, and all else as it was
+abbrev pub pair_spent : PairState → Way → PairState
+pair_spent pair way = record pair { blocks = with_way pair.blocks way (record (of_way pair.blocks way) { spent = true }) }
+
+-- the line with the instrument of the section that leaves box b that way spent, and all else as it was
+abbrev pub with_spent : LineState → ℕ → Way → LineState
+with_spent state b way =
+    record state {
+      pairs = slice_set state.pairs (pair_no b (Out way)) (pair_spent (pair_at state (pair_no b (Out way))) way);
+    }
