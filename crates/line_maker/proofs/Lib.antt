@@ -5,3 +5,4 @@ pub mod TrainNames
 pub mod TrainsRead
 pub mod PlanRead
 pub mod CallsKnown
+pub mod CallCount

@@ -8,4 +8,4 @@ mod scripts;
 mod working;
 
 pub use error::MakeError;
-pub use making::{MOST_MADE_TRAINS, make_line};
+pub use making::{MOST_MADE_TRAINS, made_calls_law, make_line};

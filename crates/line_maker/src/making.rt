@@ -1,6 +1,6 @@
 //! The made line.
 
-ghost use Rattle.std.specs.Prelude.{◌≡◌, ◌↔◌, ◌⊎◌, ℕ, ◌<◌, ◌≤◌, IfOk, IsErrOf, Ok};
+ghost use Rattle.std.specs.Prelude.{◌≡◌, ◌↔◌, ◌⊎◌, ℕ, ◌*◌, ◌<◌, ◌≤◌, IfOk, IsErrOf, Ok, length, sum_by};
 ghost use Rattle.plan_draft.specs.Reading.{plan_of};
 ghost use Rattle.line_maker.specs.MadeCalls.{AreLineScripts, made_scripts};
 ghost use Rattle.line_maker.specs.MadeTexts.{made_plan_text};
@@ -57,3 +57,9 @@ pub fn make_line(alloc: Global, n: u32) -> Result<(Plan, Vec<Script>), MakeError
         }
     }
 }
+
+/// A law: the scripts of the made line of n trains have 60 calls for each train.
+#[tactic(auto, using(crate::proofs::CallCount::scripts_counted))]
+pub fn made_calls_law()
+    ensures { (n : ℕ) → sum_by (λ script. length script.calls) (made_scripts n) ≡ 60 * n }
+{}

@@ -1,5 +1,5 @@
 -- The first word `->` of a text, and what stands before and behind it.
-use Rattle.std.proofs.Common.{◌≡◌, ℕ, ◌+◌, ◌-◌, ◌<◌, ◌≤◌, Bool, true, false, cond, List, [], ◌∷◌, ◌++◌, length, take, drop, Option, Some, None, option_map, min, suc, refl, sym, ap, subst, ◌∙◌, arith, codes, bytes_eq, slice_get}
+use Rattle.std.proofs.Common.{◌≡◌, ℕ, ◌+◌, ◌-◌, ◌<◌, ◌≤◌, Bool, true, false, cond, List, [], ◌∷◌, ◌++◌, length, take, drop, Option, Some, None, option_map, min, suc, refl, sym, ap, subst, ◌∙◌, arith, codes, bytes_eq}
 use Rattle.std.specs.List.{join_with_byte}
 use Rattle.std.proofs.lemmas.List.{length-append, take_at, take_rest, drop_min}
 use Rattle.std.proofs.lemmas.Slice.Eq.{bytes_eq-Decides}
@@ -9,31 +9,18 @@ use Rattle.line_report.specs.Arrows.{arrow_place, before_arrow, behind_arrow}
 
 -- ---- going through the words of a text
 
--- the first word, and those behind it
-first_then : (words behind : List (List ℕ)) (word : List ℕ) → Some word ≡ slice_get words 0 → behind ≡ drop 1 words → words ≡ word ∷ behind
-first_then [] behind word e h = absurd cc
-first_then (first ∷ words) behind word e h =
-    let same : first ≡ word = cc in
-    ap (λ (w : List ℕ). w ∷ words) same ∙ ap (λ (ws : List (List ℕ)). word ∷ ws) (sym h)
-
 length_joined : (word : List ℕ) (words : List (List ℕ)) → 0 < length words → length (join_with_byte 32 (word ∷ words)) ≡ length word + 1 + length (join_with_byte 32 words)
 length_joined word [] some = absurd (omega arith)
 length_joined word (next ∷ words) some = omega (arith, length-append word (32 ∷ join_with_byte 32 (next ∷ words)))
 
 -- the bytes of a text with words behind the first
-pub length_then : (text rest word : List ℕ) → Some word ≡ slice_get (words_of text) 0 → words_of rest ≡ drop 1 (words_of text) → length text ≡ length word + 1 + length rest
-length_then text rest word e h =
+pub length_then : (text rest word : List ℕ) → words_of text ≡ word ∷ words_of rest
+    → length text ≡ length word + 1 + length rest
+length_then text rest word e =
     sym (ap length (joined-words_of text))
-    ∙ ap (λ (ws : List (List ℕ)). length (join_with_byte 32 ws)) (first_then (words_of text) (words_of rest) word e h)
+    ∙ ap (λ (ws : List (List ℕ)). length (join_with_byte 32 ws)) e
     ∙ length_joined word (words_of rest) (some_words rest)
     ∙ ap (λ (bs : List ℕ). length word + 1 + length bs) (joined-words_of rest)
-
--- a text has a first word
-pub first_word : (text : List ℕ) → None ≡ slice_get (words_of text) 0 → ⊥
-first_word text e = go (words_of text) (some_words text) e where
-  go : (words : List (List ℕ)) → 0 < length words → None ≡ slice_get words 0 → ⊥
-  go [] some e = absurd (omega arith)
-  go (word ∷ words) some e = absurd cc
 
 moved : (at n : ℕ) (o : Option ℕ) → option_map (λ k. at + k) (option_map (λ k. n + k) o) ≡ option_map (λ k. at + n + k) o
 moved at n None = refl
@@ -43,24 +30,35 @@ moved at n (Some k) = ap (λ (m : ℕ). Some m) (omega arith)
 abbrev pub Goes : List ℕ → ℕ → List ℕ → Type 0
 Goes text at rest = arrow_place (words_of text) ≡ option_map (λ n. at + n) (arrow_place (words_of rest))
 
-pub place_here : (text rest word : List ℕ) (at : ℕ) → Goes text at rest → Some word ≡ slice_get (words_of rest) 0 → true ≡ bytes_eq word (codes "->") → Some at ≡ arrow_place (words_of text)
-place_here text rest word at h e same =
-    let is : words_of rest ≡ word ∷ drop 1 (words_of rest) = first_then (words_of rest) (drop 1 (words_of rest)) word e refl in
-    let here : arrow_place (word ∷ drop 1 (words_of rest)) ≡ Some 0 = rw (← same) refl in
+pub place_here : (text rest word : List ℕ) {later : List (List ℕ)} (at : ℕ) → Goes text at rest
+    → words_of rest ≡ word ∷ later → true ≡ bytes_eq word (codes "->") → Some at ≡ arrow_place (words_of text)
+place_here text rest word {later} at h is same =
+    let here : arrow_place (word ∷ later) ≡ Some 0 = rw (← same) refl in
     let at_is : at ≡ at + 0 = omega arith in
-    sym (h ∙ ap (λ (ws : List (List ℕ)). option_map (λ n. at + n) (arrow_place ws)) is ∙ ap (λ (o : Option ℕ). option_map (λ n. at + n) o) here ∙ ap (λ (n : ℕ). Some n) (sym at_is))
+    sym
+    (h
+    ∙ ap (λ (ws : List (List ℕ)). option_map (λ n. at + n) (arrow_place ws)) is
+    ∙ ap (λ (o : Option ℕ). option_map (λ n. at + n) o) here
+    ∙ ap (λ (n : ℕ). Some n) (sym at_is))
 
-pub place_nowhere : (text rest word : List ℕ) (at : ℕ) → Goes text at rest → Some word ≡ slice_get (words_of rest) 0 → false ≡ bytes_eq word (codes "->") → [] ≡ drop 1 (words_of rest) → None ≡ arrow_place (words_of text)
-place_nowhere text rest word at h e none last =
-    let is : words_of rest ≡ word ∷ [] = first_then (words_of rest) [] word e last in
+pub place_nowhere : (text rest word : List ℕ) (at : ℕ) → Goes text at rest → words_of rest ≡ word ∷ []
+    → false ≡ bytes_eq word (codes "->") → None ≡ arrow_place (words_of text)
+place_nowhere text rest word at h is none =
     let nowhere : arrow_place (word ∷ []) ≡ None = rw (← none) refl in
-    sym (h ∙ ap (λ (ws : List (List ℕ)). option_map (λ n. at + n) (arrow_place ws)) is ∙ ap (λ (o : Option ℕ). option_map (λ n. at + n) o) nowhere)
+    sym
+    (h
+    ∙ ap (λ (ws : List (List ℕ)). option_map (λ n. at + n) (arrow_place ws)) is
+    ∙ ap (λ (o : Option ℕ). option_map (λ n. at + n) o) nowhere)
 
-pub place_more : (text rest next word : List ℕ) (at : ℕ) → Goes text at rest → Some word ≡ slice_get (words_of rest) 0 → false ≡ bytes_eq word (codes "->") → words_of next ≡ drop 1 (words_of rest) → Goes text (at + (length word + 1)) next
-place_more text rest next word at h e none more =
-    let is : words_of rest ≡ word ∷ words_of next = first_then (words_of rest) (words_of next) word e more in
-    let step : arrow_place (word ∷ words_of next) ≡ option_map (λ n. length word + 1 + n) (arrow_place (words_of next)) = rw (← none) refl in
-    h ∙ ap (λ (ws : List (List ℕ)). option_map (λ n. at + n) (arrow_place ws)) is ∙ ap (λ (o : Option ℕ). option_map (λ n. at + n) o) step ∙ moved at (length word + 1) (arrow_place (words_of next))
+pub place_more : (text rest next word : List ℕ) (at : ℕ) → Goes text at rest → words_of rest ≡ word ∷ words_of next
+    → false ≡ bytes_eq word (codes "->") → Goes text (at + (length word + 1)) next
+place_more text rest next word at h is none =
+    let step : arrow_place (word ∷ words_of next) ≡ option_map (λ n. length word + 1 + n) (arrow_place (words_of next)) =
+    rw (← none) refl in
+    h
+    ∙ ap (λ (ws : List (List ℕ)). option_map (λ n. at + n) (arrow_place ws)) is
+    ∙ ap (λ (o : Option ℕ). option_map (λ n. at + n) o) step
+    ∙ moved at (length word + 1) (arrow_place (words_of next))
 
 -- ---- cutting a text there
 

@@ -245,11 +245,11 @@ entries_fit plan number [] = omega arith
 entries_fit plan number (e ∷ es) =
     omega (arith, length-append (entry_text plan number e) (entries_text plan (number + 1) es), entry_some plan number e, entries_fit plan (number + 1) es)
 
-journal_fits : (plan : PlanFields) (es : List Entry) (rest : List ℕ) → length es ≤ length (journal_text plan es ++ rest)
+pub journal_fits : (plan : PlanFields) (es : List Entry) (rest : List ℕ) → length es ≤ length (journal_text plan es ++ rest)
 unfolding journal_text
 journal_fits plan es rest = simp length-append (omega (arith, entries_fit plan 1 es))
 
-most_bytes : (version : ℕ) → most_journal_bytes version ≤ 134217728
+pub most_bytes : (version : ℕ) → most_journal_bytes version ≤ 134217728
 most_bytes version = go (eqb version 1) where
   go : (first : Bool) → cond first 67108864 134217728 ≤ 134217728
   go true = omega arith

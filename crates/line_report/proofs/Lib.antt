@@ -8,6 +8,7 @@ pub mod AskedEntries
 pub mod PlainWords
 pub mod EntryLines
 pub mod JournalTexts
+pub mod Answered
 pub mod Refused
 pub mod Turns
 pub mod HeldTold
@@ -15,3 +16,6 @@ pub mod MostTrains
 pub mod PairsHeld
 pub mod PairTexts
 pub mod Verdicts
+pub mod Memory
+pub mod NoneSkipped
+pub mod PrintedJournals

@@ -41,7 +41,7 @@ most_told plan section held [] = held
 most_told plan section held (e ∷ es) = max held (most_told plan section (held_after plan section e held) es)
 
 -- after an entry that the law allows the section holds as many trains as the entry tells
-after_told : (plan : PlanFields) (plain : PlainState) (e : Entry) (section : Section) → IsPlan plan
+pub after_told : (plan : PlanFields) (plain : PlainState) (e : Entry) (section : Section) → IsPlan plan
     → IsLineOf plan plain → IsSection plan section → MayCall plan plain.line e.box_no e.call
     → e.reply ≡ (step plan plain.line e.box_no e.call).reply
     → held_by plan (after_entry plan plain.line e) section ≡ held_after plan section e (held_by plan plain.line section)
@@ -69,7 +69,7 @@ opening_line : (way : Way) → length (of_way opening_pair.lines way) ≡ 0
 opening_line Up = refl
 opening_line Down = refl
 
-opening_held : (plan : PlanFields) (section : Section) → IsSection plan section
+pub opening_held : (plan : PlanFields) (section : Section) → IsSection plan section
     → held_by plan (opening_state plan) section ≡ 0
 opening_held plan section is =
     let has : HasBoxes (length plan.boxes) section = has_boxes (length plan.boxes) section.rear section.way is in

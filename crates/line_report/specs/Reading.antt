@@ -1,7 +1,7 @@
 -- Which journal a text gives, or its first fault.
 use Rattle.std.specs.Prelude.{ℕ, ◌+◌, ◌==◌, Bool, true, false, nat_lt, List, [], ◌∷◌, ◌++◌, length, drop, slice_get}
 use Rattle.std.specs.Prelude.{slice_set, slice_index, Option, Some, None, option_map, Result, Ok, Err, if◌then◌else◌}
-use Rattle.std.specs.Prelude.{bytes_eq, codes, position, cond}
+use Rattle.std.specs.Prelude.{◌≡◌, IsOk, bytes_eq, codes, position, cond}
 use Rattle.std.specs.List.{join_with_byte}
 use Rattle.rail_text.specs.Forms.{form_of}
 use Rattle.rail_text.specs.Gives.{◌>>=◌, Fault}
@@ -11,6 +11,10 @@ use Rattle.rail_text.specs.Texts.{at_line}
 use Rattle.rail_text.specs.Words.{keyword, no_word, number_in, one_word}
 use Rattle.rail_text.specs.declared.cause.Cause.{Cause}
 use Rattle.rail_text.specs.declared.cause.Cause.TheVariants as causes
+use Rattle.rail_text.specs.declared.cause.ReadError.{ReadError}
+use Rattle.rail_text.specs.declared.cause.ReadError.TheVariants as errors
+use Rattle.rail_text.specs.declared.line_fault.LineFault.{LineFault}
+use Rattle.rail_text.specs.declared.line_fault.LineFault.TheVariants as faults
 use Rattle.line_plan.specs.Plans.{PlanFields, names_of}
 use Rattle.line_law.specs.declared.call.Act.{Act}
 use Rattle.line_law.specs.declared.call.Call.{Call}
@@ -119,6 +123,12 @@ line_onto draft line = do
   form ← form_of false line
   stage_onto draft.stage draft (words_of line.text)
 
+-- Want of memory is told only of a line that has no fault, and leaves what is read as it was.
+abbrev pub RunsOut : DraftFields → DraftFields → Result (Unit {0}) LineFault → Result DraftFields Cause → Type 0
+RunsOut old new (Ok done) read = Unit {0}
+RunsOut old new (Err (faults.Cause cause)) read = Unit {0}
+RunsOut old new (Err faults.NoMemory) read = IsOk read × (new ≡ old)
+
 -- `end` has stood
 abbrev pub has_ended : Stage → Bool
 has_ended stages.Heading = false
@@ -131,6 +141,20 @@ lines_onto n draft [] = Err (record { line = n; cause = causes.NoEnd })
 lines_onto n draft (line ∷ lines) =
     at_line n (line_onto draft line) >>=
     (λ next. if has_ended next.stage then Ok next else lines_onto (n + 1) next lines)
+
+-- these lines, of which some are read, go on with one that has no fault
+pub record GoesOn (old new : DraftFields) (lines : List Line) : Type 0 where
+  pub number : ℕ
+  pub line : Line
+  pub later : List Line
+  pub read : lines_onto 1 old lines ≡ lines_onto number new (line ∷ later)
+  pub good : IsOk (line_onto new line)
+
+-- Want of memory is told only of a line that has no fault: the lines before it are read.
+abbrev pub RunsOutAt : DraftFields → DraftFields → List Line → Result (Unit {0}) ReadError → Type 0
+RunsOutAt old new lines (Ok done) = Unit {0}
+RunsOutAt old new lines (Err (errors.Refused line cause)) = Unit {0}
+RunsOutAt old new lines (Err errors.NoMemory) = GoesOn old new lines
 
 -- the entries of the journal that the bytes spell, or the first fault
 unfoldable pub journal_of : PlanFields → List ℕ → Result (List Entry) Fault

@@ -1,35 +1,9 @@
 -- The refused calls of a journal, as they are printed behind the registers.
-use Rattle.std.specs.Prelude.{ℕ, ◌+◌, Bool, true, false, not, List, [], ◌∷◌, ◌++◌, length, filter, codes, decimal}
-use Rattle.std.specs.Prelude.{if◌then◌else◌}
+use Rattle.std.specs.Prelude.{ℕ, ◌+◌, List, [], ◌∷◌, ◌++◌, length, filter, codes, decimal, if◌then◌else◌}
 use Rattle.line_plan.specs.Plans.{PlanFields}
 use Rattle.line_law.specs.declared.call.Entry.{Entry}
-use Rattle.line_law.specs.declared.call.Reply.{Reply}
-use Rattle.line_law.specs.declared.call.Reply.TheVariants as replies
+use Rattle.line_law.specs.Refusals.{is_refused}
 use Rattle.line_report.specs.Journals.{entry_text}
-
--- a reply by which what was asked for is done
-abbrev pub is_success : Reply → Bool
-is_success (replies.Rung k) = true
-is_success (replies.Heard k code) = true
-is_success (replies.Turned v) = true
-is_success (replies.Seen v) = true
-is_success replies.Pulled = true
-is_success (replies.PulledUnder v) = true
-is_success replies.Put = true
-is_success replies.Brought = true
-is_success (replies.Passed train) = true
-is_success (replies.Entered k train) = true
-is_success (replies.Approaching j train) = true
-is_success (replies.Berthed j train) = true
-is_success (replies.PartBerthed j train) = true
-is_success (replies.Cleared j train) = true
-is_success (replies.Winding ready_at) = true
-is_success replies.Released = true
-is_success reply = false
-
--- every other reply is a refusal
-abbrev pub is_refused : Reply → Bool
-is_refused reply = not (is_success reply)
 
 -- an entry's line of the journal, if its reply is refused
 abbrev pub refused_entry : PlanFields → ℕ → Entry → List ℕ

@@ -4,33 +4,20 @@ ghost use Rattle.std.specs.Prelude.{◌≡◌, ◌<◌, IfOk, length, position, 
 ghost use Rattle.std.specs.List.{join_with_byte, list_all};
 ghost use Rattle.rail_text.specs.Lines.{words_of};
 ghost use Rattle.rail_text.specs.Words.{is_name};
-ghost use Rattle.script_text.specs.Calls.{moment_in};
 ghost use Rattle.line_report.specs.Arrows.{arrow_place, before_arrow, behind_arrow};
 ghost use Rattle.line_report.specs.Reading.{box_in, call_after, call_told, entry_number, reply_behind, reply_told};
 
 use line_law::{Call, Reply};
 use line_plan::Plan;
-use rail_text::{Cause, Names, TextLine, name_in, read_number};
-use script_text::{read_call, read_moment, read_reply};
-
-// A text as a line.
-fn line_of(text: &[u8]) -> TextLine<'_>
-    ensures { result.text.now ≡ text.now }
-{
-    TextLine {
-        number: 0,
-        text,
-        ended: true,
-    }
-}
+use rail_text::{Cause, LineWords, Names, first_word, name_in, read_number};
+use script_text::{moment_in, read_act, read_reply};
 
 /// The number of an entry, which begins its line: it is the next one.
 #[tactic(auto, unfolding(crate::specs::Reading::entry_number))]
-pub fn entry_number(next: u64, line: &TextLine<'_>) -> Result<u64, Cause>
-    ensures { result ≡ entry_number next (words_of line.now.text.now) }
+pub fn entry_number(next: u64, words: &LineWords<'_>) -> Result<u64, Cause>
+    ensures { result ≡ entry_number next words.now }
 {
-    let word = line.word(0).unwrap_or(&[]);
-    match read_number(word) {
+    match read_number(words.keyword()) {
         None => Err(Cause::BadNumber),
         Some(number) if number == next => Ok(number),
         Some(_) => Err(Cause::WrongCount),
@@ -51,11 +38,11 @@ fn number_named(names: &Names, word: &[u8]) -> Option<u32>
 
 /// The box that the second word names.
 #[tactic(auto, using(crate::proofs::Boxes::named_below), unfolding(crate::specs::Reading::box_in))]
-pub fn box_in(plan: &Plan, line: &TextLine<'_>) -> Result<u32, Cause>
-    ensures exact { result ≡ box_in plan.now (words_of line.now.text.now) }
+pub fn box_in(plan: &Plan, words: &LineWords<'_>) -> Result<u32, Cause>
+    ensures exact { result ≡ box_in plan.now words.now }
     ensures below { IfOk result (λ box_no. box_no < length plan.now.boxes) }
 {
-    let Some(word) = line.word(1) else {
+    let Some(word) = words.word(1) else {
         return Err(Cause::UnknownName);
     };
     match number_named(&plan.box_names, word) {
@@ -71,12 +58,11 @@ fn arrow_at(text: &[u8]) -> Option<usize>
     let mut at = 0;
     let mut rest = text;
     loop {
-        let line = line_of(rest);
-        let word = line.word(0)?;
+        let (word, after) = first_word(rest);
         if word == b"->".as_slice() {
             return Some(at);
         }
-        rest = line.behind(0)?;
+        rest = after?;
         at += word.len() + 1;
     }
 }
@@ -101,39 +87,29 @@ fn cut_at_arrow(text: &[u8]) -> (&[u8], Option<&[u8]>)
 /// The text of the entry's call, between the box and the first word `->`, and that of its reply behind it, if it
 /// stands.
 #[tactic(auto, unfolding(crate::specs::Reading::call_told, crate::specs::Reading::reply_told))]
-pub fn told_texts<'a>(line: &TextLine<'a>) -> (&'a [u8], Option<&'a [u8]>)
-    ensures call { result.0.now ≡ call_told (words_of line.now.text.now) }
-    ensures reply { option_map (λ s. s.now) result.1 ≡ reply_told (words_of line.now.text.now) }
+pub fn told_texts<'a>(words: &LineWords<'a>) -> (&'a [u8], Option<&'a [u8]>)
+    ensures call { result.0.now ≡ call_told words.now }
+    ensures reply { option_map (λ s. s.now) result.1 ≡ reply_told words.now }
 {
-    match line.behind(1) {
+    match words.behind(1) {
         None => (&[], None),
         Some(rest) => cut_at_arrow(rest),
     }
 }
 
-// The moment that begins the text of a call, in the form of the plan's version.
-#[tactic(auto, unfolding(script_text::specs::Calls::moment_in))]
-fn moment_in(version: u8, text: &[u8]) -> Result<u32, Cause>
-    ensures { result ≡ moment_in version (words_of text.now) }
-{
-    let line = line_of(text);
-    let Some(word) = line.word(0) else {
-        return Err(Cause::BadMoment);
-    };
-    read_moment(version, word).ok_or(Cause::BadMoment)
-}
-
 /// The call of a box, whose moment isn't below the last one of the box.
-#[tactic(auto, unfolding(crate::specs::Reading::call_after))]
+#[tactic(auto, unfolding(crate::specs::Reading::call_after, script_text::specs::Calls::call_of, script_text::specs::Calls::call_in))]
 pub fn call_after(plan: &Plan, box_no: u32, last: u32, text: &[u8]) -> Result<Call, Cause>
     requires { box_no < length plan.now.boxes }
     ensures { result ≡ call_after plan.now box_no last text.now }
 {
-    let moment = moment_in(plan.version, text)?;
+    let words = LineWords::new(text);
+    let moment = moment_in(plan.version, &words)?;
     if moment < last {
         return Err(Cause::MomentFalls);
     }
-    read_call(plan, box_no, text)
+    let act = read_act(plan, box_no, &words)?;
+    Ok(Call { moment, act })
 }
 
 /// The reply for a call of a box, where a word `->` stands before it.

@@ -3,7 +3,7 @@
 use crate::entry_line::{box_in, call_after, entry_number, reply_behind, told_texts};
 use line_law::{Entry, Journal};
 use line_plan::{Items, Plan};
-use rail_text::{Cause, LineFault, NoMemory, TextLine, has_keyword, no_word, number_in, one_word};
+use rail_text::{Cause, LineFault, LineWords, NoMemory, TextLine, number_in};
 use std::alloc::Global;
 use std::marker::Model;
 
@@ -42,11 +42,10 @@ impl<'a> Model for JournalDraft<'a> {
 
 impl<'a> JournalDraft<'a> {
     ghost use Rattle.std.specs.Prelude.{◌≡◌, ◌<◌, IfOk, length};
-    ghost use Rattle.rail_text.specs.Gives.{GivesLine};
-    ghost use Rattle.rail_text.specs.Lines.{words_of};
+    ghost use Rattle.rail_text.specs.Gives.{GivesLine, TakesNoMemory};
     ghost use Rattle.line_report.specs.Drafts.{start};
     ghost use Rattle.line_report.specs.Reading.{end_onto, entry_in, entry_onto, has_ended, heading_onto, line_onto};
-    ghost use Rattle.line_report.specs.Reading.{stage_onto};
+    ghost use Rattle.line_report.specs.Reading.{RunsOut, stage_onto};
 
     /// Nothing is read.
     pub fn new(alloc: Global, plan: &'a Plan) -> Result<JournalDraft<'a>, NoMemory>
@@ -62,10 +61,11 @@ impl<'a> JournalDraft<'a> {
 
     // `journal V`: V is the plan's version.
     #[tactic(auto, unfolding(crate::specs::Reading::heading_onto))]
-    fn heading_line(&mut self, line: &TextLine<'_>) -> Result<(), LineFault>
-        ensures { GivesLine (λ _. self.new) result (heading_onto self.old (words_of line.now.text.now)) }
+    fn heading_line(&mut self, words: &LineWords<'_>) -> Result<(), LineFault>
+        ensures gives { GivesLine (λ _. self.new) result (heading_onto self.old words.now) }
+        ensures memory { TakesNoMemory result }
     {
-        let word = one_word(line)?;
+        let word = words.one_word()?;
         let plan = self.plan;
         let version = u32::from(plan.version);
         number_in(word, version, version)?;
@@ -75,14 +75,14 @@ impl<'a> JournalDraft<'a> {
 
     // The entry of a line: its number, its box, its call and its reply.
     #[tactic(auto, unfolding(crate::specs::Reading::entry_in))]
-    fn entry_in(&self, line: &TextLine<'_>) -> Result<Entry, Cause>
-        ensures exact { result ≡ entry_in self.now (words_of line.now.text.now) }
+    fn entry_in(&self, words: &LineWords<'_>) -> Result<Entry, Cause>
+        ensures exact { result ≡ entry_in self.now words.now }
         ensures below { IfOk result (λ e. e.box_no < length self.now.moments) }
     {
         let plan = self.plan;
-        entry_number(self.entries.len() as u64 + 1, line)?;
-        let box_no = box_in(plan, line)?;
-        let (call, reply) = told_texts(line);
+        entry_number(self.entries.len() as u64 + 1, words)?;
+        let box_no = box_in(plan, words)?;
+        let (call, reply) = told_texts(words);
         let call = call_after(plan, box_no, self.moments[box_no as usize], call)?;
         let reply = reply_behind(plan, box_no, &call, reply)?;
         Ok(Entry {
@@ -94,10 +94,11 @@ impl<'a> JournalDraft<'a> {
 
     // An entry more, whose moment is the last one of its box.
     #[tactic(auto, unfolding(crate::specs::Reading::entry_onto))]
-    fn entry_line(&mut self, line: &TextLine<'_>) -> Result<(), LineFault>
-        ensures { GivesLine (λ _. self.new) result (entry_onto self.old (words_of line.now.text.now)) }
+    fn entry_line(&mut self, words: &LineWords<'_>) -> Result<(), LineFault>
+        ensures gives { GivesLine (λ _. self.new) result (entry_onto self.old words.now) }
+        ensures memory { RunsOut self.old self.new result (entry_onto self.old words.now) }
     {
-        let entry = self.entry_in(line)?;
+        let entry = self.entry_in(words)?;
         self.entries.push(entry)?;
         self.moments[entry.box_no as usize] = entry.call.moment;
         Ok(())
@@ -105,36 +106,44 @@ impl<'a> JournalDraft<'a> {
 
     // `end`: the journal ends.
     #[tactic(auto, unfolding(crate::specs::Reading::end_onto))]
-    fn end_line(&mut self, line: &TextLine<'_>) -> Result<(), LineFault>
-        ensures { GivesLine (λ _. self.new) result (end_onto self.old (words_of line.now.text.now)) }
+    fn end_line(&mut self, words: &LineWords<'_>) -> Result<(), LineFault>
+        ensures gives { GivesLine (λ _. self.new) result (end_onto self.old words.now) }
+        ensures memory { TakesNoMemory result }
     {
-        no_word(line)?;
+        words.no_word()?;
         self.stage = Stage::Ended;
         Ok(())
     }
 
     // The words of a line.
-    #[tactic(auto, unfolding(crate::specs::Reading::stage_onto))]
-    fn words_line(&mut self, line: &TextLine<'_>) -> Result<(), LineFault>
-        ensures { GivesLine (λ _. self.new) result (stage_onto self.old.stage self.old (words_of line.now.text.now)) }
+    #[tactic(auto, using(crate::proofs::Memory::memory_rules), unfolding(crate::specs::Reading::stage_onto))]
+    fn words_line(&mut self, words: &LineWords<'_>) -> Result<(), LineFault>
+        ensures gives { GivesLine (λ _. self.new) result (stage_onto self.old.stage self.old words.now) }
+        ensures memory { RunsOut self.old self.new result (stage_onto self.old.stage self.old words.now) }
     {
         match self.stage {
-            Stage::Heading if has_keyword(line, b"journal") => self.heading_line(line),
+            Stage::Heading if words.keyword() == b"journal".as_slice() => self.heading_line(words),
             Stage::Heading => Err(LineFault::Cause(Cause::WrongKeyword)),
-            Stage::Entries if has_keyword(line, b"end") => self.end_line(line),
-            Stage::Entries => self.entry_line(line),
+            Stage::Entries if words.keyword() == b"end".as_slice() => self.end_line(words),
+            Stage::Entries => self.entry_line(words),
             Stage::Ended => Ok(()),
         }
     }
 
-    /// A line: its form first, by which none is skipped, then its words.
-    #[tactic(auto, unfolding(crate::specs::Reading::line_onto))]
+    /// A line: its form first, by which none is skipped, then its words. Want of memory is told only of a line that has
+    /// no fault, and leaves what is read as it was.
+    #[tactic(auto, using(crate::proofs::NoneSkipped::none_skipped), unfolding(crate::specs::Reading::line_onto, rail_text::specs::Forms::formed_words))]
     pub fn read_line(&mut self, line: &TextLine<'_>) -> Result<(), LineFault>
-        ensures { GivesLine (λ _. self.new) result
+        ensures gives { GivesLine (λ _. self.new) result
+            (line_onto self.old (record { text = line.now.text.now; ended = line.now.ended })) }
+        ensures memory { RunsOut self.old self.new result
             (line_onto self.old (record { text = line.now.text.now; ended = line.now.ended })) }
     {
-        line.form(false)?;
-        self.words_line(line)
+        match line.formed(false) {
+            Ok(Some(words)) => self.words_line(&words),
+            Ok(None) => unreachable!(),
+            Err(cause) => Err(LineFault::Cause(cause)),
+        }
     }
 
     /// Whether the journal has ended.

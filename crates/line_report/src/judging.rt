@@ -1,7 +1,8 @@
 //! The judge of a journal: whether each reply is the law's.
 
 ghost use Rattle.std.specs.Prelude.{◌≡◌, ◌↔◌, ◌++◌, ◌<◌, ℕ, All, IfOk, IsTrue, OnOk, length, string_bytes};
-ghost use Rattle.line_law.specs.History.{IsLegal};
+ghost use Rattle.line_law.specs.History.{IsLegal, opened};
+ghost use Rattle.line_law.specs.Lines.{IsLineOf};
 ghost use Rattle.line_report.specs.Asked.{AreAsked, AreFewEntries};
 ghost use Rattle.line_report.specs.Verdicts.{IsWrongAt, judgement_text, legal_text, verdict_of, wrong_text};
 ghost use Rattle.script_text.specs.Replies.{is_spelled_reply};
@@ -23,20 +24,21 @@ pub enum Verdict {
     WrongAt { line: u32, said: Reply, law: Reply },
 }
 
-// Whether these entries may be judged, by each performed once on a line that opens.
-fn may_judge_all(alloc: Global, plan: &Plan, entries: &[Entry]) -> Result<bool, NoMemory>
-    requires { AreFewEntries entries.now }
-    ensures { IfOk result (λ may. IsTrue may ↔ AreAsked plan.now entries.now) }
+// Whether these entries may be judged, by each performed once on a line that has just opened.
+fn may_perform_all(plan: &Plan, plain: &mut Plain, entries: &[Entry]) -> bool
+    requires few { AreFewEntries entries.now }
+    requires line { IsLineOf plan.now plain.old }
+    requires opening { plain.old ≡ opened plan.now }
+    ensures { IsTrue result ↔ AreAsked plan.now entries.now }
 {
     plan.meets_conditions();
-    let mut plain = Plain::open(alloc, plan)?;
     for entry in entries {
         if !plain.may_call(plan, entry.box_no, &entry.call) {
-            return Ok(false);
+            return false;
         }
         plain.perform(plan, entry.box_no, &entry.call);
     }
-    Ok(true)
+    true
 }
 
 /// Whether a journal may be judged: the plan knows each call of each box, and moments don't fall within a box. There
@@ -45,28 +47,32 @@ pub fn may_judge(alloc: Global, plan: &Plan, journal: &Journal) -> Result<bool, 
     requires { AreFewEntries journal.now.entries }
     ensures { IfOk result (λ may. IsTrue may ↔ AreAsked plan.now journal.now.entries) }
 {
-    may_judge_all(alloc, plan, journal.entries.as_slice())
+    let mut plain = Plain::open(alloc, plan)?;
+    let may = may_perform_all(plan, &mut plain, journal.entries.as_slice());
+    drop(plain);
+    Ok(may)
 }
 
-// What the judge finds of these entries, each of which is performed once on a line that opens.
-fn verdict_on(alloc: Global, plan: &Plan, entries: &[Entry]) -> Result<Verdict, NoMemory>
+// What the judge finds of these entries, each of which is performed once on a line that has just opened.
+fn verdict_on(plan: &Plan, plain: &mut Plain, entries: &[Entry]) -> Verdict
     requires asked { AreAsked plan.now entries.now }
     requires few { AreFewEntries entries.now }
-    ensures { IfOk result (λ verdict. verdict ≡ verdict_of plan.now entries.now) }
+    requires line { IsLineOf plan.now plain.old }
+    requires opening { plain.old ≡ opened plan.now }
+    ensures { result ≡ verdict_of plan.now entries.now }
 {
     plan.meets_conditions();
-    let mut plain = Plain::open(alloc, plan)?;
     for (place, entry) in entries.iter().enumerate() {
         let law = plain.perform(plan, entry.box_no, &entry.call);
         if !entry.reply.is(&law) {
-            return Ok(Verdict::WrongAt {
+            return Verdict::WrongAt {
                 line: place as u32 + 1,
                 said: entry.reply,
                 law,
-            });
+            };
         }
     }
-    Ok(Verdict::Legal)
+    Verdict::Legal
 }
 
 /// Judges a journal: whether each reply is the law's. The calls of each box are ones that the plan knows, with moments
@@ -82,7 +88,10 @@ pub fn judge(alloc: Global, plan: &Plan, journal: &Journal) -> Result<Verdict, N
         → IsWrongAt plan.now journal.now.entries k said law }
 {
     plan.meets_conditions();
-    verdict_on(alloc, plan, journal.entries.as_slice())
+    let mut plain = Plain::open(alloc, plan)?;
+    let verdict = verdict_on(plan, &mut plain, journal.entries.as_slice());
+    drop(plain);
+    Ok(verdict)
 }
 
 // The line of a legal journal of so many entries.

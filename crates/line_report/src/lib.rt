@@ -13,7 +13,10 @@ mod sections;
 
 pub use journal::{print_journal, put_entry, put_journal};
 pub use judging::{Verdict, judge, may_judge, print_verdict};
-pub use laws::{held_law, histories_can_be_printed, most_trains_law, verdict_law};
+pub use laws::{
+    answers_law, held_law, histories_can_be_printed, most_trains_law, printed_journal_law,
+    verdict_law,
+};
 pub use reading::{journals_law, most_journal_bytes, read_journal};
-pub use refusals::{is_refused, put_refusals, refused_count};
-pub use sections::{most_trains, put_sections};
+pub use refusals::{put_refusals, refused_count};
+pub use sections::{HeldTrains, count_on, most_trains, no_trains, put_sections};

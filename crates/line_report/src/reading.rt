@@ -8,7 +8,7 @@ ghost use Rattle.line_plan.specs.Plans.{IsPlan, PlanFields};
 ghost use Rattle.line_law.specs.declared.call.Entry.{Entry};
 ghost use Rattle.script_text.specs.Entries.{IsSpelled};
 ghost use Rattle.line_report.specs.Asked.{AreAsked, AreFewEntries};
-ghost use Rattle.line_report.specs.Reading.{journal_of, lines_onto, most_journal_bytes};
+ghost use Rattle.line_report.specs.Reading.{RunsOutAt, journal_of, lines_onto, most_journal_bytes};
 ghost use Rattle.line_report.specs.Spelled.{SpellsJournal};
 
 use crate::journal_draft::JournalDraft;
@@ -29,11 +29,12 @@ pub fn most_journal_bytes(version: u8) -> usize
 }
 
 // Reads the lines up to the line `end`. The first fault is refused with its line and cause: where the text has no such
-// line, it is `NoEnd` behind the last.
+// line, it is `NoEnd` behind the last. Want of memory is told only of a line that has no fault.
 #[tactic(auto, unfolding(crate::specs::Reading::lines_onto))]
 fn read_lines(draft: &mut JournalDraft<'_>, bytes: &[u8]) -> Result<(), ReadError>
     requires { length bytes.now + 1 < 2 ^ 32 }
-    ensures { GivesText (λ _. draft.new) result (lines_onto 1 draft.old (lines_of bytes.now)) }
+    ensures gives { GivesText (λ _. draft.new) result (lines_onto 1 draft.old (lines_of bytes.now)) }
+    ensures memory { RunsOutAt draft.old draft.new (lines_of bytes.now) result }
 {
     let mut lines = Lines::new(bytes);
     let mut number: u32 = 1;

@@ -2,52 +2,13 @@
 
 ghost use Rattle.std.specs.Prelude.{◌≡◌, ◌++◌, All, OnOk, string_bytes};
 ghost use Rattle.script_text.specs.Entries.{IsSpelled};
-ghost use Rattle.line_report.specs.Refusals.{
-  is_refused,
-  is_success,
-  refusals_text,
-  refused_count,
-  refused_entries,
-  refused_entry,
-};
+ghost use Rattle.line_report.specs.Refusals.{refusals_text, refused_count, refused_entries, refused_entry};
 
 use crate::journal::put_entry;
-use line_law::{Entry, Journal, Reply};
+use line_law::{Entry, Journal, is_refused};
 use line_plan::Plan;
 use std::alloc::AllocError;
 use std::fmt::Write;
-
-// Whether what was asked for is done.
-fn is_success(reply: Reply) -> bool
-    ensures { result ≡ is_success reply }
-{
-    match reply {
-        Reply::Rung { .. }
-        | Reply::Heard { .. }
-        | Reply::Turned { .. }
-        | Reply::Seen { .. }
-        | Reply::Pulled
-        | Reply::PulledUnder { .. }
-        | Reply::Put
-        | Reply::Brought
-        | Reply::Passed { .. }
-        | Reply::Entered { .. }
-        | Reply::Approaching { .. }
-        | Reply::Berthed { .. }
-        | Reply::PartBerthed { .. }
-        | Reply::Cleared { .. }
-        | Reply::Winding { .. }
-        | Reply::Released => true,
-        _ => false,
-    }
-}
-
-/// Whether a reply is a refusal: what was asked for isn't done.
-pub fn is_refused(reply: &Reply) -> bool
-    ensures { result ≡ is_refused reply.now }
-{
-    !is_success(*reply)
-}
 
 /// How many of these entries have a reply that is a refusal.
 pub fn refused_count(entries: &[Entry]) -> usize

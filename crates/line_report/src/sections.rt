@@ -45,9 +45,9 @@ pub fn most_trains(
 
 /// How many trains a section holds, and the most that it held so far.
 #[derive(Clone, Copy)]
-struct HeldTrains {
-    now: u32,
-    most: u32,
+pub struct HeldTrains {
+    pub now: u32,
+    pub most: u32,
 }
 
 // No trains, as a line opens.
@@ -243,8 +243,10 @@ fn counts_trains(reply: &Reply) -> bool
     )
 }
 
-// Counts the trains of each pair on by an entry.
-fn count_on(trains: &mut [ByWay<HeldTrains>], plan: &Plan, entry: &Entry)
+/// Counts the trains of the sections of each pair of neighbours on by an entry: pair `p` is of the boxes `p` and
+/// `p + 1`. Where the entries of a legal history are counted so from none on, each section's trains are those that it
+/// holds, as `held_law` says.
+pub fn count_on(trains: &mut [ByWay<HeldTrains>], plan: &Plan, entry: &Entry)
     requires each { length trains.old + 1 ≡ length plan.now.boxes }
     requires few { (pair : ℕ) → MayGain (trains_at trains.old pair) }
     ensures { CountsOn plan.now entry.now trains.old trains.new }
@@ -254,8 +256,8 @@ fn count_on(trains: &mut [ByWay<HeldTrains>], plan: &Plan, entry: &Entry)
     }
 }
 
-// So many pairs with no trains.
-fn no_trains(alloc: Global, pairs: usize) -> Result<Vec<ByWay<HeldTrains>>, NoMemory>
+/// So many pairs of neighbours with no trains.
+pub fn no_trains(alloc: Global, pairs: usize) -> Result<Vec<ByWay<HeldTrains>>, NoMemory>
     ensures { IfOk result (λ trains. trains.items ≡ replicate pairs no_trains) }
 {
     let none = ByWay {

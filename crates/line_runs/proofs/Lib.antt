@@ -3,3 +3,4 @@ pub mod NextBox
 pub mod Turning
 pub mod SerialTurns
 pub mod ScriptsWorked
+pub mod OutputRead

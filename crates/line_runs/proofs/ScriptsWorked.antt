@@ -17,6 +17,7 @@ use Rattle.line_law.proofs.SerialLaws.{journal_legal, journal_parts}
 use Rattle.line_law.proofs.Sides.{known_box}
 use Rattle.instrument_rule.proofs.Parts.{length_by_parts}
 use Rattle.train_laws.proofs.OneTrain.{held_few_before}
+use Rattle.train_laws.proofs.PullTold.{each_pull_told}
 use Rattle.script_text.specs.Scripts.{IsScriptOf, most_calls}
 use Rattle.script_text.specs.declared.script.Script.{Script}
 use Rattle.train_register.specs.Registers.{AreParts, RegisterFields}
@@ -24,11 +25,12 @@ use Rattle.signalman_seats.specs.Lines.{AreFresh, AreMen, Closed}
 use Rattle.signalman_seats.specs.Men.{IsFresh, Man}
 use Rattle.line_journal.specs.Order.{IsInOrder}
 use Rattle.line_report.specs.Asked.{AreFewEntries}
+use Rattle.line_report.proofs.PrintedJournals.{legal_judged, legal_read}
 use Rattle.line_working.specs.Working.{CanWork, DidWork}
 use Rattle.line_working.proofs.FreshMen.{fresh_works}
 use Rattle.text_fetch.specs.Runs.{AreScriptsOf, Run}
 use Rattle.line_runs.specs.Rosters.{calls_of_scripts}
-use Rattle.line_runs.specs.Worked.{AreWorked, HasCallsOf, HoldsFew, IsJournalOf, lengths_of}
+use Rattle.line_runs.specs.Worked.{ArePullsTold, AreWorked, HasCallsOf, HoldsFew, IsJournalOf, lengths_of}
 use Rattle.line_runs.proofs.SerialTurns.{boxes_few, entries_few, scripts_are, scripts_few}
 
 -- ---- scripts by their boxes
@@ -259,6 +261,10 @@ holds_few : (plan : PlanFields) (journal : List Entry) → IsPlan plan → IsLeg
 holds_few plan journal is legal section es more line split clean =
     held_few_before plan es more section is line (subst (IsLegal plan) split legal) clean
 
+pulls_told : (plan : PlanFields) (journal : List Entry) → IsLegal plan journal → ArePullsTold plan journal
+pulls_told plan journal line es more e lever split act =
+    each_pull_told plan es more e lever (subst (IsLegal plan) split line) act
+
 pub journal_is : (run : Run) (registers : List RegisterFields) (journal : List Entry) → IsPlan run.plan
     → AreWorked run.plan run.scripts registers → IsLegal run.plan journal → AreParts run.plan journal registers
     → IsInOrder run.plan journal → IsJournalOf run journal
@@ -266,7 +272,10 @@ journal_is run registers journal is worked legal parts order = record {
   legal = legal;
   calls = same_calls run.plan run.scripts registers journal worked legal parts;
   order = order;
+  pulls = pulls_told run.plan journal legal;
   trains = holds_few run.plan journal is legal;
+  read = λ rest short. legal_read run.plan journal rest is legal short;
+  judged = legal_judged run.plan journal is legal;
 }
 
 -- a journal has as many entries as the history that the registers are the parts of

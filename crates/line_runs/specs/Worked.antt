@@ -1,16 +1,22 @@
 -- A line that is worked by its scripts, and the journal that comes of it.
-use Rattle.std.specs.Prelude.{◌≡◌, ◌≤◌, ℕ, List, ◌++◌, length, map}
+use Rattle.std.specs.Prelude.{◌≡◌, ◌≤◌, ℕ, List, ◌∷◌, ◌++◌, Ok, length, map}
 use Rattle.line_plan.specs.Plans.{PlanFields}
 use Rattle.line_plan.specs.Sections.{IsSection, limit_of}
 use Rattle.line_plan.specs.declared.section.Section.{Section}
+use Rattle.line_law.specs.declared.call.Act.TheVariants.{Pull}
 use Rattle.line_law.specs.declared.call.Entry.{Entry}
 use Rattle.line_law.specs.History.{IsLegal, calls_of, state_of}
 use Rattle.line_law.specs.Sections.{IsClean, held_by}
 use Rattle.line_law.specs.Serial.{calls_left}
 use Rattle.line_journal.specs.Order.{IsInOrder}
 use Rattle.line_report.specs.Asked.{AreFewEntries}
+use Rattle.line_report.specs.Journals.{journal_text}
+use Rattle.line_report.specs.Reading.{journal_of, most_journal_bytes}
+use Rattle.line_report.specs.Verdicts.{verdict_of}
+use Rattle.line_report.specs.declared.judging.Verdict.TheVariants.{Legal}
 use Rattle.script_text.specs.declared.script.Script.{Script}
 use Rattle.text_fetch.specs.Runs.{Run}
+use Rattle.train_laws.specs.MayPull.{IsPullTold}
 use Rattle.train_register.specs.Registers.{AreParts, RegisterFields}
 use Rattle.line_runs.specs.Rosters.{calls_of_scripts}
 
@@ -36,11 +42,27 @@ abbrev pub HoldsFew : PlanFields → List Entry → Type 0
 HoldsFew plan journal = (section : Section) (es more : List Entry) → IsSection plan section → journal ≡ es ++ more
     → IsClean plan section es → held_by plan (state_of plan es) section ≤ limit_of plan section
 
+-- each pull of a journal succeeds exactly where frame, track circuits and instruments allow it at that point, and else
+-- its reply says why not
+abbrev pub ArePullsTold : PlanFields → List Entry → Type 0
+ArePullsTold plan journal = (es more : List Entry) (e : Entry) (lever : ℕ) → journal ≡ es ++ e ∷ more
+    → e.call.act ≡ Pull lever → IsPullTold plan (state_of plan es) e.box_no lever e.reply
+
+-- the journal as it is printed, whatever stands behind it, is read as this journal, where it keeps within the limit of
+-- a journal's text
+abbrev pub IsReadBack : PlanFields → List Entry → Type 0
+IsReadBack plan journal = (rest : List ℕ) → length (journal_text plan journal ++ rest) ≤ most_journal_bytes plan.version
+    → journal_of plan (journal_text plan journal ++ rest) ≡ Ok journal
+
 -- The journal is one legal history, which has exactly each script's calls, in order, and stands in the order of its own
--- parts; and while it records no overrun, left portion or release in a section, that section holds no more trains than
--- it may.
+-- parts; each pull succeeds exactly where it is allowed; and while it records no overrun, left portion or release in a
+-- section, that section holds no more trains than it may. What is printed of it is read back, and a judge finds it
+-- legal.
 pub record IsJournalOf (run : Run) (journal : List Entry) : Type 0 where
   pub legal : IsLegal run.plan journal
   pub calls : HasCallsOf run.scripts journal
   pub order : IsInOrder run.plan journal
+  pub pulls : ArePullsTold run.plan journal
   pub trains : HoldsFew run.plan journal
+  pub read : IsReadBack run.plan journal
+  pub judged : verdict_of run.plan journal ≡ Legal

@@ -21,7 +21,7 @@ use Rattle.line_plan.specs.declared.signal.Signal.{Signal}
 use Rattle.line_law.proofs.PlanFacts.{sound}
 use Rattle.plan_check.specs.Clashes.{Clash, do_clash}
 use Rattle.plan_check.specs.Found.{box_findings, boxes_findings, clash_findings, clashes_from, clashes_with, findings_of, gap_findings, is_spare, lever_findings, section_findings, stands_in}
-use Rattle.plan_check.specs.FindingFacts.{HasNoRow, LacksBerth, LacksStarter, RowsClashAt, no_row, row_at}
+use Rattle.plan_check.specs.FindingFacts.{AreFindings, HasNoRow, LacksBerth, LacksStarter, RowsClashAt, no_row, row_at}
 use Rattle.plan_check.specs.declared.finding.Finding.{Finding}
 use Rattle.plan_check.specs.declared.finding.Finding.TheVariants.{RowsClash, LeverWithoutRow, NoBerth, NoStarter}
 use Rattle.plan_check.proofs.Meeting.{clashes_exactly, meets_clash}
@@ -528,3 +528,16 @@ no_starter_exactly plan section = (
   starter_told plan section,
   λ h. section_found plan section (NoStarter section) h.is (in_no_starter section (section_starter plan section) (section_berth plan section) h.starter h.berth),
 )
+
+-- ---- all
+
+-- the findings on a plan are told of it in the words of the railway
+pub are_exact : (plan : PlanFields) (found : List Finding) → IsPlan plan → found ≡ findings_of plan → AreFindings plan found
+are_exact plan found is e =
+    rw e (record {
+      order = refl;
+      clash = λ b first second lever. clash_exactly plan b first second lever is;
+      lever = λ b lever. lever_exactly plan b lever;
+      no_berth = λ section. no_berth_exactly plan section;
+      no_starter = λ section. no_starter_exactly plan section;
+    })

@@ -1,5 +1,6 @@
 -- What each kind of finding says of a plan.
-use Rattle.std.specs.Prelude.{◌≡◌, ◌≢◌, ℕ, ◌-◌, ◌<◌, ◌≤◌, Contains, IsSome, IsNone, [], false, length, slice_index_or}
+use Rattle.std.specs.Prelude.{◌≡◌, ◌≢◌, ◌↔◌, ℕ, ◌-◌, ◌<◌, ◌≤◌, Contains, IsSome, IsNone, List, [], false, length}
+use Rattle.std.specs.Prelude.{slice_index_or}
 use Rattle.locking_table.specs.declared.row.Row.{Row}
 use Rattle.locking_table.specs.declared.row.RowKind.TheVariants.{LocksNormal}
 use Rattle.line_plan.specs.Frames.{BoxFields, frame_size}
@@ -8,8 +9,10 @@ use Rattle.line_plan.specs.Sections.{IsSection, section_berth, section_starter}
 use Rattle.line_plan.specs.declared.frame.Kind.{Kind}
 use Rattle.line_plan.specs.declared.frame.Kind.TheVariants.{Spare}
 use Rattle.line_plan.specs.declared.section.Section.{Section}
+use Rattle.plan_check.specs.declared.finding.Finding.{Finding}
+use Rattle.plan_check.specs.declared.finding.Finding.TheVariants.{LeverWithoutRow, NoBerth, NoStarter, RowsClash}
 use Rattle.plan_check.specs.Clashes.{Clash}
-use Rattle.plan_check.specs.Found.{stands_in}
+use Rattle.plan_check.specs.Found.{findings_of, stands_in}
 
 -- no row
 abbrev pub no_row : Row
@@ -48,3 +51,13 @@ pub record LacksStarter (plan : PlanFields) (section : Section) : Type 0 where
   pub is : IsSection plan section
   pub starter : IsNone (section_starter plan section)
   pub berth : IsSome (section_berth plan section)
+
+-- Two rows of a box are found exactly where they clash, a lever exactly where it isn't spare and no row names it, a
+-- section exactly where it has a starter and no berth, or a berth and no starter; and they stand in the stated order.
+pub record AreFindings (plan : PlanFields) (findings : List Finding) : Type 0 where
+  pub order : findings ≡ findings_of plan
+  pub clash : (b first second lever : ℕ) → Contains findings (RowsClash b first second lever)
+      ↔ RowsClashAt plan b first second lever
+  pub lever : (b lever : ℕ) → Contains findings (LeverWithoutRow b lever) ↔ HasNoRow plan b lever
+  pub no_berth : (section : Section) → Contains findings (NoBerth section) ↔ LacksBerth plan section
+  pub no_starter : (section : Section) → Contains findings (NoStarter section) ↔ LacksStarter plan section

@@ -20,3 +20,6 @@ pub mod PlanSteps
 pub mod ReadSpelled
 pub mod SpellLaws
 pub mod Upgraded
+pub mod PrintedSizes
+pub mod PlanSizes
+pub mod ReadBack

@@ -79,7 +79,7 @@ boxes_same : (boxes : List BoxFields) → flat_map box_lines boxes ≡ boxes_lin
 boxes_same [] = refl
 boxes_same (b ∷ boxes) = rw (box_same b, boxes_same boxes) refl
 
-lines_same : (plan : PlanFields) → plan_lines plan ≡ plan_lines_by [] plan
+pub lines_same : (plan : PlanFields) → plan_lines plan ≡ plan_lines_by [] plan
 unfolding plan_lines plan_lines_by
 lines_same plan = rw (boxes_same plan.boxes) refl
 
@@ -153,5 +153,3 @@ refused_unspelled bytes (errors.Refused line cause) plan gives is = absurd cc
 pub reader_reads : (bytes : List ℕ) (r : Result PlanFields ReadError) → GivesText (λ plan. plan) r (plan_of bytes) → (plan : PlanFields) → IsPlan plan → Spells bytes plan → MatchResult r (λ read. read ≡ plan) (λ error. error ≡ errors.NoMemory)
 reader_reads bytes (Ok read) gives plan is s = same_plan read plan (sym gives ∙ spelled_is_read bytes plan is s)
 reader_reads bytes (Err e) gives plan is s = refused_unspelled bytes e plan gives (spelled_is_read bytes plan is s)
-
-pub ruleset printed_laws = (spelled_is_read, printed_is_read)

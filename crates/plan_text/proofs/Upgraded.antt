@@ -1,9 +1,8 @@
 -- An upgraded plan is a plan.
-use Rattle.std.proofs.Common.{◌≡◌, ℕ, ◌*◌, ◌≤◌, Bool, true, false, cond, eqb, List, refl, sym, ap, ◌∙◌, arith, subst}
+use Rattle.std.proofs.Common.{◌≡◌, ℕ, Bool, true, false, cond, eqb, List, refl, ap, arith, subst}
 use Rattle.std.proofs.lemmas.Bool.{eqb-true}
 use Rattle.std.proofs.lemmas.Bool.Decides.{nat_tests}
 use Rattle.line_plan.specs.Frames.{BoxFields}
-use Rattle.line_plan.specs.Limits.{most_boxes, most_delay}
 use Rattle.line_plan.specs.Plans.{PlanFields, IsPlan}
 use Rattle.line_plan.specs.declared.plan.Class.{Class}
 use Rattle.line_plan.specs.declared.plan.TrainPlan.{TrainPlan}

@@ -13,8 +13,6 @@ use Rattle.line_plan.specs.Frames.{BoxFields, kind_word}
 use Rattle.line_plan.specs.Ways.{way_word}
 use Rattle.line_plan.specs.Plans.{PlanFields, names_of, names_of_classes, box_at}
 use Rattle.line_plan.specs.declared.berth.Berth.{Berth}
-use Rattle.line_plan.specs.declared.frame.Kind.{Kind}
-use Rattle.line_plan.specs.declared.frame.Kind.TheVariants as kinds
 use Rattle.line_plan.specs.declared.frame.Lever.{Lever}
 use Rattle.line_plan.specs.declared.plan.Class.{Class}
 use Rattle.line_plan.specs.declared.plan.TrainPlan.{TrainPlan}

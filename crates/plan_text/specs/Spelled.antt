@@ -1,8 +1,7 @@
 -- Which texts spell a plan: a relation on whole texts.
-use Rattle.std.specs.Prelude.{◌≡◌, ℕ, ◌≤◌, Bool, true, ◌&&◌, nat_le, List, [], ◌∷◌, ◌++◌, length, map, drop, codes}
-use Rattle.std.specs.Prelude.{if◌then◌else◌}
+use Rattle.std.specs.Prelude.{◌≡◌, ℕ, ◌≤◌, true, List, [], ◌∷◌, ◌++◌, length, map, drop, codes}
 use Rattle.std.specs.List.{list_all}
-use Rattle.rail_text.specs.Lines.{Line, lines_of, words_of}
+use Rattle.rail_text.specs.Lines.{lines_of, words_of}
 use Rattle.rail_text.specs.Kept.{is_formed, kept}
 use Rattle.block_words.specs.declared.Way.{Way}
 use Rattle.block_words.specs.declared.Way.TheVariants.{Up, Down}

@@ -1,13 +1,15 @@
 //! The plan that a text spells.
 
 ghost use Rattle.std.specs.Prelude.{◌≡◌};
-ghost use Rattle.std.specs.Prelude.{ℕ, List, Ok, IfOk, MatchResult, true};
+ghost use Rattle.std.specs.Prelude.{ℕ, List, Ok, IfOk, IsErrOf, MatchResult, true};
 ghost use Rattle.rail_text.specs.Gives.{GivesText};
 ghost use Rattle.rail_text.specs.Texts.{text_onto};
+ghost use Rattle.rail_text.specs.declared.cause.Cause.{Cause};
 ghost use Rattle.plan_draft.specs.Drafts.{start};
 ghost use Rattle.line_plan.specs.Limits.{most_bytes};
 ghost use Rattle.line_plan.specs.Plans.{PlanFields, IsPlan};
 ghost use Rattle.plan_draft.specs.Reading.{has_ended, plan_of, words_onto};
+ghost use Rattle.plan_text.specs.Printing.{plan_text};
 ghost use Rattle.plan_text.specs.Spelled.{Spells};
 
 use line_plan::{PLAN_LIMIT, Plan};
@@ -55,7 +57,8 @@ fn plan_in(alloc: Global, bytes: &[u8]) -> Result<Plan, ReadError>
 ///   `TooFewBoxes`.
 ///
 /// A text above `PLAN_LIMIT` bytes is `TooLong` at line 0, and one that has no line `end` is `NoEnd` behind its last
-/// line. What is read meets every condition of a plan. A text that spells a plan is refused for want of memory alone.
+/// line. What is read meets every condition of a plan, and is read back where it is printed. A text is refused where it
+/// spells no plan; one that spells a plan fails for want of memory alone.
 #[tactic(auto, using(crate::proofs::SpellLaws::reader_laws))]
 pub fn read_plan(alloc: Global, bytes: &[u8]) -> Result<Plan, ReadError>
     ensures exact { GivesText (λ plan. plan) result (plan_of bytes.now) }
@@ -63,6 +66,9 @@ pub fn read_plan(alloc: Global, bytes: &[u8]) -> Result<Plan, ReadError>
     ensures spelled { IfOk result (λ plan. Spells bytes.now plan) }
     ensures reads { (plan : PlanFields) → IsPlan plan → Spells bytes.now plan →
         MatchResult result (λ read. read ≡ plan) (λ error. error ≡ ReadError.NoMemory) }
+    ensures refused { (line : ℕ) (cause : Cause) → IsErrOf result (ReadError.Refused line cause) → (plan : PlanFields)
+        → IsPlan plan → ¬ Spells bytes.now plan }
+    ensures printed { IfOk result (λ plan. plan_of (plan_text plan) ≡ Ok plan) }
 {
     plan_in(alloc, bytes)
 }

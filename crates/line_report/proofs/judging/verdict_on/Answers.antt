@@ -10,10 +10,10 @@ use Rattle.line_report.proofs.judging.verdict_on.Goals as goal
 
 pub loop-place-init : goal.loop-place-init
 loop-place-init c =
-    let opens : c.in_ok-plain.plain.line ≡ opening_state c.args.plan.now = ap (λ (p : PlainState). p.line) c.in_ok-plain.ensures.opening in
+    let opens : c.args.plain.now.line ≡ opening_state c.args.plan.now = ap (λ (p : PlainState). p.line) c.requires.opening in
     record {
-      line = c.in_ok-plain.ensures.line;
-      calls = ap (λ (p : PlainState). p.calls) c.in_ok-plain.ensures.opening;
+      line = c.requires.line;
+      calls = ap (λ (p : PlainState). p.calls) c.requires.opening;
       asked = subst (λ (s : LineState). AreAskedFrom c.args.plan.now s c.args.entries.now) (sym opens) (asked_first c.args.plan.now c.args.entries.now c.requires.asked);
       verdict = ap (λ (s : LineState). verdict_from c.args.plan.now s 1 c.args.entries.now) opens;
     }

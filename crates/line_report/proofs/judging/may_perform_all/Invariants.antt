@@ -3,7 +3,7 @@ use Rattle.std.specs.Prelude.{◌↔◌}
 use Rattle.line_law.specs.Lines.{IsLineOf}
 use Rattle.line_report.specs.Asked.{AreAsked}
 use Rattle.line_report.proofs.Turns.{AreAskedFrom}
-use Rattle.line_report.proofs.judging.may_judge_all.Given as goal
+use Rattle.line_report.proofs.judging.may_perform_all.Given as goal
 
 abbrev pub invariant-loop-entry : goal.invariant-loop-entry
 invariant-loop-entry l = record {

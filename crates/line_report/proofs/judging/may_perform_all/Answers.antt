@@ -4,13 +4,13 @@ use Rattle.line_law.specs.Law.{Done}
 use Rattle.line_law.specs.Lines.{PlainState}
 use Rattle.line_law.specs.States.{opening_state}
 use Rattle.line_report.proofs.Turns.{asked_begins, asked_more}
-use Rattle.line_report.proofs.judging.may_judge_all.Goals as goal
+use Rattle.line_report.proofs.judging.may_perform_all.Goals as goal
 
 pub loop-entry-init : goal.loop-entry-init
 loop-entry-init c = record {
-  line = c.in_ok-plain.ensures.line;
-  calls = ap (λ (p : PlainState). p.calls) c.in_ok-plain.ensures.opening;
-  asked = asked_begins c.args.plan.now c.in_ok-plain.plain.line c.args.entries.now (ap (λ (p : PlainState). p.line) c.in_ok-plain.ensures.opening);
+  line = c.requires.line;
+  calls = ap (λ (p : PlainState). p.calls) c.requires.opening;
+  asked = asked_begins c.args.plan.now c.args.plain.now.line c.args.entries.now (ap (λ (p : PlainState). p.line) c.requires.opening);
 }
 
 pub loop-entry-preserved : goal.loop-entry-preserved

@@ -1,0 +1,16 @@
+-- A reader that takes no memory never tells of its want.
+use Rattle.std.proofs.Common.{◌≡◌, Result, Ok, Err, refl}
+use Rattle.rail_text.specs.Gives.{TakesNoMemory}
+use Rattle.rail_text.specs.declared.cause.Cause.{Cause}
+use Rattle.rail_text.specs.declared.line_fault.LineFault.{LineFault}
+use Rattle.rail_text.specs.declared.line_fault.LineFault.TheVariants as faults
+use Rattle.line_report.specs.Drafts.{DraftFields}
+use Rattle.line_report.specs.Reading.{RunsOut}
+
+pub never_runs_out : (old new : DraftFields) (result : Result (Unit {0}) LineFault) (read : Result DraftFields Cause)
+    → TakesNoMemory result → RunsOut old new result read
+never_runs_out old new (Ok done) read h = tt
+never_runs_out old new (Err (faults.Cause cause)) read h = tt
+never_runs_out old new (Err faults.NoMemory) read h = absurd (h refl)
+
+pub ruleset memory_rules = (never_runs_out)
