@@ -1,0 +1,11 @@
+pub mod Since
+pub mod LastBells
+pub mod Commutators
+pub mod SideKept
+pub mod RuleTells
+pub mod Places
+pub mod BoxMarks
+pub mod InOrder
+pub mod Exactly
+pub mod HeldKept
+pub mod GoesOn
