@@ -77,7 +77,7 @@ fn put_calls(
     line: &mut SingleLine,
     calls: &[TokenCall],
 ) -> Result<(), AllocError> {
-    let mut number: u32 = 0;
+    let mut number: usize = 0;
     for call in calls {
         number = number.saturating_add(1);
         if let Some(reply) = reply_to(line, call.box_no, call.act) {

@@ -3,7 +3,8 @@
 use crate::facts::{Due, all_due, all_hold, has_tokens, opened};
 use token_law::{Shown, TokenAct, TokenReply};
 
-const JOURNEY: [Due; 10] = [
+/// A train takes the only token to the other end.
+pub const JOURNEY: [Due; 10] = [
     (0, TokenAct::Draw { train: 7 }, TokenReply::NoLeave),
     (1, TokenAct::Give, TokenReply::LeaveGiven),
     (0, TokenAct::Give, TokenReply::LeaveOut { to: 0 }),
@@ -32,7 +33,8 @@ fn a_train_takes_the_only_token_to_the_other_end(rt: HostRuntime) {
     );
 }
 
-const LEAVE: [Due; 7] = [
+/// Leave is given and taken back.
+pub const LEAVE: [Due; 7] = [
     (0, TokenAct::Give, TokenReply::LeaveGiven),
     (1, TokenAct::Give, TokenReply::LeaveOut { to: 1 }),
     (0, TokenAct::Withdraw, TokenReply::Withdrawn),

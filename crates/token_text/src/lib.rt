@@ -1,4 +1,4 @@
-//! The texts of a single line with tokens: the script of its calls.
+//! The texts of a single line with tokens: the script of its calls, and what is printed of them.
 #![tactic(auto)]
 
 pub mod acts;
@@ -7,6 +7,6 @@ pub mod printing;
 pub mod reading;
 pub mod script;
 
-pub use printing::put_token_entry;
+pub use printing::{print_tokens, put_token_entry};
 pub use reading::read_tokens;
 pub use script::{MOST_TOKEN_CALLS, TOKEN_SCRIPT_LIMIT, TokenScript};

@@ -1,0 +1,10 @@
+pub mod Parts
+pub mod Outcomes
+pub mod Changes
+pub mod Views
+pub mod Keeps
+pub mod Joins
+pub mod Doing
+pub mod Performing
+pub mod Meeting
+pub mod Together
