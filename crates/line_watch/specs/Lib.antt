@@ -1,0 +1,4 @@
+pub mod Sights
+pub mod Watching
+pub mod Boards
+pub mod Shown

@@ -1,0 +1,3 @@
+//! Tests of the board, by calls.
+
+mod boards;
