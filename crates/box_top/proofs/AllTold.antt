@@ -9,7 +9,9 @@ use Rattle.line_report.specs.Reading.{journal_of}
 use Rattle.script_text.specs.Scripts.{script_of}
 use Rattle.script_text.specs.declared.script.Script.{Script}
 use Rattle.desk_reports.specs.Judgements.{case_told}
+use Rattle.desk_reports.specs.SingleLines.{token_script_told}
 use Rattle.text_fetch.specs.Runs.{count_told, run_told, scripts_told}
+use Rattle.token_text.specs.Scripts.{token_script_of}
 use Rattle.text_fetch.specs.FromTexts.{AreTold, Held, FromTexts, Untold, Gives, Refuses, plan_told, read_told, text_told, told_then}
 
 -- no text that is needed is untold
@@ -33,6 +35,10 @@ both_told (Refuses n fault) f h k = tt
 
 pub told_plan : (held : Held) (name : List ℕ) → AreTold held (name ∷ []) → IsTold (plan_told held name)
 told_plan held name h = told_text 1 plan_of (held name) (All-head (λ (n : List ℕ). IsSome (held n)) name [] h)
+
+pub told_tokens : (held : Held) (name : List ℕ) → AreTold held (name ∷ []) → IsTold (token_script_told held name)
+told_tokens held name h =
+    told_text 1 token_script_of (held name) (All-head (λ (n : List ℕ). IsSome (held n)) name [] h)
 
 told_count : (plan : PlanFields) (count : ℕ) → IsTold (count_told plan count)
 told_count plan count = go (eqb count (length plan.boxes)) where

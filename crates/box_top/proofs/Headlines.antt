@@ -6,6 +6,7 @@ use Rattle.box_top.specs.declared.status.Status.TheVariants as statuses
 use Rattle.text_fetch.specs.declared.stop.Stop.{Stop}
 use Rattle.line_runs.specs.Made.{IsSummaryOf}
 use Rattle.line_runs.specs.Outputs.{IsOutputOf, MakesText, MayCome}
+use Rattle.line_runs.proofs.OutputRead.{output_read}
 use Rattle.text_fetch.specs.FromTexts.{AreTold, Held, FromTexts, Untold, Gives, Refuses}
 use Rattle.text_fetch.specs.Runs.{Run, run_told}
 use Rattle.box_top.specs.Headlines.{PrintsJournal, PrintsSummary}
@@ -29,6 +30,7 @@ run_done {X = X} outcome view held name names old new status made put e told =
       journal = h.0;
       is = h.1;
       taken = taken ∙ ap (appended old) h.2;
+      read = output_read run h.0 h.1;
     }
     prints text (Refuses n fault) taken is told h = absurd h
 

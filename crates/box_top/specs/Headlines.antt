@@ -1,7 +1,6 @@
 -- What is printed where a command is done.
-use Rattle.std.specs.Prelude.{◌≡◌, ◌↔◌, ◌<◌, ◌≤◌, ℕ, List, [], ◌∷◌, Option, Some, None, Ok, Contains, length}
+use Rattle.std.specs.Prelude.{◌≡◌, ◌↔◌, ◌<◌, ◌≤◌, ℕ, List, [], ◌∷◌, Option, Some, None, Ok, length}
 use Rattle.rail_text.specs.Bytes.{appended}
-use Rattle.line_plan.specs.Limits.{most_bytes}
 use Rattle.line_plan.specs.Plans.{PlanFields, box_at, box_name}
 use Rattle.frame_chart.specs.declared.charts.Chart.{Chart}
 use Rattle.frame_chart.specs.Charts.{IsChartOf}
@@ -10,31 +9,37 @@ use Rattle.frame_chart.specs.Spans.{spans_of}
 use Rattle.plan_text.specs.Printing.{plan_text}
 use Rattle.plan_draft.specs.Reading.{plan_of}
 use Rattle.line_plan.specs.Upgrades.{upgraded}
-use Rattle.line_plan.specs.declared.section.Section.{Section}
 use Rattle.line_law.specs.declared.call.Entry.{Entry}
 use Rattle.line_law.specs.declared.call.Reply.{Reply}
 use Rattle.line_law.specs.History.{IsLegal}
 use Rattle.line_maker.specs.MadeCalls.{made_scripts}
 use Rattle.line_maker.specs.MadeTexts.{made_plan_text}
+use Rattle.line_report.specs.Reading.{journal_of, most_journal_bytes}
 use Rattle.line_report.specs.Verdicts.{IsWrongAt, box_of_entry, judgement_text, legal_text, wrong_text}
+use Rattle.reg_audit.specs.declared.rule.Breach.{Breach}
+use Rattle.reg_audit.specs.Audits.{IsAuditOf}
+use Rattle.reg_audit.specs.Texts.{audit_text}
 use Rattle.plan_check.specs.declared.finding.Finding.{Finding}
-use Rattle.plan_check.specs.declared.finding.Finding.TheVariants.{LeverWithoutRow, NoBerth, NoStarter, RowsClash}
-use Rattle.plan_check.specs.Found.{findings_of}
 use Rattle.plan_check.specs.Texts.{findings_text}
-use Rattle.plan_check.specs.FindingFacts.{HasNoRow, LacksBerth, LacksStarter, RowsClashAt}
+use Rattle.plan_check.specs.FindingFacts.{AreFindings}
 use Rattle.command_words.specs.Commands.{Command}
 use Rattle.desk_reports.specs.Frames.{frame_text}
 use Rattle.desk_reports.specs.Judgements.{Case, case_told}
+use Rattle.desk_reports.specs.SingleLines.{token_script_told}
 use Rattle.line_runs.specs.Made.{summary_text}
 use Rattle.line_runs.specs.Outputs.{output_text}
 use Rattle.line_runs.specs.Worked.{IsJournalOf}
 use Rattle.text_fetch.specs.Runs.{Run, run_told}
 use Rattle.text_fetch.specs.FromTexts.{AreTold, Held, Gives, plan_told}
+use Rattle.token_law.specs.declared.calls.TokenEntry.{TokenEntry}
+use Rattle.token_law.specs.History.{IsTokenHistory, token_calls, token_state_of}
+use Rattle.token_text.specs.Outputs.{token_history_text}
+use Rattle.token_text.specs.Scripts.{TokenScriptFields}
 
 -- ---- a line that is worked
 
 -- the texts of these names spell a plan and its scripts, and the bytes taken are the whole output of a journal of their
--- run
+-- run; where this keeps within the limit of a journal's text, it is read as exactly that journal
 pub record PrintsJournal (held : Held) (plan : List ℕ) (scripts : List (List ℕ)) (old new : Option (List ℕ))
     : Type 0 where
   pub run : Run
@@ -42,6 +47,8 @@ pub record PrintsJournal (held : Held) (plan : List ℕ) (scripts : List (List �
   pub journal : List Entry
   pub is : IsJournalOf run journal
   pub taken : new ≡ appended old (output_text run.plan journal)
+  pub read : length (output_text run.plan journal) ≤ most_journal_bytes run.plan.version
+      → journal_of run.plan (output_text run.plan journal) ≡ Ok journal
 
 -- the text of the made line of n trains spells a plan, and the bytes taken are the summary of a journal of that line,
 -- worked by its own scripts
@@ -63,19 +70,11 @@ Headline held (Some (Command.Check plan)) old new = Unit {0}
 Headline held (Some (Command.Tables plan name)) old new = Unit {0}
 Headline held (Some (Command.Chart plan name)) old new = Unit {0}
 Headline held (Some (Command.Judge plan journal)) old new = Unit {0}
+Headline held (Some (Command.Audit plan journal)) old new = Unit {0}
 Headline held (Some (Command.Upgrade plan)) old new = Unit {0}
+Headline held (Some (Command.Token script)) old new = Unit {0}
 
 -- ---- a check
-
--- Two rows of a box are found exactly where they clash, a lever exactly where it isn't spare and no row names it, a
--- section exactly where it has a starter and no berth, or a berth and no starter; and they stand in the stated order.
-pub record AreFindings (plan : PlanFields) (findings : List Finding) : Type 0 where
-  pub order : findings ≡ findings_of plan
-  pub clash : (b first second lever : ℕ) → Contains findings (RowsClash b first second lever)
-      ↔ RowsClashAt plan b first second lever
-  pub lever : (b lever : ℕ) → Contains findings (LeverWithoutRow b lever) ↔ HasNoRow plan b lever
-  pub no_berth : (section : Section) → Contains findings (NoBerth section) ↔ LacksBerth plan section
-  pub no_starter : (section : Section) → Contains findings (NoStarter section) ↔ LacksStarter plan section
 
 -- the text of this name spells a plan, and the bytes taken are the findings on it
 pub record PrintsFindings (held : Held) (name : List ℕ) (old new : Option (List ℕ)) : Type 0 where
@@ -138,15 +137,52 @@ pub record PrintsJudgement (held : Held) (plan journal : List ℕ) (old new : Op
   pub is : IsJudgementOf case text
   pub taken : new ≡ appended old text
 
+-- ---- an audit
+
+-- The text is the breaches of a journal: each entry that breaks one of the nine rules is named with the rule, and
+-- nothing else is; by entry, then by rule, once each.
+pub record NamesBreaches (case : Case) (text : List ℕ) : Type 0 where
+  pub breaches : List Breach
+  pub is : IsAuditOf case.plan case.entries breaches
+  pub printed : text ≡ audit_text breaches
+
+-- the text is what an audit prints of a journal: its breaches where it is a legal history, else the lines of the first
+-- entry whose reply isn't the law's
+pub record IsAuditTextOf (case : Case) (text : List ℕ) : Type 0 where
+  pub legal : IsLegal case.plan case.entries → NamesBreaches case text
+  pub wrong : ¬ IsLegal case.plan case.entries → IsWrongText case text
+
+-- the texts of these names spell a plan and a journal of its line, and the bytes taken are its audit
+pub record PrintsAudit (held : Held) (plan journal : List ℕ) (old new : Option (List ℕ)) : Type 0 where
+  pub case : Case
+  pub spelled : case_told held plan journal ≡ Gives case
+  pub text : List ℕ
+  pub is : IsAuditTextOf case text
+  pub taken : new ≡ appended old text
+
 -- ---- an upgrade
 
--- the text of this name spells a plan, and the bytes taken are its upgrade as plans are printed; where these keep
--- within the limit of a plan's text, they spell it
+-- the text of this name spells a plan, and the bytes taken are its upgrade as plans are printed, which is read as that
+-- upgrade
 pub record PrintsUpgrade (held : Held) (name : List ℕ) (old new : Option (List ℕ)) : Type 0 where
   pub plan : PlanFields
   pub spelled : plan_told held name ≡ Gives plan
-  pub read : length (plan_text (upgraded plan)) ≤ most_bytes → plan_of (plan_text (upgraded plan)) ≡ Ok (upgraded plan)
+  pub read : plan_of (plan_text (upgraded plan)) ≡ Ok (upgraded plan)
   pub taken : new ≡ appended old (plan_text (upgraded plan))
+
+-- ---- a single line with tokens
+
+-- The text of this name spells a token script, and the bytes taken are the output of a legal token history of a line
+-- that opens with the script's tokens, which has exactly the script's calls, in order: each with the law's reply, and
+-- then the tokens in both instruments, and whether one is out, after the last.
+pub record PrintsTokens (held : Held) (name : List ℕ) (old new : Option (List ℕ)) : Type 0 where
+  pub script : TokenScriptFields
+  pub spelled : token_script_told held name ≡ Gives script
+  pub entries : List TokenEntry
+  pub legal : IsTokenHistory script.at_0 script.at_1 entries
+  pub calls : token_calls entries ≡ script.calls
+  pub taken : new
+      ≡ appended old (token_history_text entries (token_state_of script.at_0 script.at_1 entries))
 
 -- ---- the desk
 
@@ -161,4 +197,7 @@ Reported held (Some (Command.Tables plan name)) old new = AreTold held (plan ∷
 Reported held (Some (Command.Chart plan name)) old new = AreTold held (plan ∷ []) → PrintsChart held plan name old new
 Reported held (Some (Command.Judge plan journal)) old new = AreTold held (plan ∷ journal ∷ [])
     → PrintsJudgement held plan journal old new
+Reported held (Some (Command.Audit plan journal)) old new = AreTold held (plan ∷ journal ∷ [])
+    → PrintsAudit held plan journal old new
 Reported held (Some (Command.Upgrade plan)) old new = AreTold held (plan ∷ []) → PrintsUpgrade held plan old new
+Reported held (Some (Command.Token script)) old new = AreTold held (script ∷ []) → PrintsTokens held script old new

@@ -4,10 +4,12 @@ use Rattle.rail_text.specs.Causes.{Rose}
 use Rattle.command_words.specs.Commands.{Command, texts_of}
 use Rattle.text_fetch.specs.FromTexts.{Held, FromTexts, Gives, told_then}
 use Rattle.text_fetch.specs.Runs.{Run, run_told, run_told_before}
+use Rattle.desk_reports.specs.Audits.{audit_told}
 use Rattle.desk_reports.specs.Charts.{plan_chart_told}
 use Rattle.desk_reports.specs.Frames.{plan_frame_told}
 use Rattle.desk_reports.specs.Judgements.{IsJudged, case_told, case_told_before, judgement_told}
 use Rattle.desk_reports.specs.Reports.{findings_told, upgrade_told}
+use Rattle.desk_reports.specs.SingleLines.{HasTokenScript, token_script_told, tokens_told}
 use Rattle.line_runs.specs.Made.{IsSummaryOf}
 use Rattle.line_runs.specs.Outputs.{IsOutputOf}
 
@@ -35,10 +37,12 @@ command_told held (Command.Check plan) = told_exactly (findings_told held plan)
 command_told held (Command.Tables plan name) = told_exactly (plan_frame_told held plan name)
 command_told held (Command.Chart plan name) = told_exactly (plan_chart_told held plan name)
 command_told held (Command.Judge plan journal) = told_exactly (judgement_told held plan journal)
+command_told held (Command.Audit plan journal) = told_exactly (audit_told held plan journal)
 command_told held (Command.Upgrade plan) = told_exactly (upgrade_told held plan)
+command_told held (Command.Token script) = told_exactly (tokens_told held script)
 
--- What is told of a command of the desk is sound: the verdict on a case is the law's. Of the other commands nothing
--- more has to be said.
+-- What is told of a command of the desk is sound: the verdict on a case is the law's, and the calls of a token script
+-- may be made. Of the other commands nothing more has to be said.
 abbrev pub IsSound : Held → Command → Type 0
 IsSound held (Command.Run plan scripts) = Unit {0}
 IsSound held (Command.Stress n) = Unit {0}
@@ -46,7 +50,9 @@ IsSound held (Command.Check plan) = Unit {0}
 IsSound held (Command.Tables plan name) = Unit {0}
 IsSound held (Command.Chart plan name) = Unit {0}
 IsSound held (Command.Judge plan journal) = IsJudged (case_told held plan journal)
+IsSound held (Command.Audit plan journal) = IsJudged (case_told held plan journal)
 IsSound held (Command.Upgrade plan) = Unit {0}
+IsSound held (Command.Token script) = HasTokenScript (token_script_told held script)
 
 -- what is told before text k of a command, from 0, is fetched
 abbrev pub told_before : Held → Command → ℕ → FromTexts (Unit {0})
@@ -56,7 +62,9 @@ told_before held (Command.Check plan) = λ k. Gives tt
 told_before held (Command.Tables plan name) = λ k. Gives tt
 told_before held (Command.Chart plan name) = λ k. Gives tt
 told_before held (Command.Judge plan journal) = case_told_before held plan
+told_before held (Command.Audit plan journal) = case_told_before held plan
 told_before held (Command.Upgrade plan) = λ k. Gives tt
+told_before held (Command.Token script) = λ k. Gives tt
 
 -- the count of no text that the words name rose
 abbrev pub NoneRose : (List ℕ → ℕ) → (List ℕ → ℕ) → Option Command → Type 0

@@ -141,10 +141,26 @@ judge_entered = record {
       (shape_of (codes "judge")) refl refl refl;
 }
 
+pub audit_entered : IsEntered (codes "audit")
+unfolding clap_on_literals
+audit_entered = record {
+  takes = enters (codes "audit") (shape_of (codes "audit")) refl refl refl;
+  finds = finds (codes "audit")
+      (shape_of (codes "audit")) refl refl refl;
+}
+
 pub upgrade_entered : IsEntered (codes "upgrade")
 unfolding clap_on_literals
 upgrade_entered = record {
   takes = enters (codes "upgrade") (shape_of (codes "upgrade")) refl refl refl;
   finds = finds (codes "upgrade")
       (shape_of (codes "upgrade")) refl refl refl;
+}
+
+pub token_entered : IsEntered (codes "token")
+unfolding clap_on_literals
+token_entered = record {
+  takes = enters (codes "token") (shape_of (codes "token")) refl refl refl;
+  finds = finds (codes "token")
+      (shape_of (codes "token")) refl refl refl;
 }

@@ -11,15 +11,15 @@ use Rattle.std.proofs.lemmas.List.{length-map}
 use Rattle.std.proofs.lemmas.Slice.Eq.{bytes_eq-Decides}
 use Rattle.clap.specs.Lexer.{usize_max}
 use Rattle.clap.specs.Words.{Text, subcommand_of, takes}
-use Rattle.command_words.specs.Commands.{Command, bytes_of, chart_in, check_in, command_in, command_of, is_plain_word}
-use Rattle.command_words.specs.Commands.{judge_in, run_in, stress_in, tables_in, upgrade_in}
+use Rattle.command_words.specs.Commands.{Command, audit_in, bytes_of, chart_in, check_in, command_in, command_of}
+use Rattle.command_words.specs.Commands.{is_plain_word, judge_in, run_in, stress_in, tables_in, token_in, upgrade_in}
 use Rattle.command_words.specs.ClapTable.{has_word_count, has_command_form, all_commands}
 use Rattle.command_words.specs.ClapReads.{command_read}
-use Rattle.command_words.proofs.Enters.{IsEntered, chart_entered, check_entered, judge_entered, run_entered}
-use Rattle.command_words.proofs.Enters.{stress_entered, tables_entered, upgrade_entered}
+use Rattle.command_words.proofs.Enters.{IsEntered, audit_entered, chart_entered, check_entered, judge_entered}
+use Rattle.command_words.proofs.Enters.{run_entered, stress_entered, tables_entered, token_entered, upgrade_entered}
 use Rattle.command_words.proofs.RunWords.{both, no_hyphen, run_reads, run_takes}
-use Rattle.command_words.proofs.ShortWords.{TakesOne, TakesTwo, chart_two, check_one, judge_two, stress_one, tables_two}
-use Rattle.command_words.proofs.ShortWords.{upgrade_one}
+use Rattle.command_words.proofs.ShortWords.{TakesOne, TakesTwo, audit_two, chart_two, check_one, judge_two, stress_one}
+use Rattle.command_words.proofs.ShortWords.{tables_two, token_one, upgrade_one}
 
 -- clap takes the words, and what it finds is this command
 pub record Reads (words : List Text) (command : Option Command) : Type 0 where
@@ -93,6 +93,14 @@ upgrade_words ((b ∷ bs) ∷ []) plain count = one_word (codes "upgrade") upgra
 upgrade_words (word ∷ more ∷ words) plain count = absurd
     (other_count (length (word ∷ more ∷ words)) 1 (omega arith) count)
 
+token_words : (words : List Text) → list_all is_plain_word words ≡ true → (length words == 1) ≡ true
+    → Reads (codes "token" ∷ words) (token_in words)
+token_words [] plain count = absurd cc
+token_words ([] ∷ []) plain count = absurd cc
+token_words ((b ∷ bs) ∷ []) plain count = one_word (codes "token") token_entered _ token_one b bs plain
+token_words (word ∷ more ∷ words) plain count = absurd
+    (other_count (length (word ∷ more ∷ words)) 1 (omega arith) count)
+
 tables_words : (words : List Text) → list_all is_plain_word words ≡ true → (length words == 2) ≡ true
     → Reads (codes "tables" ∷ words) (tables_in words)
 tables_words [] plain count = absurd cc
@@ -124,6 +132,16 @@ judge_words ((b ∷ bs) ∷ (c ∷ cs) ∷ []) plain count = two_words (codes "j
 judge_words (word ∷ other ∷ more ∷ words) plain count = absurd
     (other_count (length (word ∷ other ∷ more ∷ words)) 2 (omega arith) count)
 
+audit_words : (words : List Text) → list_all is_plain_word words ≡ true → (length words == 2) ≡ true
+    → Reads (codes "audit" ∷ words) (audit_in words)
+audit_words [] plain count = absurd cc
+audit_words (word ∷ []) plain count = absurd cc
+audit_words ([] ∷ word ∷ []) plain count = absurd cc
+audit_words ((b ∷ bs) ∷ [] ∷ []) plain count = absurd (true≢false (sym (both (not (eqb b 45)) _ plain).1))
+audit_words ((b ∷ bs) ∷ (c ∷ cs) ∷ []) plain count = two_words (codes "audit") audit_entered _ audit_two b bs c cs plain
+audit_words (word ∷ other ∷ more ∷ words) plain count = absurd
+    (other_count (length (word ∷ other ∷ more ∷ words)) 2 (omega arith) count)
+
 -- ---- any command
 
 split : (b x y : Bool) → cond b x y ≡ true → ((b ≡ true) × (x ≡ true)) ⊎ (y ≡ true)
@@ -150,9 +168,15 @@ counted first words plain count fits = elim (split (bytes_eq first (codes "run")
           | inl h ↦ named (codes "chart") first words h.0 (chart_words words plain h.1)
           | inr chart ↦ elim (split (bytes_eq first (codes "judge")) _ _ chart) [
             | inl h ↦ named (codes "judge") first words h.0 (judge_words words plain h.1)
-            | inr judge ↦ elim (split (bytes_eq first (codes "upgrade")) _ _ judge) [
-              | inl h ↦ named (codes "upgrade") first words h.0 (upgrade_words words plain h.1)
-              | inr none ↦ absurd cc
+            | inr judge ↦ elim (split (bytes_eq first (codes "audit")) _ _ judge) [
+              | inl h ↦ named (codes "audit") first words h.0 (audit_words words plain h.1)
+              | inr audit ↦ elim (split (bytes_eq first (codes "upgrade")) _ _ audit) [
+                | inl h ↦ named (codes "upgrade") first words h.0 (upgrade_words words plain h.1)
+                | inr upgrade ↦ elim (split (bytes_eq first (codes "token")) _ _ upgrade) [
+                  | inl h ↦ named (codes "token") first words h.0 (token_words words plain h.1)
+                  | inr none ↦ absurd cc
+                ]
+              ]
             ]
           ]
         ]
@@ -204,6 +228,11 @@ no_upgrade [] e = refl
 no_upgrade (word ∷ []) e = absurd cc
 no_upgrade (word ∷ more ∷ words) e = refl
 
+no_token : (words : List Text) → (length words == 1) ≡ false → token_in words ≡ None
+no_token [] e = refl
+no_token (word ∷ []) e = absurd cc
+no_token (word ∷ more ∷ words) e = refl
+
 no_tables : (words : List Text) → (length words == 2) ≡ false → tables_in words ≡ None
 no_tables [] e = refl
 no_tables (word ∷ []) e = refl
@@ -222,6 +251,12 @@ no_judge (word ∷ []) e = refl
 no_judge (word ∷ other ∷ []) e = absurd cc
 no_judge (word ∷ other ∷ more ∷ words) e = refl
 
+no_audit : (words : List Text) → (length words == 2) ≡ false → audit_in words ≡ None
+no_audit [] e = refl
+no_audit (word ∷ []) e = refl
+no_audit (word ∷ other ∷ []) e = absurd cc
+no_audit (word ∷ other ∷ more ∷ words) e = refl
+
 not_counted : (first : Text) (words : List Text) → has_word_count first (length words) ≡ false
     → command_in first words ≡ None
 not_counted first words =
@@ -231,7 +266,9 @@ not_counted first words =
     (no_branch (bytes_eq first (codes "tables")) _ _ _ _ (no_tables words)
     (no_branch (bytes_eq first (codes "chart")) _ _ _ _ (no_chart words)
     (no_branch (bytes_eq first (codes "judge")) _ _ _ _ (no_judge words)
-    (no_branch (bytes_eq first (codes "upgrade")) _ _ _ _ (no_upgrade words) (λ e. refl)))))))
+    (no_branch (bytes_eq first (codes "audit")) _ _ _ _ (no_audit words)
+    (no_branch (bytes_eq first (codes "upgrade")) _ _ _ _ (no_upgrade words)
+    (no_branch (bytes_eq first (codes "token")) _ _ _ _ (no_token words) (λ e. refl)))))))))
 
 -- words of another form are no command
 pub no_form : (words : List Text) → has_command_form words ≡ false → command_of words ≡ None

@@ -13,7 +13,7 @@ use Rattle.rail_text.specs.Number.{number_of}
 use Rattle.command_words.specs.Commands.{Command, at_desk, desk_command_of, stress_of}
 use Rattle.command_words.specs.ClapTable.{has_command_form}
 use Rattle.command_words.proofs.Forms.{no_form}
-use Rattle.command_words.specs.ClapReads.{command_read, desk_read, command_line_read, of_both}
+use Rattle.command_words.specs.ClapReads.{command_line_read, command_read, desk_read, of_both, plan_read}
 
 -- ---- the commands of the desk are those that it reads
 
@@ -33,13 +33,18 @@ choose : (b : Bool) (p q : Option Command) → at_desk p ≡ p → at_desk q ≡
 choose true p q e f = e
 choose false p q e f = f
 
-desk_at_desk : (name : Text) (rows : List Row) → at_desk (desk_read name rows) ≡ desk_read name rows
-desk_at_desk name rows =
+plan_at_desk : (name : Text) (rows : List Row) → at_desk (plan_read name rows) ≡ plan_read name rows
+plan_at_desk name rows =
     choose (bytes_eq name (codes "check")) _ _ (one_at_desk Command.Check _ (λ x. refl))
     (choose (bytes_eq name (codes "tables")) _ _ (both_at_desk Command.Tables _ _ (λ x y. refl))
     (choose (bytes_eq name (codes "chart")) _ _ (both_at_desk Command.Chart _ _ (λ x y. refl))
     (choose (bytes_eq name (codes "judge")) _ _ (both_at_desk Command.Judge _ _ (λ x y. refl))
-    (choose (bytes_eq name (codes "upgrade")) _ _ (one_at_desk Command.Upgrade _ (λ x. refl)) refl))))
+    (choose (bytes_eq name (codes "audit")) _ _ (both_at_desk Command.Audit _ _ (λ x y. refl))
+    (choose (bytes_eq name (codes "upgrade")) _ _ (one_at_desk Command.Upgrade _ (λ x. refl)) refl)))))
+
+desk_at_desk : (name : Text) (rows : List Row) → at_desk (desk_read name rows) ≡ desk_read name rows
+desk_at_desk name rows =
+    choose (bytes_eq name (codes "token")) _ _ (one_at_desk Command.Token _ (λ x. refl)) (plan_at_desk name rows)
 
 -- a command that works a line is none of the desk's
 other : (b : Bool) (name first : Text) (rows : List Row) (p q : Option Command) → bytes_eq name first ≡ b

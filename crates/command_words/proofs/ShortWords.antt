@@ -37,6 +37,10 @@ pub upgrade_one : TakesOne (codes "upgrade") (λ plan. Some (Command.Upgrade pla
 unfolding clap_on_literals
 upgrade_one = record { takes = λ b bs h. simp h; reads = λ b bs h. simp h }
 
+pub token_one : TakesOne (codes "token") (λ script. Some (Command.Token script))
+unfolding clap_on_literals
+token_one = record { takes = λ b bs h. simp h; reads = λ b bs h. simp h }
+
 pub tables_two : TakesTwo (codes "tables") (λ plan name. Some (Command.Tables plan name))
 unfolding clap_on_literals
 tables_two = record { takes = λ b bs c cs h k. simp (h, k); reads = λ b bs c cs h k. simp (h, k) }
@@ -48,3 +52,7 @@ chart_two = record { takes = λ b bs c cs h k. simp (h, k); reads = λ b bs c cs
 pub judge_two : TakesTwo (codes "judge") (λ plan journal. Some (Command.Judge plan journal))
 unfolding clap_on_literals
 judge_two = record { takes = λ b bs c cs h k. simp (h, k); reads = λ b bs c cs h k. simp (h, k) }
+
+pub audit_two : TakesTwo (codes "audit") (λ plan journal. Some (Command.Audit plan journal))
+unfolding clap_on_literals
+audit_two = record { takes = λ b bs c cs h k. simp (h, k); reads = λ b bs c cs h k. simp (h, k) }

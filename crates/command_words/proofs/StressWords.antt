@@ -5,8 +5,8 @@ use Rattle.std.specs.Prelude.{◌&&◌, nat_le, option_and_then}
 use Rattle.std.specs.List.{list_all}
 use Rattle.std.proofs.lemmas.Bool.Decides.{nat_tests}
 use Rattle.rail_text.specs.Number.{number_of}
-use Rattle.command_words.specs.Commands.{Command, chart_in, check_in, command_in, command_of, is_plain_word, judge_in}
-use Rattle.command_words.specs.Commands.{run_in, stress_in, stress_of, tables_in, upgrade_in}
+use Rattle.command_words.specs.Commands.{Command, audit_in, chart_in, check_in, command_in, command_of, is_plain_word}
+use Rattle.command_words.specs.Commands.{judge_in, run_in, stress_in, stress_of, tables_in, token_in, upgrade_in}
 
 abbrev IsFew : ℕ → Type 0
 IsFew n = (1 ≤ n) × (n ≤ 200)
@@ -20,7 +20,9 @@ IsOther (Some (Command.Check plan)) = Unit {0}
 IsOther (Some (Command.Tables plan name)) = Unit {0}
 IsOther (Some (Command.Chart plan name)) = Unit {0}
 IsOther (Some (Command.Judge plan journal)) = Unit {0}
+IsOther (Some (Command.Audit plan journal)) = Unit {0}
 IsOther (Some (Command.Upgrade plan)) = Unit {0}
+IsOther (Some (Command.Token script)) = Unit {0}
 
 other : (o : Option Command) (n : ℕ) → IsOther o → o ≡ Some (Command.Stress n) → IsFew n
 other o n h e = absurd (subst IsOther e h)
@@ -53,10 +55,21 @@ judge_other (plan ∷ []) = tt
 judge_other (plan ∷ journal ∷ []) = tt
 judge_other (plan ∷ journal ∷ more ∷ words) = tt
 
+audit_other : (words : List (List ℕ)) → IsOther (audit_in words)
+audit_other [] = tt
+audit_other (plan ∷ []) = tt
+audit_other (plan ∷ journal ∷ []) = tt
+audit_other (plan ∷ journal ∷ more ∷ words) = tt
+
 upgrade_other : (words : List (List ℕ)) → IsOther (upgrade_in words)
 upgrade_other [] = tt
 upgrade_other (plan ∷ []) = tt
 upgrade_other (plan ∷ name ∷ words) = tt
+
+token_other : (words : List (List ℕ)) → IsOther (token_in words)
+token_other [] = tt
+token_other (script ∷ []) = tt
+token_other (script ∷ more ∷ words) = tt
 
 counted_few : (k n : ℕ) → stress_of k ≡ Some (Command.Stress n) → IsFew n
 counted_few k n e = go (nat_le 1 k) (nat_le k 200) refl refl e where
@@ -88,8 +101,10 @@ in_few first words n =
     (either (bytes_eq first (codes "tables")) _ _ n (other (tables_in words) n (tables_other words))
     (either (bytes_eq first (codes "chart")) _ _ n (other (chart_in words) n (chart_other words))
     (either (bytes_eq first (codes "judge")) _ _ n (other (judge_in words) n (judge_other words))
+    (either (bytes_eq first (codes "audit")) _ _ n (other (audit_in words) n (audit_other words))
     (either (bytes_eq first (codes "upgrade")) _ _ n (other (upgrade_in words) n (upgrade_other words))
-    (other None n tt)))))))
+    (either (bytes_eq first (codes "token")) _ _ n (other (token_in words) n (token_other words))
+    (other None n tt)))))))))
 
 -- the words of `stress` name 1 to 200 trains
 pub stress_is_few : (words : List (List ℕ)) (n : ℕ) → command_of words ≡ Some (Command.Stress n) → (1 ≤ n) × (n ≤ 200)

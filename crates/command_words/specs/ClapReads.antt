@@ -18,9 +18,9 @@ run_read rows = of_both Command.Run (first_of (codes "plan") rows) (all_of (code
 abbrev pub stress_read : List Row → Option Command
 stress_read rows = option_and_then (λ word. option_and_then stress_of (number_of word)) (first_of (codes "trains") rows)
 
--- a command of the desk, by its name and its values
-abbrev pub desk_read : Text → List Row → Option Command
-desk_read name rows =
+-- a command of the desk that names a plan, by its name and its values
+abbrev pub plan_read : Text → List Row → Option Command
+plan_read name rows =
     if bytes_eq name (codes "check") then option_map Command.Check (first_of (codes "plan") rows)
     else if bytes_eq name (codes "tables")
     then of_both Command.Tables (first_of (codes "plan") rows) (first_of (codes "box") rows)
@@ -28,8 +28,16 @@ desk_read name rows =
     then of_both Command.Chart (first_of (codes "plan") rows) (first_of (codes "box") rows)
     else if bytes_eq name (codes "judge")
     then of_both Command.Judge (first_of (codes "plan") rows) (first_of (codes "journal") rows)
+    else if bytes_eq name (codes "audit")
+    then of_both Command.Audit (first_of (codes "plan") rows) (first_of (codes "journal") rows)
     else if bytes_eq name (codes "upgrade") then option_map Command.Upgrade (first_of (codes "plan") rows)
     else None
+
+-- a command of the desk, by its name and its values
+abbrev pub desk_read : Text → List Row → Option Command
+desk_read name rows =
+    if bytes_eq name (codes "token") then option_map Command.Token (first_of (codes "script") rows)
+    else plan_read name rows
 
 -- any command, by its name and its values
 abbrev pub command_line_read : Text → List Row → Option Command

@@ -17,7 +17,9 @@ has_word_count first count =
     else if bytes_eq first (codes "tables") then count == 2
     else if bytes_eq first (codes "chart") then count == 2
     else if bytes_eq first (codes "judge") then count == 2
+    else if bytes_eq first (codes "audit") then count == 2
     else if bytes_eq first (codes "upgrade") then count == 1
+    else if bytes_eq first (codes "token") then count == 1
     else false
 
 -- words that clap takes: plain, the first a command, and behind it as many as the command has
@@ -55,7 +57,9 @@ command_named names.Check = one_argument_command (codes "check") (codes "plan")
 command_named names.Tables = two_argument_command (codes "tables") (codes "plan") (codes "box")
 command_named names.Chart = two_argument_command (codes "chart") (codes "plan") (codes "box")
 command_named names.Judge = two_argument_command (codes "judge") (codes "plan") (codes "journal")
+command_named names.Audit = two_argument_command (codes "audit") (codes "plan") (codes "journal")
 command_named names.Upgrade = one_argument_command (codes "upgrade") (codes "plan")
+command_named names.Token = one_argument_command (codes "token") (codes "script")
 
 -- the program; clap is given its words without its own name in front
 abbrev pub program : App
@@ -70,7 +74,8 @@ with_command app name = with_subcommand app (command_named name).top
 -- the names of all commands
 abbrev pub all_names : List CommandName
 all_names =
-    names.Run ∷ names.Stress ∷ names.Check ∷ names.Tables ∷ names.Chart ∷ names.Judge ∷ names.Upgrade ∷ []
+    names.Run ∷ names.Stress ∷ names.Check ∷ names.Tables ∷ names.Chart ∷ names.Judge ∷ names.Audit ∷ names.Upgrade
+    ∷ names.Token ∷ []
 
 -- the program with all its commands
 abbrev pub all_commands : App

@@ -12,7 +12,8 @@ use Rattle.command_words.specs.declared.command.DeskCommand.TheVariants as desk
 -- What the words of a command line ask for, with the names of the texts. Run: a plan's line is worked by the scripts of
 -- its boxes; Stress: the made line of so many trains is worked by its own scripts; Check: a plan is checked; Tables:
 -- the frame of a plan's box is shown, the box by its name; Chart: the locking chart of such a box is shown; Judge: a
--- journal of a plan's line is judged; Upgrade: a plan is put into version 2.
+-- journal of a plan's line is judged; Audit: such a journal is audited; Upgrade: a plan is put into version 2; Token: a
+-- single line with tokens is worked by the calls of a token script.
 pub data Command : Type 0 where
   Run : List ℕ → List (List ℕ) → Command
   Stress : ℕ → Command
@@ -20,7 +21,9 @@ pub data Command : Type 0 where
   Tables : List ℕ → List ℕ → Command
   Chart : List ℕ → List ℕ → Command
   Judge : List ℕ → List ℕ → Command
+  Audit : List ℕ → List ℕ → Command
   Upgrade : List ℕ → Command
+  Token : List ℕ → Command
 
 -- the names of a command's texts, in the order in which they are fetched: text 1, text 2 and so on
 abbrev pub texts_of : Command → List (List ℕ)
@@ -30,7 +33,9 @@ texts_of (Command.Check plan) = plan ∷ []
 texts_of (Command.Tables plan name) = plan ∷ []
 texts_of (Command.Chart plan name) = plan ∷ []
 texts_of (Command.Judge plan journal) = plan ∷ journal ∷ []
+texts_of (Command.Audit plan journal) = plan ∷ journal ∷ []
 texts_of (Command.Upgrade plan) = plan ∷ []
+texts_of (Command.Token script) = script ∷ []
 
 -- ---- which words are a command
 
@@ -82,10 +87,20 @@ abbrev pub judge_in : List (List ℕ) → Option Command
 judge_in (plan ∷ journal ∷ []) = Some (Command.Judge plan journal)
 judge_in words = None
 
+-- `audit PLAN JOURNAL`
+abbrev pub audit_in : List (List ℕ) → Option Command
+audit_in (plan ∷ journal ∷ []) = Some (Command.Audit plan journal)
+audit_in words = None
+
 -- `upgrade PLAN`
 abbrev pub upgrade_in : List (List ℕ) → Option Command
 upgrade_in (plan ∷ []) = Some (Command.Upgrade plan)
 upgrade_in words = None
+
+-- `token SCRIPT`
+abbrev pub token_in : List (List ℕ) → Option Command
+token_in (script ∷ []) = Some (Command.Token script)
+token_in words = None
 
 -- the command of a first word and the words behind it
 abbrev pub command_in : List ℕ → List (List ℕ) → Option Command
@@ -96,7 +111,9 @@ command_in first words =
     else if bytes_eq first (codes "tables") then tables_in words
     else if bytes_eq first (codes "chart") then chart_in words
     else if bytes_eq first (codes "judge") then judge_in words
+    else if bytes_eq first (codes "audit") then audit_in words
     else if bytes_eq first (codes "upgrade") then upgrade_in words
+    else if bytes_eq first (codes "token") then token_in words
     else None
 
 -- the command of these words, if they are of the table
@@ -104,7 +121,7 @@ unfoldable pub command_of : List (List ℕ) → Option Command
 command_of [] = None
 command_of (first ∷ words) = if list_all is_plain_word (first ∷ words) then command_in first words else None
 
--- ---- the desk, which works no line
+-- ---- the desk, which works no line of a plan
 
 -- a command, if the desk serves it: every one but `run` and `stress`
 abbrev pub at_desk : Option Command → Option Command
@@ -115,7 +132,9 @@ at_desk (Some (Command.Check plan)) = Some (Command.Check plan)
 at_desk (Some (Command.Tables plan name)) = Some (Command.Tables plan name)
 at_desk (Some (Command.Chart plan name)) = Some (Command.Chart plan name)
 at_desk (Some (Command.Judge plan journal)) = Some (Command.Judge plan journal)
+at_desk (Some (Command.Audit plan journal)) = Some (Command.Audit plan journal)
 at_desk (Some (Command.Upgrade plan)) = Some (Command.Upgrade plan)
+at_desk (Some (Command.Token script)) = Some (Command.Token script)
 
 -- the command of these words, if the desk serves it
 unfoldable pub desk_command_of : List (List ℕ) → Option Command
@@ -129,7 +148,9 @@ desk_shown (desk.Check plan) = Command.Check plan.now
 desk_shown (desk.Tables plan name) = Command.Tables plan.now name.now
 desk_shown (desk.Chart plan name) = Command.Chart plan.now name.now
 desk_shown (desk.Judge plan journal) = Command.Judge plan.now journal.now
+desk_shown (desk.Audit plan journal) = Command.Audit plan.now journal.now
 desk_shown (desk.Upgrade plan) = Command.Upgrade plan.now
+desk_shown (desk.Token script) = Command.Token script.now
 
 -- any command
 abbrev pub shown : CommandLine → Command

@@ -23,18 +23,22 @@ enum CommandName {
     Tables,
     Chart,
     Judge,
+    Audit,
     Upgrade,
+    Token,
 }
 
 // The names of all commands.
-const ALL_NAMES: [CommandName; 7] = [
+const ALL_NAMES: [CommandName; 9] = [
     CommandName::Run,
     CommandName::Stress,
     CommandName::Check,
     CommandName::Tables,
     CommandName::Chart,
     CommandName::Judge,
+    CommandName::Audit,
     CommandName::Upgrade,
+    CommandName::Token,
 ];
 
 // An argument that is required.
@@ -105,7 +109,9 @@ fn command_named<'a>(alloc: Global, name: CommandName) -> Result<Command<'a>, Al
         CommandName::Tables => two_argument_command(alloc, "tables", "plan", "box"),
         CommandName::Chart => two_argument_command(alloc, "chart", "plan", "box"),
         CommandName::Judge => two_argument_command(alloc, "judge", "plan", "journal"),
+        CommandName::Audit => two_argument_command(alloc, "audit", "plan", "journal"),
         CommandName::Upgrade => one_argument_command(alloc, "upgrade", "plan"),
+        CommandName::Token => one_argument_command(alloc, "token", "script"),
     }
 }
 

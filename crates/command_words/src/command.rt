@@ -6,7 +6,8 @@ ghost use Rattle.std.specs.Option.{option_map};
 ghost use Rattle.clap.specs.Words.{found_of, rows_of, subcommand_rows_of};
 ghost use Rattle.command_words.specs.Commands.{bytes_of, command_of, desk_command_of, desk_shown, is_plain_word, shown};
 ghost use Rattle.command_words.specs.ClapTable.{has_word_count, has_command_form};
-ghost use Rattle.command_words.specs.ClapReads.{command_read, desk_read, command_line_read, run_read, stress_read};
+ghost use Rattle.command_words.specs.ClapReads.{command_line_read, command_read, desk_read, plan_read, run_read};
+ghost use Rattle.command_words.specs.ClapReads.{stress_read};
 
 use crate::clap_words::matches_of;
 use clap::ArgMatches;
@@ -16,7 +17,7 @@ use std::alloc::Global;
 /// The most trains of a made line.
 pub const MOST_MADE_TRAINS: u32 = 200;
 
-/// A command that the desk serves: it works no line.
+/// A command that the desk serves: it works no line of a plan.
 #[derive(Clone, Copy, Debug)]
 pub enum DeskCommand<'a> {
     /// `check PLAN`: a plan is checked.
@@ -27,8 +28,12 @@ pub enum DeskCommand<'a> {
     Chart { plan: &'a str, box_name: &'a str },
     /// `judge PLAN JOURNAL`: a journal of the plan's line is judged.
     Judge { plan: &'a str, journal: &'a str },
+    /// `audit PLAN JOURNAL`: a journal of the plan's line is audited.
+    Audit { plan: &'a str, journal: &'a str },
     /// `upgrade PLAN`: a plan is put into version 2.
     Upgrade { plan: &'a str },
+    /// `token SCRIPT`: a single line with tokens is worked by the calls of a token script.
+    Token { script: &'a str },
 }
 
 /// What the words of a command line ask for, with the names of the texts.
@@ -69,8 +74,8 @@ fn has_word_count(first: &str, count: usize) -> bool
 {
     match first {
         "run" => count >= 2,
-        "tables" | "chart" | "judge" => count == 2,
-        "stress" | "check" | "upgrade" => count == 1,
+        "tables" | "chart" | "judge" | "audit" => count == 2,
+        "stress" | "check" | "upgrade" | "token" => count == 1,
         _ => false,
     }
 }
@@ -112,10 +117,10 @@ fn read_stress<'a>(found: &ArgMatches<'a>) -> Option<CommandLine<'a>>
     }
 }
 
-// A command of the desk, by its name and what clap found.
+// A command of the desk that names a plan, by its name and what clap found.
 #[tactic(auto, using(crate::proofs::MatchRules::match_rules))]
-fn read_desk<'a>(name: &str, found: &ArgMatches<'a>) -> Option<DeskCommand<'a>>
-    ensures { option_map desk_shown result ≡ desk_read name.now (rows_of (found_of found.now)) }
+fn read_plan<'a>(name: &str, found: &ArgMatches<'a>) -> Option<DeskCommand<'a>>
+    ensures { option_map desk_shown result ≡ plan_read name.now (rows_of (found_of found.now)) }
 {
     let plan = found.get_str("plan")?;
     match name {
@@ -132,8 +137,26 @@ fn read_desk<'a>(name: &str, found: &ArgMatches<'a>) -> Option<DeskCommand<'a>>
             let journal = found.get_str("journal")?;
             Some(DeskCommand::Judge { plan, journal })
         }
+        "audit" => {
+            let journal = found.get_str("journal")?;
+            Some(DeskCommand::Audit { plan, journal })
+        }
         "upgrade" => Some(DeskCommand::Upgrade { plan }),
         _ => None,
+    }
+}
+
+// A command of the desk, by its name and what clap found.
+#[tactic(auto, using(crate::proofs::MatchRules::match_rules))]
+fn read_desk<'a>(name: &str, found: &ArgMatches<'a>) -> Option<DeskCommand<'a>>
+    ensures { option_map desk_shown result ≡ desk_read name.now (rows_of (found_of found.now)) }
+{
+    match name {
+        "token" => {
+            let script = found.get_str("script")?;
+            Some(DeskCommand::Token { script })
+        }
+        _ => read_plan(name, found),
     }
 }
 
@@ -155,7 +178,8 @@ fn read_command_line<'a>(
 
 /// The command of these words, if they are of the table: `run PLAN SCRIPT..`, with one script or
 /// more, `stress N`, with N from 1 to 200, `check PLAN`, `tables PLAN BOX`, `chart PLAN BOX`,
-/// `judge PLAN JOURNAL` or `upgrade PLAN`. No word is empty or begins with `-`.
+/// `judge PLAN JOURNAL`, `audit PLAN JOURNAL`, `upgrade PLAN` or `token SCRIPT`. No word is empty or
+/// begins with `-`.
 #[tactic(auto, using(crate::proofs::FoundCommands::command_rules))]
 pub fn command_of<'a>(
     alloc: Global,

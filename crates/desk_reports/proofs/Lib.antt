@@ -1,2 +1,4 @@
 pub mod Cases
 pub mod PlanReports
+pub mod Audited
+pub mod Worked

@@ -204,6 +204,22 @@ pub fn work_behind<R: Threads + Wait + Sync, G: Gate>(
     Ok(Answer { status, taken })
 }
 
+/// The same, and gives what the sink has taken.
+pub fn output_behind<R: Threads + Wait + Sync, G: Gate>(
+    rt: &R,
+    alloc: Global,
+    words: &[&str],
+    texts: &[&[u8]],
+    outside: Outside,
+    gate: &G,
+) -> Result<(Status, Vec<u8>), NoMemory> {
+    let mut desk = desk_of(alloc, words, texts, outside)?;
+    let status = box_top(rt, alloc, &desk.words, &mut desk.shelf, &mut desk.out, gate);
+    let output = desk.out.taken().to_vec(alloc);
+    drop(desk);
+    Ok((status, output?))
+}
+
 /// The same at the desk alone, where no call fails and there is ample room.
 pub fn serve_at_desk(
     alloc: Global,

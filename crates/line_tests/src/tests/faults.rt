@@ -131,7 +131,35 @@ type Output = (
     u64,
 );
 
-const OUTPUTS: [Output; 6] = [
+const OUTPUTS: [Output; 10] = [
+    (
+        RUN_TWO,
+        &[TWO_BOXES, ASH_IDLE, BEECH_IDLE],
+        Status::Done,
+        IDLE,
+        12,
+    ),
+    (
+        &["check", "plan"],
+        &[TWO_BOXES],
+        Status::Done,
+        b"findings 0\n",
+        2,
+    ),
+    (
+        &["chart", "plan", "Ash"],
+        &[TWO_BOXES],
+        Status::Done,
+        b"chart Ash\nchannels 0\ncolumn none\n",
+        4,
+    ),
+    (
+        &["upgrade", "plan"],
+        &[TWO_BOXES],
+        Status::Done,
+        b"plan 2\nboxes 2\ndelay 120\nlooks 1000000000\nbox Ash\nbox Beech\nend\n",
+        7,
+    ),
     (
         RUN_TWO,
         &[
@@ -215,7 +243,7 @@ fn failed_puts_leave_whole_puts(rt: HostRuntime) -> Result<(), Fail> {
 #[test]
 fn small_rooms_are_filled(rt: HostRuntime) -> Result<(), Fail> {
     for (words, texts, status, printed, _) in OUTPUTS {
-        for room in [0, 1, 10, 20, printed.len() - 1, printed.len()] {
+        for room in [0, 1, 10, 20, 50, printed.len() - 1, printed.len()] {
             let outside = Outside { room, ..SOUND };
             let answer = work_behind(&rt, rt.alloc(), words, texts, outside, &OpenGate, printed)?;
             agrees(&rt, words, room as u64, answer.fills(room, status, printed));

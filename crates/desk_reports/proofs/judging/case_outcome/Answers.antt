@@ -3,7 +3,7 @@ use Rattle.desk_reports.proofs.Cases.{case_fault, case_stop}
 use Rattle.text_fetch.proofs.Gathering.{stops_first}
 use Rattle.text_fetch.proofs.RunInputs.{same_stop}
 use Rattle.desk_reports.specs.Judgements.{case_told}
-use Rattle.desk_reports.proofs.judging.judge_outcome.Goals as goal
+use Rattle.desk_reports.proofs.judging.case_outcome.Goals as goal
 
 pub returns-in-Err-clause-told : goal.returns-in-Err-clause-told
 returns-in-Err-clause-told g c =
