@@ -1,4 +1,4 @@
-.PHONY: demo build cases test
+.PHONY: demo build cases bench soak faults edge test
 
 example = run data/example.plan data/ash.script data/beech.script data/cedar.script
 
@@ -14,6 +14,24 @@ build:
 # minutes in a build that tests each step, so the files named *_limits are left to `make test`.
 cases:
 	cd crates/worked_cases && rt try $$(find data -type f ! -name '*_limits' -printf '--data %p=%p ') -- data
+
+# Times the program that `make build` leaves on large inputs, which are made first, beside any other program of the same
+# commands: make bench BESIDE="PROGRAM..". It takes some minutes, and wants a quiet machine.
+bench:
+	python3 bench/times.py $(BESIDE) crates/box_main/out/box_main
+
+# Three that try the program that `make build` leaves: it works made lines for MINUTES, with bad signalmen; each allocation
+# is refused in turn; bad files, outputs and words. Each stops with status 0 where it found nothing.
+MINUTES = 10
+
+soak:
+	python3 hostile/soak.py crates/box_main/out/box_main $(MINUTES)
+
+faults:
+	python3 hostile/faults.py crates/box_main/out/box_main
+
+edge:
+	python3 hostile/edge.py crates/box_main/out/box_main
 
 # The gate: every proof, the must-fail edits, the tests, and the program as two compilers make it.
 test:
