@@ -149,11 +149,14 @@ impl Table {
         self.named_holder(positions, lever).map(|holder| holder.row)
     }
 
-    /// The holder as `holder` gives it, with the lever that its row names.
+    /// The holder as `holder` gives it, with the lever that its row names: `None` exactly where every row lets the lever
+    /// move.
+    #[tactic(auto, using(crate::proofs::Holding::holder_rules))]
     pub fn named_holder(&self, positions: &[End], lever: u32) -> Option<Holder>
         requires lever { IsLever (length positions.now) lever }
         requires rows { All (RowFits (length positions.now)) self.now }
-        ensures { result ≡ holder_of positions.now lever self.now }
+        ensures holder { result ≡ holder_of positions.now lever self.now }
+        ensures free { IsNone result ↔ MayMove positions.now lever self.now }
     {
         first_holder(&self.rows, positions, lever)
     }
