@@ -16,6 +16,5 @@ pub mod MostTrains
 pub mod PairsHeld
 pub mod PairTexts
 pub mod Verdicts
-pub mod Memory
 pub mod NoneSkipped
 pub mod PrintedJournals

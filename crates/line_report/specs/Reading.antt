@@ -13,8 +13,6 @@ use Rattle.rail_text.specs.declared.cause.Cause.{Cause}
 use Rattle.rail_text.specs.declared.cause.Cause.TheVariants as causes
 use Rattle.rail_text.specs.declared.cause.ReadError.{ReadError}
 use Rattle.rail_text.specs.declared.cause.ReadError.TheVariants as errors
-use Rattle.rail_text.specs.declared.line_fault.LineFault.{LineFault}
-use Rattle.rail_text.specs.declared.line_fault.LineFault.TheVariants as faults
 use Rattle.line_plan.specs.Plans.{PlanFields, names_of}
 use Rattle.line_law.specs.declared.call.Act.{Act}
 use Rattle.line_law.specs.declared.call.Call.{Call}
@@ -122,12 +120,6 @@ unfoldable pub line_onto : DraftFields → Line → Result DraftFields Cause
 line_onto draft line = do
   form ← form_of false line
   stage_onto draft.stage draft (words_of line.text)
-
--- Want of memory is told only of a line that has no fault, and leaves what is read as it was.
-abbrev pub RunsOut : DraftFields → DraftFields → Result (Unit {0}) LineFault → Result DraftFields Cause → Type 0
-RunsOut old new (Ok done) read = Unit {0}
-RunsOut old new (Err (faults.Cause cause)) read = Unit {0}
-RunsOut old new (Err faults.NoMemory) read = IsOk read × (new ≡ old)
 
 -- `end` has stood
 abbrev pub has_ended : Stage → Bool

@@ -1,20 +1,19 @@
 //! The printed journal.
 
-ghost use Rattle.std.specs.Prelude.{◌≡◌, ◌++◌, All, IfOk, OnOk, string_bytes};
+ghost use Rattle.std.specs.Prelude.{◌≡◌, ◌++◌, All, IfOk, OnErr, OnOk, string_bytes};
 ghost use Rattle.script_text.specs.Entries.{IsSpelled};
 ghost use Rattle.line_report.specs.Journals.{entry_text, entries_text, journal_text};
 
 use line_law::{Entry, Journal};
 use line_plan::Plan;
 use rail_text::NoMemory;
-use script_text::put_told;
+use script_text::{put_text, put_told};
 use std::alloc::{AllocError, Global};
 use std::fmt::Write;
 
-/// Puts an entry's line behind a text: its number, its box, the moment and the call, `->` and the reply, as in
-/// `2 Ash 10:00 ring down 4 -> bell_busy 1 1`. Where memory runs out a part of the line may stand behind the text.
+// Puts an entry's line behind a text that is being made. Where memory runs out a part of the line may stand behind it.
 #[tactic(auto, unfolding(crate::specs::Journals::entry_text))]
-pub fn put_entry(
+pub(crate) fn put_line(
     out: &mut String,
     plan: &Plan,
     number: usize,
@@ -30,21 +29,37 @@ pub fn put_entry(
     out.push_str("\n")
 }
 
+/// Puts an entry's line behind a text: its number, its box, the moment and the call, `->` and the reply, as in
+/// `2 Ash 10:00 ring down 4 -> bell_busy 1 1`. Where memory runs out the text is as it was.
+pub fn put_entry(
+    out: &mut String,
+    plan: &Plan,
+    number: usize,
+    entry: &Entry,
+) -> Result<(), AllocError>
+    requires { IsSpelled plan.now entry.now }
+    ensures put { OnOk result (string_bytes out.new ≡ string_bytes out.old ++ entry_text plan.now number entry.now) }
+    ensures kept { OnErr result (string_bytes out.new ≡ string_bytes out.old) }
+{
+    let mut line = String::new(*out.allocator());
+    put_line(&mut line, plan, number, entry)?;
+    put_text(out, line)
+}
+
 // The lines of all entries, numbered from 1.
 fn put_entries(out: &mut String, plan: &Plan, entries: &[Entry]) -> Result<(), AllocError>
     requires { All (IsSpelled plan.now) entries.now }
     ensures { OnOk result (string_bytes out.new ≡ string_bytes out.old ++ entries_text plan.now 1 entries.now) }
 {
     for (place, entry) in entries.iter().enumerate() {
-        put_entry(out, plan, place + 1, entry)?;
+        put_line(out, plan, place + 1, entry)?;
     }
     Ok(())
 }
 
-/// Puts the whole journal behind a text, from its first line to its end. Each entry is one that the line can spell.
-/// Where memory runs out a part may stand behind the text.
+// The whole journal, from its first line to its end.
 #[tactic(auto, unfolding(crate::specs::Journals::journal_text))]
-pub fn put_journal(out: &mut String, plan: &Plan, journal: &Journal) -> Result<(), AllocError>
+fn put_lines(out: &mut String, plan: &Plan, journal: &Journal) -> Result<(), AllocError>
     requires { All (IsSpelled plan.now) journal.now.entries }
     ensures { OnOk result (string_bytes out.new ≡ string_bytes out.old ++ journal_text plan.now journal.now.entries) }
 {
@@ -52,6 +67,19 @@ pub fn put_journal(out: &mut String, plan: &Plan, journal: &Journal) -> Result<(
     write!(out, "journal {version}\n")?;
     put_entries(out, plan, journal.entries.as_slice())?;
     out.push_str("end\n")
+}
+
+/// Puts the whole journal behind a text, from its first line to its end. Each entry is one that the line can spell.
+/// Where memory runs out the text is as it was.
+pub fn put_journal(out: &mut String, plan: &Plan, journal: &Journal) -> Result<(), AllocError>
+    requires { All (IsSpelled plan.now) journal.now.entries }
+    ensures put { OnOk result
+        (string_bytes out.new ≡ string_bytes out.old ++ journal_text plan.now journal.now.entries) }
+    ensures kept { OnErr result (string_bytes out.new ≡ string_bytes out.old) }
+{
+    let mut lines = String::new(*out.allocator());
+    put_lines(&mut lines, plan, journal)?;
+    put_text(out, lines)
 }
 
 /// The journal of a line as it is printed: `journal` and the plan's version, a line for each entry, numbered from 1,
@@ -62,6 +90,6 @@ pub fn print_journal(alloc: Global, plan: &Plan, journal: &Journal) -> Result<Ve
     ensures { IfOk result (λ text. text.items ≡ journal_text plan.now journal.now.entries) }
 {
     let mut out = String::new(alloc);
-    put_journal(&mut out, plan, journal)?;
+    put_lines(&mut out, plan, journal)?;
     Ok(out.into_bytes())
 }

@@ -45,7 +45,8 @@ impl<'a> JournalDraft<'a> {
     ghost use Rattle.rail_text.specs.Gives.{GivesLine, TakesNoMemory};
     ghost use Rattle.line_report.specs.Drafts.{start};
     ghost use Rattle.line_report.specs.Reading.{end_onto, entry_in, entry_onto, has_ended, heading_onto, line_onto};
-    ghost use Rattle.line_report.specs.Reading.{RunsOut, stage_onto};
+    ghost use Rattle.line_report.specs.Reading.{stage_onto};
+    ghost use Rattle.script_text.specs.Memory.{RunsOut};
 
     /// Nothing is read.
     pub fn new(alloc: Global, plan: &'a Plan) -> Result<JournalDraft<'a>, NoMemory>
@@ -116,7 +117,7 @@ impl<'a> JournalDraft<'a> {
     }
 
     // The words of a line.
-    #[tactic(auto, using(crate::proofs::Memory::memory_rules), unfolding(crate::specs::Reading::stage_onto))]
+    #[tactic(auto, using(script_text::proofs::Memory::memory_rules), unfolding(crate::specs::Reading::stage_onto))]
     fn words_line(&mut self, words: &LineWords<'_>) -> Result<(), LineFault>
         ensures gives { GivesLine (λ _. self.new) result (stage_onto self.old.stage self.old words.now) }
         ensures memory { RunsOut self.old self.new result (stage_onto self.old.stage self.old words.now) }

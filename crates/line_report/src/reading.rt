@@ -1,6 +1,6 @@
 //! The journal that a text spells.
 
-ghost use Rattle.std.specs.Prelude.{◌≡◌, ◌<◌, ◌+◌, ◌^◌, ℕ, List, All, Ok, IfOk, IsErrOf, length};
+ghost use Rattle.std.specs.Prelude.{◌≡◌, ◌<◌, ◌≤◌, ◌+◌, ◌^◌, ℕ, List, All, Ok, IfOk, IsErrOf, length};
 ghost use Rattle.rail_text.specs.Gives.{GivesText};
 ghost use Rattle.rail_text.specs.Lines.{lines_of};
 ghost use Rattle.rail_text.specs.declared.cause.Cause.{Cause};
@@ -57,6 +57,7 @@ fn read_lines(draft: &mut JournalDraft<'_>, bytes: &[u8]) -> Result<(), ReadErro
 fn journal_of(alloc: Global, plan: &Plan, bytes: &[u8]) -> Result<Journal, ReadError>
     ensures exact { GivesText (λ journal. journal.entries) result (journal_of plan.now bytes.now) }
     ensures plan { IsPlan plan.now }
+    ensures memory { IsErrOf result ReadError.NoMemory → length bytes.now ≤ most_journal_bytes plan.now.version }
 {
     if bytes.len() > most_journal_bytes(plan.version) {
         return Err(text_error(0, Cause::TooLong));
@@ -80,6 +81,7 @@ pub fn read_journal(alloc: Global, plan: &Plan, bytes: &[u8]) -> Result<Journal,
     ensures spelled { IfOk result (λ journal. SpellsJournal plan.now bytes.now journal.entries) }
     ensures refused { (line : ℕ) (cause : Cause) → IsErrOf result (ReadError.Refused line cause) → (es : List Entry)
         → ¬ SpellsJournal plan.now bytes.now es }
+    ensures memory { IsErrOf result ReadError.NoMemory → length bytes.now ≤ most_journal_bytes plan.now.version }
 {
     journal_of(alloc, plan, bytes)
 }

@@ -1,12 +1,13 @@
 //! The refused calls of a journal.
 
-ghost use Rattle.std.specs.Prelude.{◌≡◌, ◌++◌, All, OnOk, string_bytes};
+ghost use Rattle.std.specs.Prelude.{◌≡◌, ◌++◌, All, OnErr, OnOk, string_bytes};
 ghost use Rattle.script_text.specs.Entries.{IsSpelled};
 ghost use Rattle.line_report.specs.Refusals.{refusals_text, refused_count, refused_entries, refused_entry};
 
-use crate::journal::put_entry;
+use crate::journal::put_line;
 use line_law::{Entry, Journal, is_refused};
 use line_plan::Plan;
+use script_text::put_text;
 use std::alloc::AllocError;
 use std::fmt::Write;
 
@@ -31,7 +32,7 @@ fn put_refused(
     ensures { OnOk result (string_bytes out.new ≡ string_bytes out.old ++ refused_entry plan.now number entry.now) }
 {
     if is_refused(&entry.reply) {
-        put_entry(out, plan, number, entry)?;
+        put_line(out, plan, number, entry)?;
     }
     Ok(())
 }
@@ -47,16 +48,27 @@ fn put_refused_entries(out: &mut String, plan: &Plan, entries: &[Entry]) -> Resu
     Ok(())
 }
 
-/// Puts the refused calls of a journal behind a text: `refusals` and how many there are, and the journal's line of
-/// each, with its number in the journal. Each entry is one that the line can spell, as `is_spelled` tells. Where memory
-/// runs out a part may stand behind the text.
+// How many calls of a journal are refused, and the journal's line of each.
 #[tactic(auto, unfolding(crate::specs::Refusals::refusals_text))]
-pub fn put_refusals(out: &mut String, plan: &Plan, journal: &Journal) -> Result<(), AllocError>
-    requires { All (IsSpelled plan.now) journal.now.entries }
-    ensures { OnOk result (string_bytes out.new ≡ string_bytes out.old ++ refusals_text plan.now journal.now.entries) }
+fn put_lines(out: &mut String, plan: &Plan, entries: &[Entry]) -> Result<(), AllocError>
+    requires { All (IsSpelled plan.now) entries.now }
+    ensures { OnOk result (string_bytes out.new ≡ string_bytes out.old ++ refusals_text plan.now entries.now) }
 {
-    let entries = journal.entries.as_slice();
     let count = refused_count(entries);
     write!(out, "refusals {count}\n")?;
     put_refused_entries(out, plan, entries)
+}
+
+/// Puts the refused calls of a journal behind a text: `refusals` and how many there are, and the journal's line of
+/// each, with its number in the journal. Each entry is one that the line can spell, as `is_spelled` tells. Where memory
+/// runs out the text is as it was.
+pub fn put_refusals(out: &mut String, plan: &Plan, journal: &Journal) -> Result<(), AllocError>
+    requires { All (IsSpelled plan.now) journal.now.entries }
+    ensures put { OnOk result
+        (string_bytes out.new ≡ string_bytes out.old ++ refusals_text plan.now journal.now.entries) }
+    ensures kept { OnErr result (string_bytes out.new ≡ string_bytes out.old) }
+{
+    let mut lines = String::new(*out.allocator());
+    put_lines(&mut lines, plan, journal.entries.as_slice())?;
+    put_text(out, lines)
 }

@@ -1,7 +1,7 @@
 //! The most trains that each section of a line held.
 
 ghost use Rattle.std.specs.Prelude.{◌≡◌, ◌+◌, ◌++◌, ◌∷◌, ◌<◌, ◌≤◌, ◌^◌, ℕ, IfOk, OnOk, length, replicate};
-ghost use Rattle.std.specs.Prelude.{string_bytes};
+ghost use Rattle.std.specs.Prelude.{IsOk, OnErr, string_bytes};
 ghost use Rattle.line_plan.specs.Plans.{box_name};
 ghost use Rattle.line_plan.specs.Sections.{IsSection, advance_of, limit_of};
 ghost use Rattle.line_law.specs.History.{IsLegal};
@@ -18,13 +18,13 @@ use block_words::Way;
 use line_law::{Act, ByWay, Entry, Journal, Reply, starter_way};
 use line_plan::{Plan, Section};
 use rail_text::NoMemory;
-use script_text::way_word;
+use script_text::{put_text, way_word};
 use std::alloc::{AllocError, Global};
 use std::fmt::Write;
 
 /// The most trains that a section held: after any of the entries of a legal journal, or before them all. There are
 /// fewer than 2^32 entries. Where the journal is clean for the section, that is no more than the section may hold. The
-/// replies tell when the section gains or loses a train, so that no memory is taken.
+/// replies tell when the section gains or loses a train, so that no memory is taken, and never told to have run out.
 #[tactic(auto, using(crate::proofs::MostTrains::one_train_reaches))]
 pub fn most_trains(
     _alloc: Global,
@@ -38,6 +38,7 @@ pub fn most_trains(
     ensures most { IfOk result (λ most. most ≡ most_of plan.now journal.now.entries section) }
     ensures clean { IsClean plan.now section journal.now.entries
         → IfOk result (λ most. most ≤ limit_of plan.now section) }
+    ensures memory { IsOk result }
 {
     plan.meets_conditions();
     Ok(most_in(plan, journal.entries.as_slice(), section))
@@ -339,7 +340,7 @@ fn put_pairs(out: &mut String, plan: &Plan, trains: &[ByWay<HeldTrains>]) -> Res
 
 /// Puts the lines of all sections behind a text: for each pair of neighbours in order that of the down line, and then
 /// that of the up line, each with the most trains that the section held after any of the entries of a legal journal, or
-/// before them all. There are fewer than 2^32 entries. Where memory runs out a part may stand behind the text.
+/// before them all. There are fewer than 2^32 entries. Where memory runs out the text is as it was.
 #[tactic(auto, using(crate::proofs::PairTexts::all_pairs))]
 pub fn put_sections(
     out: &mut String,
@@ -349,9 +350,13 @@ pub fn put_sections(
 ) -> Result<(), NoMemory>
     requires legal { IsLegal plan.now journal.now.entries }
     requires few { AreFewEntries journal.now.entries }
-    ensures { OnOk result (string_bytes out.new ≡ string_bytes out.old ++ sections_text plan.now journal.now.entries) }
+    ensures put { OnOk result
+        (string_bytes out.new ≡ string_bytes out.old ++ sections_text plan.now journal.now.entries) }
+    ensures kept { OnErr result (string_bytes out.new ≡ string_bytes out.old) }
 {
     let trains = most_by_pairs(alloc, plan, journal.entries.as_slice())?;
-    put_pairs(out, plan, &trains)?;
+    let mut lines = String::new(alloc);
+    put_pairs(&mut lines, plan, &trains)?;
+    put_text(out, lines)?;
     Ok(())
 }

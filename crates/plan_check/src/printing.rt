@@ -1,6 +1,6 @@
 //! The findings on a plan as they are printed.
 
-ghost use Rattle.std.specs.Prelude.{◌≡◌, ◌<◌, ◌++◌, ◌∷◌, All, IfOk, OnOk, length, string_bytes};
+ghost use Rattle.std.specs.Prelude.{◌≡◌, ◌<◌, ◌++◌, ◌∷◌, All, IfOk, OnErr, OnOk, length, string_bytes};
 ghost use Rattle.std.specs.List.{flat_map};
 ghost use Rattle.line_plan.specs.Plans.{box_name};
 ghost use Rattle.line_plan.specs.Ways.{way_word};
@@ -108,16 +108,27 @@ fn put_lines(out: &mut String, plan: &Plan, findings: &[Finding]) -> Result<(), 
     Ok(())
 }
 
-/// Puts the findings on a plan behind a text: `findings` and how many there are, then a line for each. The line has the
-/// boxes and the sections that they name. Where memory runs out a part may stand behind the text.
+// How many findings there are, and the line of each.
 #[tactic(auto, unfolding(crate::specs::Texts::findings_text))]
-pub fn put_findings(out: &mut String, plan: &Plan, findings: &[Finding]) -> Result<(), AllocError>
+fn put_counted(out: &mut String, plan: &Plan, findings: &[Finding]) -> Result<(), AllocError>
     requires { All (IsOfPlan plan.now) findings.now }
     ensures { OnOk result (string_bytes out.new ≡ string_bytes out.old ++ findings_text plan.now findings.now) }
 {
     let count = findings.len();
     write!(out, "findings {count}\n")?;
     put_lines(out, plan, findings)
+}
+
+/// Puts the findings on a plan behind a text: `findings` and how many there are, then a line for each. The line has the
+/// boxes and the sections that they name. Where memory runs out the text is as it was.
+pub fn put_findings(out: &mut String, plan: &Plan, findings: &[Finding]) -> Result<(), AllocError>
+    requires { All (IsOfPlan plan.now) findings.now }
+    ensures put { OnOk result (string_bytes out.new ≡ string_bytes out.old ++ findings_text plan.now findings.now) }
+    ensures kept { OnErr result (string_bytes out.new ≡ string_bytes out.old) }
+{
+    let mut lines = String::new(*out.allocator());
+    put_counted(&mut lines, plan, findings)?;
+    out.push_str(lines.as_str())
 }
 
 /// The findings on a plan as they are printed: `findings COUNT`, then a line for each, as `box NAME rows R S never let
@@ -129,6 +140,6 @@ pub fn print_findings(alloc: Global, plan: &Plan, findings: &[Finding]) -> Resul
     ensures { IfOk result (λ text. text.items ≡ findings_text plan.now findings.now) }
 {
     let mut out = String::new(alloc);
-    put_findings(&mut out, plan, findings)?;
+    put_counted(&mut out, plan, findings)?;
     Ok(out.into_bytes())
 }

@@ -1,6 +1,8 @@
 mod Behind
 mod PlaceWords
 mod Worked
+mod Differ
+mod Rows
 mod Brought
 mod Longer
 pub mod Following

@@ -1,4 +1,6 @@
 -- Lists that grow.
-use Rattle.std.proofs.lemmas.List.{map-append, length-append}
+use Rattle.std.proofs.lemmas.List.{length-map, map-append, length-append}
 
 pub ruleset growing_rules = (map-append, length-append)
+
+pub ruleset counting_rules = (length-map)

@@ -6,6 +6,8 @@ use Rattle.rail_text.specs.Gives.{◌>>=◌}
 use Rattle.rail_text.specs.Words.{number_in}
 use Rattle.rail_text.specs.declared.cause.Cause.{Cause}
 use Rattle.rail_text.specs.declared.cause.Cause.TheVariants as causes
+use Rattle.rail_text.specs.declared.line_fault.LineFault.{LineFault}
+use Rattle.rail_text.specs.declared.line_fault.LineFault.TheVariants as faults
 use Rattle.block_words.specs.declared.Way.{Way}
 use Rattle.block_words.specs.declared.Way.TheVariants.{Up, Down}
 use Rattle.locking_table.specs.Reading.{row_of}
@@ -199,6 +201,12 @@ row_cause (row_errors.BadRow number) = causes.BadRow
 row_cause row_errors.SameLever = causes.SameLever
 row_cause row_errors.NoMemory = causes.BadRow
 
+-- the same as a line's fault, or that memory ran out
+abbrev pub row_fault : RowError → LineFault
+row_fault (row_errors.BadRow number) = faults.Cause causes.BadRow
+row_fault row_errors.SameLever = faults.Cause causes.SameLever
+row_fault row_errors.NoMemory = faults.NoMemory
+
 -- the row that a text spells
 abbrev pub spelled_row : Result Row RowError → Result Row Cause
 spelled_row (Ok row) = Ok row
@@ -214,10 +222,15 @@ unfoldable pub all_worked : BoxFields → List ℕ → Result (Unit {0}) Cause
 all_worked box_plan [] = Ok tt
 all_worked box_plan (lever ∷ levers) = worked (kind_of box_plan lever) >>= (λ one. all_worked box_plan levers)
 
+-- a row more, whose levers are so
+abbrev pub with_row : BoxFields → Row → Result BoxFields Cause
+with_row box_plan row = do
+  all ← all_worked box_plan (levers_of row)
+  if nat_le most_rows (length box_plan.rows) then Err causes.TooMany
+      else Ok (record box_plan { rows = box_plan.rows ++ row ∷ [] })
+
 -- row, and behind it the text of a row
 unfoldable pub row_onto : BoxFields → List (List ℕ) → Result BoxFields Cause
 row_onto box_plan words = do
   row ← spelled_row (row_of (join_with_byte 32 (drop 1 words)))
-  all ← all_worked box_plan (levers_of row)
-  if nat_le most_rows (length box_plan.rows) then Err causes.TooMany
-      else Ok (record box_plan { rows = box_plan.rows ++ row ∷ [] })
+  with_row box_plan row

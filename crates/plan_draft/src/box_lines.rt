@@ -1,22 +1,25 @@
 //! What the lines of a box make of the box.
 
-ghost use Rattle.std.specs.Prelude.{◌≡◌, ◌<◌, ◌==◌, ◌++◌, [], ◌∷◌, IfOk, bytes_eq, drop, map, is_some, false};
-ghost use Rattle.std.specs.Prelude.{option_map};
+ghost use Rattle.std.specs.Prelude.{◌≡◌, ◌<◌, ◌≤◌, ◌==◌, ◌++◌, [], ◌∷◌, IfOk, OnOk, OnErr, bytes_eq, drop, map};
+ghost use Rattle.std.specs.Prelude.{filter, is_some, false, length, option_map};
 ghost use Rattle.std.specs.List.{join_with_byte, list_any};
-ghost use Rattle.rail_text.specs.Gives.{GivesLine};
+ghost use Rattle.rail_text.specs.Gives.{GivesLine, TakesNoMemory};
 ghost use Rattle.locking_table.specs.Reading.{row_of};
 ghost use Rattle.locking_table.specs.Sound.{IsRow, all_differ, levers_of};
 ghost use Rattle.line_plan.specs.Frames.{begins_at, berth_places, end_places, entered_by, frame_size, homes_of};
-ghost use Rattle.line_plan.specs.Frames.{is_entered, kind_of, place_of, places_of, signal_of};
+ghost use Rattle.line_plan.specs.Frames.{is_entered, kind_of, place_of, signal_of};
 ghost use Rattle.plan_draft.specs.BoxLines.{all_worked, arm_in, berth_at, berth_onto, clear_onto, clearing_in};
 ghost use Rattle.plan_draft.specs.BoxLines.{coming_in, counted_over, leaving_in, lever_onto, new_place, next_number};
 ghost use Rattle.plan_draft.specs.BoxLines.{over_in, permissive_onto, place_onto, row_onto, signal_onto, spelled_row};
-ghost use Rattle.plan_draft.specs.BoxLines.{starter_onto, track_in, track_onto, with_signal, worked};
+ghost use Rattle.plan_draft.specs.BoxLines.{starter_onto, track_in, track_onto, with_row, with_signal, worked};
+ghost use Rattle.plan_draft.specs.BoxLines.{row_fault};
+ghost use Rattle.plan_draft.specs.LineWords.{FaultsFirst};
 
 use crate::line_words::{
-    counted, end_in, kind_in, lever_in, new_name, number_in_names, places_from, way_in, word,
+    counted, end_in, kept, kind_in, lever_in, new_name, number_in_names, places_from, way_in, word,
     working_in,
 };
+use arrayvec::ArrayVec;
 use block_words::Way;
 use line_plan::{
     Berth, BoxPlan, Items, Kind, Lever, MOST_PLACES, MOST_ROWS, Signal, To, TrackLock, comes_in,
@@ -33,6 +36,7 @@ use std::alloc::Global;
 fn new_place<'a>(here: &BoxPlan, word: &'a [u8]) -> Result<&'a str, LineFault>
     ensures gives { GivesLine (λ name. name.now) result (new_place here.now word.now) }
     ensures new { IfOk result (λ name. list_any (bytes_eq name.now) here.now.places ≡ false) }
+    ensures memory { TakesNoMemory result }
 {
     if word == b"away".as_slice() {
         return Err(LineFault::Cause(Cause::BadName));
@@ -45,6 +49,8 @@ fn new_place<'a>(here: &BoxPlan, word: &'a [u8]) -> Result<&'a str, LineFault>
 pub fn place_line(here: &mut BoxPlan, words: &LineWords<'_>) -> Result<(), LineFault>
     ensures gives { GivesLine (λ _. here.new) result (place_onto here.old words.now) }
     ensures name { here.new.name ≡ here.old.name }
+    ensures memory { FaultsFirst result (place_onto here.old words.now) }
+    ensures same { OnErr result (here.new ≡ here.old) }
 {
     counted(words, 2, 2)?;
     let name = new_place(here, word(words, 1))?;
@@ -60,6 +66,7 @@ pub fn place_line(here: &mut BoxPlan, words: &LineWords<'_>) -> Result<(), LineF
 fn next_number(here: &BoxPlan, word: &[u8]) -> Result<u32, LineFault>
     ensures gives { GivesLine (λ number. number) result (next_number here.now word.now) }
     ensures above { IfOk result (λ number. frame_size here.now.levers < number) }
+    ensures memory { TakesNoMemory result }
 {
     let number = number_in(word, 1, MOST_LEVERS)?;
     if here.frame_size() < number {
@@ -74,6 +81,8 @@ fn next_number(here: &BoxPlan, word: &[u8]) -> Result<u32, LineFault>
 pub fn lever_line(alloc: Global, here: &mut BoxPlan, words: &LineWords<'_>) -> Result<(), LineFault>
     ensures gives { GivesLine (λ _. here.new) result (lever_onto here.old words.now) }
     ensures name { here.new.name ≡ here.old.name }
+    ensures memory { FaultsFirst result (lever_onto here.old words.now) }
+    ensures same { OnErr result (here.new ≡ here.old) }
 {
     counted(words, 3, 3)?;
     let number = next_number(here, word(words, 1))?;
@@ -89,6 +98,7 @@ pub fn lever_line(alloc: Global, here: &mut BoxPlan, words: &LineWords<'_>) -> R
 fn arm_in(here: &BoxPlan, word: &[u8]) -> Result<u32, LineFault>
     ensures gives { GivesLine (λ number. number) result (arm_in here.now word.now) }
     ensures free { IfOk result (λ number. is_some (signal_of here.now number) ≡ false) }
+    ensures memory { TakesNoMemory result }
 {
     let lever = lever_in(here, word)?;
     if lever.kind != Kind::Signal {
@@ -102,39 +112,30 @@ fn arm_in(here: &BoxPlan, word: &[u8]) -> Result<u32, LineFault>
 
 // The places behind the word `over`, where the line goes on.
 #[tactic(auto, unfolding(crate::specs::BoxLines::over_in))]
-fn over_in(alloc: Global, here: &BoxPlan, words: &LineWords<'_>) -> Result<Items<u32>, LineFault>
-    ensures { GivesLine (λ places. places) result (over_in here.now words.now) }
+fn over_in(here: &BoxPlan, words: &LineWords<'_>) -> Result<ArrayVec<u32, 8>, LineFault>
+    requires { length words.now ≤ 9 }
+    ensures gives { GivesLine (λ places. places.items) result (over_in here.now words.now) }
+    ensures memory { TakesNoMemory result }
 {
     if words.word_count() == 4 {
-        return Ok(Items::new(alloc));
+        return Ok(ArrayVec::new());
     }
     if word(words, 4) != b"over".as_slice() {
         return Err(LineFault::Cause(Cause::UnknownWord));
     }
-    places_from(alloc, &here.places, words, 5)
+    places_from(&here.places, words, 5)
 }
 
 // Four words, or six to nine.
 fn counted_over(words: &LineWords<'_>) -> Result<(), LineFault>
-    ensures { GivesLine (λ _. tt) result (counted_over words.now) }
+    ensures gives { GivesLine (λ _. tt) result (counted_over words.now) }
+    ensures few { OnOk result (length words.now ≤ 9) }
+    ensures memory { TakesNoMemory result }
 {
     if words.word_count() == 4 {
         return Ok(());
     }
     counted(words, 6, 9)
-}
-
-// The places that a signal's line names.
-fn places_of(alloc: Global, signal: &Signal) -> Result<Vec<u32>, NoMemory>
-    ensures { IfOk result (λ places. places.items ≡ places_of signal.now) }
-{
-    let mut places = Vec::new(alloc);
-    places.push(signal.from)?;
-    places.extend_from_slice(signal.over.as_slice())?;
-    if let To::Place(place) = signal.to {
-        places.push(place)?;
-    }
-    Ok(places)
 }
 
 // Whether the place is among these.
@@ -156,17 +157,46 @@ fn all_differ(places: &[u32]) -> bool
     true
 }
 
+// Whether no two of the places are equal that a signal's line names: where it begins, those over which it runs, and
+// where it ends.
+#[tactic(auto, using(crate::proofs::Differ::differ_rules))]
+fn ends_differ(from: u32, over: &[u32], to: To) -> bool
+    ensures { result ≡ all_differ (from ∷ over.now ++ end_places to) }
+{
+    match to {
+        To::Place(end) => !(from == end || is_among(over, end)) && differ_from(from, over),
+        To::Section(_) | To::Away => differ_from(from, over),
+    }
+}
+
 // A signal more, whose places all differ.
 #[tactic(auto, unfolding(crate::specs::BoxLines::with_signal))]
-fn with_signal(alloc: Global, here: &mut BoxPlan, signal: Signal) -> Result<(), LineFault>
-    requires { is_some (signal_of here.old signal.lever) ≡ false }
-    ensures gives { GivesLine (λ _. here.new) result (with_signal here.old signal) }
+fn with_signal(
+    alloc: Global,
+    here: &mut BoxPlan,
+    lever: u32,
+    from: u32,
+    over: &[u32],
+    to: To,
+) -> Result<(), LineFault>
+    requires { is_some (signal_of here.old lever) ≡ false }
+    ensures gives { GivesLine (λ _. here.new) result
+        (with_signal here.old (record { lever = lever; from = from; over = over.now; to = to })) }
     ensures name { here.new.name ≡ here.old.name }
+    ensures memory { FaultsFirst result
+        (with_signal here.old (record { lever = lever; from = from; over = over.now; to = to })) }
+    ensures same { OnErr result (here.new ≡ here.old) }
 {
-    let places = places_of(alloc, &signal)?;
-    if !all_differ(&places) {
+    if !ends_differ(from, over, to) {
         return Err(LineFault::Cause(Cause::SamePlace));
     }
+    let over = kept(alloc, over)?;
+    let signal = Signal {
+        lever,
+        from,
+        over,
+        to,
+    };
     here.add_signal(alloc, signal)?;
     Ok(())
 }
@@ -180,25 +210,22 @@ pub fn signal_line(
 ) -> Result<(), LineFault>
     ensures gives { GivesLine (λ _. here.new) result (signal_onto here.old words.now) }
     ensures name { here.new.name ≡ here.old.name }
+    ensures memory { FaultsFirst result (signal_onto here.old words.now) }
+    ensures same { OnErr result (here.new ≡ here.old) }
 {
     counted_over(words)?;
     let lever = arm_in(here, word(words, 1))?;
     let from = number_in_names(&here.places, word(words, 2))?;
     let to = end_in(&here.places, word(words, 3))?;
-    let over = over_in(alloc, here, words)?;
-    let signal = Signal {
-        lever,
-        from,
-        over,
-        to,
-    };
-    with_signal(alloc, here, signal)
+    let over = over_in(here, words)?;
+    with_signal(alloc, here, lever, from, over.as_slice(), to)
 }
 
 // An outgoing line of a box to a neighbour, without a starter so far.
 #[tactic(auto, unfolding(crate::specs::BoxLines::leaving_in))]
 fn leaving_in(boxes: u32, box_no: u32, here: &BoxPlan, word: &[u8]) -> Result<Way, LineFault>
-    ensures { GivesLine (λ way. way) result (leaving_in boxes box_no here.now word.now) }
+    ensures gives { GivesLine (λ way. way) result (leaving_in boxes box_no here.now word.now) }
+    ensures memory { TakesNoMemory result }
 {
     let way = way_in(word)?;
     if !leaves(boxes, box_no, way) {
@@ -221,19 +248,15 @@ pub fn starter_line(
 ) -> Result<(), LineFault>
     ensures gives { GivesLine (λ _. here.new) result (starter_onto boxes box_no here.old words.now) }
     ensures name { here.new.name ≡ here.old.name }
+    ensures memory { FaultsFirst result (starter_onto boxes box_no here.old words.now) }
+    ensures same { OnErr result (here.new ≡ here.old) }
 {
     counted_over(words)?;
     let way = leaving_in(boxes, box_no, here, word(words, 1))?;
     let lever = arm_in(here, word(words, 2))?;
     let from = number_in_names(&here.places, word(words, 3))?;
-    let over = over_in(alloc, here, words)?;
-    let signal = Signal {
-        lever,
-        from,
-        over,
-        to: To::Section(way),
-    };
-    with_signal(alloc, here, signal)
+    let over = over_in(here, words)?;
+    with_signal(alloc, here, lever, from, over.as_slice(), To::Section(way))
 }
 
 // ---- berths
@@ -241,7 +264,8 @@ pub fn starter_line(
 // An incoming line of a box from a neighbour, without a berth so far.
 #[tactic(auto, unfolding(crate::specs::BoxLines::coming_in))]
 fn coming_in(boxes: u32, box_no: u32, here: &BoxPlan, word: &[u8]) -> Result<Way, LineFault>
-    ensures { GivesLine (λ way. way) result (coming_in boxes box_no here.now word.now) }
+    ensures gives { GivesLine (λ way. way) result (coming_in boxes box_no here.now word.now) }
+    ensures memory { TakesNoMemory result }
 {
     let way = way_in(word)?;
     if !comes_in(boxes, box_no, way) {
@@ -306,6 +330,17 @@ fn begins_at(here: &BoxPlan, place: u32, lever: Lever) -> bool
     }
 }
 
+// How many signals and starters begin at the place.
+fn home_count(here: &BoxPlan, place: u32) -> usize
+    ensures { result ≡ length (filter (begins_at here.now place) here.now.levers) }
+{
+    here.levers
+        .as_slice()
+        .iter()
+        .filter(|lever| begins_at(here, place, **lever))
+        .count()
+}
+
 // All levers whose signal or starter begins at the place, in lever order.
 fn homes_of(alloc: Global, here: &BoxPlan, place: u32) -> Result<Items<u32>, NoMemory>
     ensures { IfOk result (λ homes. homes ≡ homes_of here.now place) }
@@ -320,9 +355,10 @@ fn homes_of(alloc: Global, here: &BoxPlan, place: u32) -> Result<Items<u32>, NoM
 }
 
 // A place that can be a berth: no berth already, no signal leads into it or over it, and some signal begins there.
-#[tactic(auto, unfolding(crate::specs::BoxLines::berth_at))]
+#[tactic(auto, using(crate::proofs::Longer::counting_rules), unfolding(crate::specs::BoxLines::berth_at))]
 fn berth_at(alloc: Global, here: &BoxPlan, place: u32) -> Result<Berth, LineFault>
-    ensures { GivesLine (λ berth. berth) result (berth_at here.now place) }
+    ensures gives { GivesLine (λ berth. berth) result (berth_at here.now place) }
+    ensures memory { FaultsFirst result (berth_at here.now place) }
 {
     if is_berth(here, place) {
         return Err(LineFault::Cause(Cause::Taken));
@@ -330,10 +366,10 @@ fn berth_at(alloc: Global, here: &BoxPlan, place: u32) -> Result<Berth, LineFaul
     if is_entered(here.signals.as_slice(), place) {
         return Err(LineFault::Cause(Cause::BerthEntered));
     }
-    let homes = homes_of(alloc, here, place)?;
-    if homes.is_empty() {
+    if home_count(here, place) == 0 {
         return Err(LineFault::Cause(Cause::NoHome));
     }
+    let homes = homes_of(alloc, here, place)?;
     Ok(Berth {
         place,
         homes,
@@ -353,6 +389,8 @@ pub fn berth_line(
 ) -> Result<(), LineFault>
     ensures gives { GivesLine (λ _. here.new) result (berth_onto boxes box_no here.old words.now) }
     ensures name { here.new.name ≡ here.old.name }
+    ensures memory { FaultsFirst result (berth_onto boxes box_no here.old words.now) }
+    ensures same { OnErr result (here.new ≡ here.old) }
 {
     counted(words, 3, 3)?;
     let way = coming_in(boxes, box_no, here, word(words, 1))?;
@@ -372,14 +410,15 @@ fn differ_from(berth: u32, places: &[u32]) -> bool
 // Clearing places that differ from each other and from the berth.
 #[tactic(auto, unfolding(crate::specs::BoxLines::clearing_in))]
 fn clearing_in(
-    alloc: Global,
     here: &BoxPlan,
     berth: &Berth,
     words: &LineWords<'_>,
-) -> Result<Items<u32>, LineFault>
-    ensures { GivesLine (λ places. places) result (clearing_in here.now berth.now words.now) }
+) -> Result<ArrayVec<u32, 8>, LineFault>
+    requires { length words.now ≤ 10 }
+    ensures gives { GivesLine (λ places. places.items) result (clearing_in here.now berth.now words.now) }
+    ensures memory { TakesNoMemory result }
 {
-    let places = places_from(alloc, &here.places, words, 2)?;
+    let places = places_from(&here.places, words, 2)?;
     if !differ_from(berth.place, places.as_slice()) {
         return Err(LineFault::Cause(Cause::SamePlace));
     }
@@ -391,6 +430,8 @@ fn clearing_in(
 pub fn clear_line(alloc: Global, here: &mut BoxPlan, words: &LineWords<'_>) -> Result<(), LineFault>
     ensures gives { GivesLine (λ _. here.new) result (clear_onto here.old words.now) }
     ensures name { here.new.name ≡ here.old.name }
+    ensures memory { FaultsFirst result (clear_onto here.old words.now) }
+    ensures same { OnErr result (here.new ≡ here.old) }
 {
     counted(words, 3, 10)?;
     let way = way_in(word(words, 1))?;
@@ -400,7 +441,8 @@ pub fn clear_line(alloc: Global, here: &mut BoxPlan, words: &LineWords<'_>) -> R
     if !berth.clearing.is_empty() {
         return Err(LineFault::Cause(Cause::Taken));
     }
-    let places = clearing_in(alloc, here, berth, words)?;
+    let places = clearing_in(here, berth, words)?;
+    let places = kept(alloc, places.as_slice())?;
     here.set_clearing(way, places);
     Ok(())
 }
@@ -410,6 +452,8 @@ pub fn clear_line(alloc: Global, here: &mut BoxPlan, words: &LineWords<'_>) -> R
 pub fn permissive_line(here: &mut BoxPlan, words: &LineWords<'_>) -> Result<(), LineFault>
     ensures gives { GivesLine (λ _. here.new) result (permissive_onto here.old words.now) }
     ensures name { here.new.name ≡ here.old.name }
+    ensures memory { TakesNoMemory result }
+    ensures same { OnErr result (here.new ≡ here.old) }
 {
     counted(words, 3, 3)?;
     let way = way_in(word(words, 1))?;
@@ -431,6 +475,7 @@ pub fn permissive_line(here: &mut BoxPlan, words: &LineWords<'_>) -> Result<(), 
 fn track_in(here: &BoxPlan, word: &[u8]) -> Result<u32, LineFault>
     ensures gives { GivesLine (λ number. number) result (track_in here.now word.now) }
     ensures free { IfOk result (λ number. list_any (λ track. track.lever == number) here.now.tracks ≡ false) }
+    ensures memory { TakesNoMemory result }
 {
     let lever = working_in(here, word)?;
     if here.has_track(lever) {
@@ -444,13 +489,16 @@ fn track_in(here: &BoxPlan, word: &[u8]) -> Result<u32, LineFault>
 pub fn track_line(alloc: Global, here: &mut BoxPlan, words: &LineWords<'_>) -> Result<(), LineFault>
     ensures gives { GivesLine (λ _. here.new) result (track_onto here.old words.now) }
     ensures name { here.new.name ≡ here.old.name }
+    ensures memory { FaultsFirst result (track_onto here.old words.now) }
+    ensures same { OnErr result (here.new ≡ here.old) }
 {
     counted(words, 3, 10)?;
     let lever = track_in(here, word(words, 1))?;
-    let places = places_from(alloc, &here.places, words, 2)?;
+    let places = places_from(&here.places, words, 2)?;
     if !all_differ(places.as_slice()) {
         return Err(LineFault::Cause(Cause::SamePlace));
     }
+    let places = kept(alloc, places.as_slice())?;
     here.add_track(alloc, TrackLock { lever, places })?;
     Ok(())
 }
@@ -466,22 +514,33 @@ fn rest<'a>(words: &LineWords<'a>) -> &'a [u8]
     }
 }
 
+// Why a text spells no row, or that memory ran out.
+fn row_fault(error: RowError) -> LineFault
+    ensures { result ≡ row_fault error }
+{
+    match error {
+        RowError::BadRow { .. } => LineFault::Cause(Cause::BadRow),
+        RowError::SameLever => LineFault::Cause(Cause::SameLever),
+        RowError::NoMemory => LineFault::NoMemory,
+    }
+}
+
 // The row that a text spells.
+#[tactic(auto, using(crate::proofs::Rows::fault_rules))]
 fn spelled_row(alloc: Global, text: &[u8]) -> Result<Row, LineFault>
     ensures exact { GivesLine (λ row. row) result (spelled_row (row_of text.now)) }
     ensures row { IfOk result IsRow }
 {
     match read_row(alloc, text) {
         Ok(row) => Ok(row),
-        Err(RowError::BadRow { .. }) => Err(LineFault::Cause(Cause::BadRow)),
-        Err(RowError::SameLever) => Err(LineFault::Cause(Cause::SameLever)),
-        Err(RowError::NoMemory) => Err(LineFault::NoMemory),
+        Err(error) => Err(row_fault(error)),
     }
 }
 
 // The lever is of the box, and no spare one.
 fn worked(here: &BoxPlan, lever: u32) -> Result<(), LineFault>
-    ensures { GivesLine (λ _. tt) result (worked (kind_of here.now lever)) }
+    ensures gives { GivesLine (λ _. tt) result (worked (kind_of here.now lever)) }
+    ensures memory { TakesNoMemory result }
 {
     match here.kind(lever) {
         None => Err(LineFault::Cause(Cause::UnknownLever)),
@@ -493,7 +552,8 @@ fn worked(here: &BoxPlan, lever: u32) -> Result<(), LineFault>
 // The levers of these conditions are so.
 #[tactic(auto, unfolding(crate::specs::BoxLines::all_worked))]
 fn conds_worked(here: &BoxPlan, conds: &[Cond]) -> Result<(), LineFault>
-    ensures { GivesLine (λ _. tt) result (all_worked here.now (map (λ cond. cond.lever) conds.now)) }
+    ensures gives { GivesLine (λ _. tt) result (all_worked here.now (map (λ cond. cond.lever) conds.now)) }
+    ensures memory { TakesNoMemory result }
 {
     for cond in conds {
         worked(here, cond.lever)?;
@@ -504,7 +564,8 @@ fn conds_worked(here: &BoxPlan, conds: &[Cond]) -> Result<(), LineFault>
 // This lever and the levers of these conditions are so.
 #[tactic(auto, unfolding(crate::specs::BoxLines::all_worked))]
 fn lever_and_conds_worked(here: &BoxPlan, lever: u32, conds: &[Cond]) -> Result<(), LineFault>
-    ensures { GivesLine (λ _. tt) result (all_worked here.now (lever ∷ map (λ cond. cond.lever) conds.now)) }
+    ensures gives { GivesLine (λ _. tt) result (all_worked here.now (lever ∷ map (λ cond. cond.lever) conds.now)) }
+    ensures memory { TakesNoMemory result }
 {
     worked(here, lever)?;
     conds_worked(here, conds)
@@ -513,23 +574,37 @@ fn lever_and_conds_worked(here: &BoxPlan, lever: u32, conds: &[Cond]) -> Result<
 // The levers of a row are so.
 #[tactic(auto, unfolding(crate::specs::BoxLines::all_worked))]
 fn row_worked(here: &BoxPlan, row: &Row) -> Result<(), LineFault>
-    ensures { GivesLine (λ _. tt) result (all_worked here.now (levers_of row.now)) }
+    ensures gives { GivesLine (λ _. tt) result (all_worked here.now (levers_of row.now)) }
+    ensures memory { TakesNoMemory result }
 {
     worked(here, row.subject)?;
     lever_and_conds_worked(here, row.object, row.when.as_slice())
 }
 
-/// `row`, and behind it the text of a row
-#[tactic(auto, unfolding(crate::specs::BoxLines::row_onto))]
-pub fn row_line(alloc: Global, here: &mut BoxPlan, words: &LineWords<'_>) -> Result<(), LineFault>
-    ensures gives { GivesLine (λ _. here.new) result (row_onto here.old words.now) }
+// A row more, whose levers are so.
+#[tactic(auto, unfolding(crate::specs::BoxLines::with_row))]
+fn with_row(here: &mut BoxPlan, row: Row) -> Result<(), LineFault>
+    requires { IsRow row }
+    ensures gives { GivesLine (λ _. here.new) result (with_row here.old row) }
     ensures name { here.new.name ≡ here.old.name }
+    ensures memory { FaultsFirst result (with_row here.old row) }
+    ensures same { OnErr result (here.new ≡ here.old) }
 {
-    let row = spelled_row(alloc, rest(words))?;
     row_worked(here, &row)?;
     if here.table.len() >= MOST_ROWS {
         return Err(LineFault::Cause(Cause::TooMany));
     }
     here.add_row(row)?;
     Ok(())
+}
+
+/// `row`, and behind it the text of a row. Reading it takes memory.
+#[tactic(auto, unfolding(crate::specs::BoxLines::row_onto))]
+pub fn row_line(alloc: Global, here: &mut BoxPlan, words: &LineWords<'_>) -> Result<(), LineFault>
+    ensures gives { GivesLine (λ _. here.new) result (row_onto here.old words.now) }
+    ensures name { here.new.name ≡ here.old.name }
+    ensures same { OnErr result (here.new ≡ here.old) }
+{
+    let row = spelled_row(alloc, rest(words))?;
+    with_row(here, row)
 }

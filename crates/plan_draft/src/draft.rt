@@ -90,9 +90,9 @@ pub struct PlanDraft {
 }
 
 impl Model for PlanDraft {
-    ghost use Rattle.std.specs.Prelude.{◌≡◌, ◌+◌, ◌≤◌, length};
+    ghost use Rattle.std.specs.Prelude.{◌≡◌, ◌+◌, ◌<◌, ◌≤◌, length, true, vec_len, vec_capacity};
     ghost use Rattle.line_plan.specs.Plans.{names_of, names_of_classes, names_of_trains};
-    ghost use Rattle.plan_draft.specs.Drafts.{DraftFields, boxes_with};
+    ghost use Rattle.plan_draft.specs.Drafts.{DraftFields, boxes_with, in_box};
 
     ghost Value = { DraftFields };
 
@@ -114,12 +114,14 @@ impl Model for PlanDraft {
     ghost invariant = { λ d. (d.class_names ≡ names_of_classes d.classes.items)
         × (d.box_names ≡ names_of (boxes_with d.stage d.boxes.items d.here))
         × (d.train_names ≡ names_of_trains d.trains.items)
-        × (length d.class_names + 6 ≤ length d.codes) };
+        × (length d.class_names + 6 ≤ length d.codes)
+        × (in_box d.stage ≡ true → vec_len d.boxes < vec_capacity d.boxes) };
 }
 
-ghost use Rattle.std.specs.Prelude.{◌≡◌, ◌<◌, ◌+◌, ◌++◌, [], ◌∷◌, length, IfOk, OnErr, None, vec_len, vec_capacity};
+ghost use Rattle.std.specs.Prelude.{◌≡◌, ◌<◌, ◌≤◌, ◌+◌, ◌++◌, [], ◌∷◌, length, true, IfOk, OnErr, None, vec_len};
+ghost use Rattle.std.specs.Prelude.{vec_capacity};
 ghost use Rattle.bell_codes.specs.Table.{code_number, opening_codes};
-ghost use Rattle.plan_draft.specs.Drafts.{boxes_with, opening_classes};
+ghost use Rattle.plan_draft.specs.Drafts.{boxes_with, in_box, opening_classes};
 ghost use Rattle.line_plan.specs.Plans.{opening_names};
 
 // A code more, which is new, and its number.
@@ -185,8 +187,10 @@ fn no_label(alloc: Global) -> Label
 
 // A box whose lines were being read is complete. There is room for it.
 fn put_away(stage: Stage, boxes: &mut Vec<BoxPlan>, here: BoxPlan)
-    requires { vec_len boxes.old < vec_capacity boxes.old }
-    ensures { boxes.new.items ≡ boxes_with stage boxes.old.items here }
+    requires { in_box stage ≡ true → vec_len boxes.old < vec_capacity boxes.old }
+    ensures put { boxes.new.items ≡ boxes_with stage boxes.old.items here }
+    ensures one { vec_len boxes.new ≤ vec_len boxes.old + 1 }
+    ensures room { vec_capacity boxes.new ≡ vec_capacity boxes.old }
 {
     if stage.in_box() {
         boxes.push_reserved(here);
@@ -196,11 +200,12 @@ fn put_away(stage: Stage, boxes: &mut Vec<BoxPlan>, here: BoxPlan)
 }
 
 impl PlanDraft {
-    ghost use Rattle.std.specs.Prelude.{◌≡◌, ◌<◌, nat_le, length, true, false, bytes_eq, OnOk, IfOk, IsTrue};
+    ghost use Rattle.std.specs.Prelude.{◌≡◌, ◌<◌, nat_le, length, true, false, bytes_eq, OnErr, OnOk, IfOk, IsTrue};
     ghost use Rattle.std.specs.List.{list_any};
     ghost use Rattle.rail_text.specs.Gives.{GivesLine};
     ghost use Rattle.line_plan.specs.Plans.{IsPlan, names_of, names_of_classes, names_of_trains, no_box};
     ghost use Rattle.plan_draft.specs.Drafts.{all_boxes, in_box, start};
+    ghost use Rattle.plan_draft.specs.LineWords.{FaultsFirst};
     ghost use Rattle.plan_draft.specs.Reading.{closed, has_ended, is_full, with_class, with_train};
 
     /// Nothing is read.
@@ -256,16 +261,17 @@ impl PlanDraft {
     pub fn add_class(&mut self, name: &str, code: Code) -> Result<(), LineFault>
         requires stage { in_box self.old.stage ≡ false }
         requires name { list_any (bytes_eq name.now) (names_of_classes self.old.plan.classes) ≡ false }
-        ensures { GivesLine (λ _. self.new) result (with_class self.old name.now code) }
+        ensures gives { GivesLine (λ _. self.new) result (with_class self.old name.now code) }
+        ensures memory { FaultsFirst result (with_class self.old name.now code) }
     {
-        let label = label_of(self.alloc, name)?;
-        self.classes.reserve(1)?;
         if self.codes.number_of(code).is_some() {
             return Err(LineFault::Cause(Cause::CodeTwice));
         }
         if self.codes.len() >= CodeTable::MOST {
             return Err(LineFault::Cause(Cause::TooMany));
         }
+        let label = label_of(self.alloc, name)?;
+        self.classes.reserve(1)?;
         let number = add_code(&mut self.codes, code)?;
         add_name(&mut self.class_names, name)?;
         self.classes.push_reserved(Class {
@@ -276,19 +282,20 @@ impl PlanDraft {
         Ok(())
     }
 
-    /// A box more, whose lines are to be read. The box before it is complete.
+    /// A box more, whose lines are to be read. The box before it is complete. There is room for both.
     #[tactic(auto, using(crate::proofs::Longer::growing_rules))]
     pub fn open_box(&mut self, name: &str) -> Result<(), NoMemory>
         requires few { length (all_boxes self.old) < self.old.count }
         requires new { list_any (bytes_eq name.now) (names_of (all_boxes self.old)) ≡ false }
-        ensures { OnOk result (self.new ≡ record self.old {
+        ensures opened { OnOk result (self.new ≡ record self.old {
           stage = Stage.Box;
           plan = record self.old.plan { boxes = all_boxes self.old };
           here = record no_box { name = name.now };
         }) }
+        ensures same { OnErr result (self.new ≡ self.old) }
     {
         let label = label_of(self.alloc, name)?;
-        self.boxes.reserve(1)?;
+        self.boxes.reserve(2)?;
         add_name(&mut self.box_names, name)?;
         let here = mem::replace(&mut self.here, BoxPlan::new(self.alloc, label));
         put_away(self.stage, &mut self.boxes, here);
@@ -298,16 +305,14 @@ impl PlanDraft {
 
     /// All boxes are complete.
     #[tactic(auto, using(crate::proofs::Longer::growing_rules))]
-    pub fn close(&mut self, stage: Stage) -> Result<(), NoMemory>
+    pub fn close(&mut self, stage: Stage)
         requires { in_box stage ≡ false }
-        ensures { OnOk result (self.new ≡ closed stage self.old) }
+        ensures { self.new ≡ closed stage self.old }
     {
-        self.boxes.reserve(1)?;
         let none = BoxPlan::new(self.alloc, no_label(self.alloc));
         let here = mem::replace(&mut self.here, none);
         put_away(self.stage, &mut self.boxes, here);
         self.stage = stage;
-        Ok(())
     }
 
     /// A train more, whose name is new.
@@ -320,7 +325,9 @@ impl PlanDraft {
         place: u32,
     ) -> Result<(), LineFault>
         requires { list_any (bytes_eq name.now) (names_of_trains self.old.plan.trains) ≡ false }
-        ensures { GivesLine (λ _. self.new) result (with_train self.old name.now class_no box_no place) }
+        ensures gives { GivesLine (λ _. self.new) result (with_train self.old name.now class_no box_no place) }
+        ensures memory { FaultsFirst result (with_train self.old name.now class_no box_no place) }
+        ensures same { OnErr result (self.new ≡ self.old) }
     {
         if self.trains.len() >= MOST_PLAN_TRAINS {
             return Err(LineFault::Cause(Cause::TooMany));

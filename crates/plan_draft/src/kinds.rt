@@ -1,7 +1,8 @@
 //! What a line of each kind makes of the plan so far.
 
-ghost use Rattle.std.specs.Prelude.{◌≡◌, false, true};
-ghost use Rattle.rail_text.specs.Gives.{GivesLine};
+ghost use Rattle.std.specs.Prelude.{◌≡◌, ◌≢◌, OnErr, false, true};
+ghost use Rattle.rail_text.specs.Gives.{GivesLine, TakesNoMemory};
+ghost use Rattle.plan_draft.specs.LineWords.{FaultsFirst};
 ghost use Rattle.plan_draft.specs.Drafts.{behind_box, in_box};
 ghost use Rattle.line_plan.specs.Plans.{box_at};
 ghost use Rattle.plan_draft.specs.Reading.{box_onto, box_with, boxes_onto, brought_in, class_onto, delay_onto, end_onto};
@@ -22,7 +23,8 @@ use std::alloc::Global;
 #[tactic(auto, unfolding(crate::specs::Reading::plan_onto))]
 fn plan_line(draft: &mut PlanDraft, words: &LineWords<'_>) -> Result<(), LineFault>
     requires { in_box draft.old.stage ≡ false }
-    ensures { GivesLine (λ _. draft.new) result (plan_onto draft.old words.now) }
+    ensures gives { GivesLine (λ _. draft.new) result (plan_onto draft.old words.now) }
+    ensures memory { TakesNoMemory result }
 {
     counted(words, 2, 2)?;
     let version = number_in(word(words, 1), 1, 2)?;
@@ -35,7 +37,8 @@ fn plan_line(draft: &mut PlanDraft, words: &LineWords<'_>) -> Result<(), LineFau
 #[tactic(auto, unfolding(crate::specs::Reading::boxes_onto))]
 fn boxes_line(draft: &mut PlanDraft, words: &LineWords<'_>) -> Result<(), LineFault>
     requires { in_box draft.old.stage ≡ false }
-    ensures { GivesLine (λ _. draft.new) result (boxes_onto draft.old words.now) }
+    ensures gives { GivesLine (λ _. draft.new) result (boxes_onto draft.old words.now) }
+    ensures memory { TakesNoMemory result }
 {
     counted(words, 2, 2)?;
     draft.count = number_in(word(words, 1), 2, most_boxes(draft.version))?;
@@ -47,7 +50,8 @@ fn boxes_line(draft: &mut PlanDraft, words: &LineWords<'_>) -> Result<(), LineFa
 #[tactic(auto, unfolding(crate::specs::Reading::delay_onto))]
 fn delay_line(draft: &mut PlanDraft, words: &LineWords<'_>) -> Result<(), LineFault>
     requires { in_box draft.old.stage ≡ false }
-    ensures { GivesLine (λ _. draft.new) result (delay_onto draft.old words.now) }
+    ensures gives { GivesLine (λ _. draft.new) result (delay_onto draft.old words.now) }
+    ensures memory { TakesNoMemory result }
 {
     counted(words, 2, 2)?;
     draft.delay = number_in(word(words, 1), 0, most_delay(draft.version))?;
@@ -59,7 +63,8 @@ fn delay_line(draft: &mut PlanDraft, words: &LineWords<'_>) -> Result<(), LineFa
 #[tactic(auto, unfolding(crate::specs::Reading::looks_onto))]
 fn looks_line(draft: &mut PlanDraft, words: &LineWords<'_>) -> Result<(), LineFault>
     requires { in_box draft.old.stage ≡ false }
-    ensures { GivesLine (λ _. draft.new) result (looks_onto draft.old words.now) }
+    ensures gives { GivesLine (λ _. draft.new) result (looks_onto draft.old words.now) }
+    ensures memory { TakesNoMemory result }
 {
     counted(words, 2, 2)?;
     draft.looks = number_in(word(words, 1), 1, MOST_LOOKS)?;
@@ -71,7 +76,8 @@ fn looks_line(draft: &mut PlanDraft, words: &LineWords<'_>) -> Result<(), LineFa
 #[tactic(auto, unfolding(crate::specs::Reading::class_onto))]
 fn class_line(draft: &mut PlanDraft, words: &LineWords<'_>) -> Result<(), LineFault>
     requires { in_box draft.old.stage ≡ false }
-    ensures { GivesLine (λ _. draft.new) result (class_onto draft.old words.now) }
+    ensures gives { GivesLine (λ _. draft.new) result (class_onto draft.old words.now) }
+    ensures memory { FaultsFirst result (class_onto draft.old words.now) }
 {
     counted(words, 3, 3)?;
     let name = new_name(&draft.class_names, word(words, 1))?;
@@ -82,7 +88,9 @@ fn class_line(draft: &mut PlanDraft, words: &LineWords<'_>) -> Result<(), LineFa
 // `box NAME`: first whether all announced boxes stand already, then the name.
 #[tactic(auto, unfolding(crate::specs::Reading::box_onto))]
 fn box_line(draft: &mut PlanDraft, words: &LineWords<'_>) -> Result<(), LineFault>
-    ensures { GivesLine (λ _. draft.new) result (box_onto draft.old words.now) }
+    ensures gives { GivesLine (λ _. draft.new) result (box_onto draft.old words.now) }
+    ensures memory { FaultsFirst result (box_onto draft.old words.now) }
+    ensures same { OnErr result (draft.new ≡ draft.old) }
 {
     counted(words, 2, 2)?;
     if draft.is_full() {
@@ -96,7 +104,8 @@ fn box_line(draft: &mut PlanDraft, words: &LineWords<'_>) -> Result<(), LineFaul
 // A place where a train may be brought: no berth.
 #[tactic(auto, unfolding(crate::specs::Reading::brought_in))]
 fn brought_in(at: &BoxPlan, word: &[u8]) -> Result<u32, LineFault>
-    ensures { GivesLine (λ place. place) result (brought_in at.now word.now) }
+    ensures gives { GivesLine (λ place. place) result (brought_in at.now word.now) }
+    ensures memory { TakesNoMemory result }
 {
     let place = number_in_names(&at.places, word)?;
     if is_berth(at, place) {
@@ -108,7 +117,8 @@ fn brought_in(at: &BoxPlan, word: &[u8]) -> Result<u32, LineFault>
 // A place of the box with this number where a train may be brought.
 #[tactic(auto, using(crate::proofs::Brought::brought_rules))]
 fn brought_at(boxes: &[BoxPlan], box_no: u32, word: &[u8]) -> Result<u32, LineFault>
-    ensures { GivesLine (λ place. place) result (brought_in (box_at boxes.now box_no) word.now) }
+    ensures gives { GivesLine (λ place. place) result (brought_in (box_at boxes.now box_no) word.now) }
+    ensures memory { TakesNoMemory result }
 {
     match boxes.get(box_no as usize) {
         Some(at) => brought_in(at, word),
@@ -120,7 +130,9 @@ fn brought_at(boxes: &[BoxPlan], box_no: u32, word: &[u8]) -> Result<u32, LineFa
 #[tactic(auto, unfolding(crate::specs::Reading::train_in))]
 fn train_in(draft: &mut PlanDraft, words: &LineWords<'_>) -> Result<(), LineFault>
     requires { in_box draft.old.stage ≡ false }
-    ensures { GivesLine (λ _. draft.new) result (train_in draft.old words.now) }
+    ensures gives { GivesLine (λ _. draft.new) result (train_in draft.old words.now) }
+    ensures memory { FaultsFirst result (train_in draft.old words.now) }
+    ensures same { OnErr result (draft.new ≡ draft.old) }
 {
     let name = new_name(&draft.train_names, word(words, 1))?;
     let class_no = number_in_names(&draft.class_names, word(words, 2))?;
@@ -132,26 +144,28 @@ fn train_in(draft: &mut PlanDraft, words: &LineWords<'_>) -> Result<(), LineFaul
 // `train NAME CLASS BOX PLACE`: first whether all announced boxes stand.
 #[tactic(auto, unfolding(crate::specs::Reading::train_onto))]
 fn train_line(draft: &mut PlanDraft, words: &LineWords<'_>) -> Result<(), LineFault>
-    ensures { GivesLine (λ _. draft.new) result (train_onto draft.old words.now) }
+    ensures gives { GivesLine (λ _. draft.new) result (train_onto draft.old words.now) }
+    ensures memory { FaultsFirst result (train_onto draft.old words.now) }
 {
     counted(words, 5, 5)?;
     if !draft.is_full() {
         return Err(LineFault::Cause(Cause::TooFewBoxes));
     }
-    draft.close(Stage::Train)?;
+    draft.close(Stage::Train);
     train_in(draft, words)
 }
 
 // `end`: all announced boxes stand.
 #[tactic(auto, unfolding(crate::specs::Reading::end_onto))]
 fn end_line(draft: &mut PlanDraft, words: &LineWords<'_>) -> Result<(), LineFault>
-    ensures { GivesLine (λ _. draft.new) result (end_onto draft.old words.now) }
+    ensures gives { GivesLine (λ _. draft.new) result (end_onto draft.old words.now) }
+    ensures memory { TakesNoMemory result }
 {
     counted(words, 1, 1)?;
     if !draft.is_full() {
         return Err(LineFault::Cause(Cause::TooFewBoxes));
     }
-    draft.close(Stage::Ended)?;
+    draft.close(Stage::Ended);
     Ok(())
 }
 
@@ -168,6 +182,8 @@ fn box_with(
     ensures gives { GivesLine (λ _. here.new) result
         (box_with kind boxes box_no here.old words.now) }
     ensures name { here.new.name ≡ here.old.name }
+    ensures memory { kind ≢ Stage.Row → FaultsFirst result (box_with kind boxes box_no here.old words.now) }
+    ensures same { OnErr result (here.new ≡ here.old) }
 {
     match kind {
         Stage::Place => place_line(here, words),
@@ -188,7 +204,8 @@ fn box_with(
 fn here_line(kind: Stage, draft: &mut PlanDraft, words: &LineWords<'_>) -> Result<(), LineFault>
     requires here { in_box draft.old.stage ≡ true }
     requires kind { in_box kind ≡ true }
-    ensures { GivesLine (λ _. draft.new) result (here_onto kind draft.old words.now) }
+    ensures gives { GivesLine (λ _. draft.new) result (here_onto kind draft.old words.now) }
+    ensures memory { kind ≢ Stage.Row → FaultsFirst result (here_onto kind draft.old words.now) }
 {
     let box_no = (draft.box_names.len() - 1) as u32;
     match box_with(
@@ -216,7 +233,8 @@ fn following_line(
 ) -> Result<(), LineFault>
     requires kind { behind_box kind ≡ true }
     requires follows { may_follow kind draft.old.stage ≡ true }
-    ensures { GivesLine (λ _. draft.new) result (here_onto kind draft.old words.now) }
+    ensures gives { GivesLine (λ _. draft.new) result (here_onto kind draft.old words.now) }
+    ensures memory { kind ≢ Stage.Row → FaultsFirst result (here_onto kind draft.old words.now) }
 {
     here_line(kind, draft, words)
 }
@@ -225,7 +243,8 @@ fn following_line(
 #[tactic(auto, unfolding(crate::specs::Reading::kind_onto))]
 pub fn kind_line(kind: Stage, draft: &mut PlanDraft, words: &LineWords<'_>) -> Result<(), LineFault>
     requires { may_follow kind draft.old.stage ≡ true }
-    ensures { GivesLine (λ _. draft.new) result (kind_onto kind draft.old words.now) }
+    ensures gives { GivesLine (λ _. draft.new) result (kind_onto kind draft.old words.now) }
+    ensures memory { kind ≢ Stage.Row → FaultsFirst result (kind_onto kind draft.old words.now) }
 {
     match kind {
         Stage::Plan => plan_line(draft, words),

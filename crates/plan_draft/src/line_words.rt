@@ -1,21 +1,23 @@
 //! What the words of a plan's lines mean.
 
-ghost use Rattle.std.specs.Prelude.{◌≡◌, [], IfOk, bytes_eq, drop, false};
+ghost use Rattle.std.specs.Prelude.{◌≡◌, ◌≤◌, ◌+◌, [], IfOk, OnOk, bytes_eq, drop, false, length};
 ghost use Rattle.std.specs.List.{list_any};
 ghost use Rattle.rail_text.specs.Gives.{GivesLine, TakesNoMemory};
 ghost use Rattle.plan_draft.specs.LineWords.{code_in, counted, end_in, kind_in, lever_in, new_name, number_in_names};
 ghost use Rattle.plan_draft.specs.LineWords.{places_onto, way_in, word, working_in};
 
+use arrayvec::ArrayVec;
 use bell_codes::{Code, read_code};
 use block_words::Way;
 use line_plan::{BoxPlan, Items, Kind, Lever, To};
 use locking_table::MOST_LEVERS;
-use rail_text::{Cause, LineFault, LineWords, Names, is_name, name_in, number_in};
+use rail_text::{Cause, LineFault, LineWords, Names, NoMemory, is_name, name_in, number_in};
 use std::alloc::Global;
 
 /// The line has so many words, its first among them.
 pub fn counted(words: &LineWords<'_>, low: usize, high: usize) -> Result<(), LineFault>
     ensures gives { GivesLine (λ _. tt) result (counted low high words.now) }
+    ensures few { OnOk result (length words.now ≤ high) }
     ensures memory { TakesNoMemory result }
 {
     let count = words.word_count();
@@ -66,22 +68,30 @@ pub fn number_in_names(names: &Names, word: &[u8]) -> Result<u32, LineFault>
     }
 }
 
-/// The places that the words of a line name, from the word with this number on.
+/// The places that the words of a line name, from the word with this number on. They are eight at most.
 #[tactic(auto, using(crate::proofs::PlaceWords::place_rules), unfolding(crate::specs::LineWords::places_onto))]
 pub fn places_from(
-    alloc: Global,
     names: &Names,
     words: &LineWords<'_>,
     first: usize,
-) -> Result<Items<u32>, LineFault>
-    ensures { GivesLine (λ places. places) result (places_onto names.now [] (drop first words.now)) }
+) -> Result<ArrayVec<u32, 8>, LineFault>
+    requires { length words.now ≤ first + 8 }
+    ensures gives { GivesLine (λ places. places.items) result (places_onto names.now [] (drop first words.now)) }
+    ensures memory { TakesNoMemory result }
 {
-    let mut places = Vec::new(alloc);
+    let mut places = ArrayVec::new();
     for i in first..words.word_count() {
         let place = number_in_names(names, word(words, i))?;
-        places.push(place)?;
+        places.push(place);
     }
-    Ok(Items::from_vec(places))
+    Ok(places)
+}
+
+/// These places, to be kept.
+pub fn kept(alloc: Global, places: &[u32]) -> Result<Items<u32>, NoMemory>
+    ensures { IfOk result (λ kept. kept ≡ places.now) }
+{
+    Ok(Items::from_vec(Vec::from_slice(alloc, places)?))
 }
 
 /// `up` or `down`.

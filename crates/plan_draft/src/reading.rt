@@ -87,15 +87,21 @@ fn may_follow(kind: Stage, last: Stage) -> bool
     }
 }
 
-impl Draft for PlanDraft {
-    ghost use Rattle.plan_draft.specs.Reading.{words_onto, has_ended};
+impl PlanDraft {
+    ghost use Rattle.std.specs.Prelude.{◌≢◌, Some};
+    ghost use Rattle.rail_text.specs.Gives.{GivesLine};
+    ghost use Rattle.rail_text.specs.Words.{keyword};
+    ghost use Rattle.plan_draft.specs.LineWords.{FaultsFirst};
+    ghost use Rattle.plan_draft.specs.Reading.{words_onto};
 
-    ghost onto = { words_onto };
-
-    ghost ended = { λ draft. has_ended draft.stage };
-
+    // The words of a line. Want of memory is told only of a line that has no fault, but for a row, whose reading takes
+    // memory.
     #[tactic(auto, unfolding(crate::specs::Reading::words_onto))]
-    fn read_words(&mut self, words: &LineWords<'_>) -> Result<(), LineFault> {
+    fn words_line(&mut self, words: &LineWords<'_>) -> Result<(), LineFault>
+        ensures gives { GivesLine (λ _. self.new) result (words_onto self.old words.now) }
+        ensures memory { line_kind (keyword words.now) ≢ Some Stage.Row
+            → FaultsFirst result (words_onto self.old words.now) }
+    {
         if self.stage == Stage::Ended {
             return Err(LineFault::Cause(Cause::AfterEnd));
         }
@@ -103,6 +109,18 @@ impl Draft for PlanDraft {
             Some(kind) if may_follow(kind, self.stage) => kind_line(kind, self, words),
             _ => Err(LineFault::Cause(Cause::WrongKeyword)),
         }
+    }
+}
+
+impl Draft for PlanDraft {
+    ghost use Rattle.plan_draft.specs.Reading.{words_onto, has_ended};
+
+    ghost onto = { words_onto };
+
+    ghost ended = { λ draft. has_ended draft.stage };
+
+    fn read_words(&mut self, words: &LineWords<'_>) -> Result<(), LineFault> {
+        self.words_line(words)
     }
 
     fn has_ended(&self) -> bool {

@@ -7,3 +7,4 @@ pub mod CallTexts
 pub mod ReplyWords
 pub mod ReplyTexts
 pub mod ScriptTexts
+pub mod Memory

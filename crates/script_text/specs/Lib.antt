@@ -7,6 +7,7 @@ pub mod Replies
 pub mod Entries
 pub mod Rows
 pub mod Answers
+pub mod Memory
 pub mod Drafts
 pub mod Scripts
 pub mod Spelled

@@ -47,9 +47,10 @@ impl<'a> Model for ScriptDraft<'a> {
 
 impl<'a> ScriptDraft<'a> {
     ghost use Rattle.std.specs.Prelude.{◌≡◌, ◌<◌, length};
-    ghost use Rattle.rail_text.specs.Gives.{GivesLine};
+    ghost use Rattle.rail_text.specs.Gives.{GivesLine, TakesNoMemory};
     ghost use Rattle.script_text.specs.Drafts.{start};
-    ghost use Rattle.script_text.specs.Scripts.{script_onto, call_onto, end_onto};
+    ghost use Rattle.script_text.specs.Memory.{RunsOut};
+    ghost use Rattle.script_text.specs.Scripts.{script_onto, call_onto, end_onto, stage_onto};
 
     /// Nothing is read.
     pub fn new(alloc: Global, plan: &'a Plan, box_no: u32) -> ScriptDraft<'a>
@@ -68,7 +69,8 @@ impl<'a> ScriptDraft<'a> {
     /// `script NAME`: the box for which it is read.
     #[tactic(auto, unfolding(crate::specs::Scripts::script_onto))]
     fn script_line(&mut self, words: &LineWords<'_>) -> Result<(), LineFault>
-        ensures { GivesLine (λ _. self.new) result (script_onto self.old words.now) }
+        ensures gives { GivesLine (λ _. self.new) result (script_onto self.old words.now) }
+        ensures memory { TakesNoMemory result }
     {
         let name = words.one_word()?;
         let plan = self.plan;
@@ -82,7 +84,8 @@ impl<'a> ScriptDraft<'a> {
     /// A call more, whose moment isn't below the one before.
     #[tactic(auto, unfolding(crate::specs::Scripts::call_onto))]
     fn call_line(&mut self, words: &LineWords<'_>) -> Result<(), LineFault>
-        ensures { GivesLine (λ _. self.new) result (call_onto self.old words.now) }
+        ensures gives { GivesLine (λ _. self.new) result (call_onto self.old words.now) }
+        ensures memory { RunsOut self.old self.new result (call_onto self.old words.now) }
     {
         let plan = self.plan;
         let moment = moment_in(plan.version, words)?;
@@ -101,11 +104,27 @@ impl<'a> ScriptDraft<'a> {
     /// `end`: the script ends.
     #[tactic(auto, unfolding(crate::specs::Scripts::end_onto))]
     fn end_line(&mut self, words: &LineWords<'_>) -> Result<(), LineFault>
-        ensures { GivesLine (λ _. self.new) result (end_onto self.old words.now) }
+        ensures gives { GivesLine (λ _. self.new) result (end_onto self.old words.now) }
+        ensures memory { TakesNoMemory result }
     {
         words.no_word()?;
         self.stage = Stage::Ended;
         Ok(())
+    }
+
+    /// The words of a line.
+    #[tactic(auto, using(crate::proofs::Memory::memory_rules), unfolding(crate::specs::Scripts::stage_onto))]
+    fn words_line(&mut self, words: &LineWords<'_>) -> Result<(), LineFault>
+        ensures gives { GivesLine (λ _. self.new) result (stage_onto self.old.stage self.old words.now) }
+        ensures memory { RunsOut self.old self.new result (stage_onto self.old.stage self.old words.now) }
+    {
+        match self.stage {
+            Stage::Script if words.keyword() == b"script".as_slice() => self.script_line(words),
+            Stage::Script => Err(LineFault::Cause(Cause::WrongKeyword)),
+            Stage::Calls if words.keyword() == b"end".as_slice() => self.end_line(words),
+            Stage::Calls => self.call_line(words),
+            Stage::Ended => Err(LineFault::Cause(Cause::AfterEnd)),
+        }
     }
 
     /// The script.
@@ -126,15 +145,8 @@ impl<'a> Draft for ScriptDraft<'a> {
 
     ghost ended = { λ draft. has_ended draft.stage };
 
-    #[tactic(auto, unfolding(crate::specs::Scripts::stage_onto))]
     fn read_words(&mut self, words: &LineWords<'_>) -> Result<(), LineFault> {
-        match self.stage {
-            Stage::Script if words.keyword() == b"script".as_slice() => self.script_line(words),
-            Stage::Script => Err(LineFault::Cause(Cause::WrongKeyword)),
-            Stage::Calls if words.keyword() == b"end".as_slice() => self.end_line(words),
-            Stage::Calls => self.call_line(words),
-            Stage::Ended => Err(LineFault::Cause(Cause::AfterEnd)),
-        }
+        self.words_line(words)
     }
 
     fn has_ended(&self) -> bool {

@@ -16,6 +16,7 @@ mod replies;
 mod rows;
 mod script;
 mod spelled;
+mod whole;
 
 pub use acts::read_act;
 pub use answers::read_reply;
@@ -30,3 +31,4 @@ pub use replies::{print_reply, put_reply};
 pub use rows::may_answer;
 pub use script::{MOST_CALLS, SCRIPT_LIMIT, Script};
 pub use spelled::is_spelled_reply;
+pub use whole::put_text;

@@ -1,6 +1,6 @@
 //! Registers as they are printed.
 
-ghost use Rattle.std.specs.Prelude.{◌≡◌, ◌<◌, ◌++◌, List, All, IfOk, OnOk, length, string_bytes};
+ghost use Rattle.std.specs.Prelude.{◌≡◌, ◌<◌, ◌++◌, List, All, IfOk, OnErr, OnOk, length, string_bytes};
 ghost use Rattle.std.specs.List.{flat_map};
 ghost use Rattle.line_law.specs.declared.call.Entry.{Entry};
 ghost use Rattle.script_text.specs.Entries.{IsSpelled};
@@ -12,7 +12,7 @@ use crate::register::Register;
 use line_law::Entry;
 use line_plan::Plan;
 use rail_text::NoMemory;
-use script_text::put_told;
+use script_text::{put_text, put_told};
 use std::alloc::{AllocError, Global};
 use std::fmt::Write;
 
@@ -82,9 +82,8 @@ fn put_each(out: &mut String, plan: &Plan, registers: &[Register]) -> Result<(),
     Ok(())
 }
 
-/// Puts the registers of a line behind a text, in the order of the boxes, each as `print_register` prints it. Where
-/// memory runs out a part may stand behind the text.
-pub fn put_registers(out: &mut String, plan: &Plan, ended: &Ended) -> Result<(), AllocError>
+// The registers of a line, in the order of the boxes.
+fn put_in_order(out: &mut String, plan: &Plan, ended: &Ended) -> Result<(), AllocError>
     requires { All (IsPrintable plan.now) ended.now.registers }
     ensures each { OnOk result
         (string_bytes out.new ≡ string_bytes out.old
@@ -93,4 +92,20 @@ pub fn put_registers(out: &mut String, plan: &Plan, ended: &Ended) -> Result<(),
         → OnOk result (string_bytes out.new ≡ string_bytes out.old ++ registers_text plan.now es) }
 {
     put_each(out, plan, ended.registers.as_slice())
+}
+
+/// Puts the registers of a line behind a text, in the order of the boxes, each as `print_register` prints it. Where
+/// memory runs out the text is as it was.
+pub fn put_registers(out: &mut String, plan: &Plan, ended: &Ended) -> Result<(), AllocError>
+    requires { All (IsPrintable plan.now) ended.now.registers }
+    ensures each { OnOk result
+        (string_bytes out.new ≡ string_bytes out.old
+        ++ flat_map (λ register. register_text plan.now register.box_no register.entries) ended.now.registers) }
+    ensures parts { (es : List Entry) → AreParts plan.now es ended.now.registers
+        → OnOk result (string_bytes out.new ≡ string_bytes out.old ++ registers_text plan.now es) }
+    ensures kept { OnErr result (string_bytes out.new ≡ string_bytes out.old) }
+{
+    let mut registers = String::new(*out.allocator());
+    put_in_order(&mut registers, plan, ended)?;
+    put_text(out, registers)
 }

@@ -5,5 +5,5 @@ use Rattle.plan_draft.specs.BoxLines.{all_worked}
 use Rattle.plan_draft.proofs.Worked.{worked_rest}
 use Rattle.plan_draft.proofs.box_lines.row_worked.Goals as goal
 
-pub returns : goal.returns
-returns c = worked_rest _ _ _ _ _ c.in_ok-worked.ensures (subst (λ (conds : List Cond). GivesLine (λ _. tt) c.lever_and_conds_worked.result (all_worked c.args.here.now (c.args.row.now.object ∷ map (λ cond. cond.lever) conds))) c.as_slice.ensures c.lever_and_conds_worked.ensures)
+pub returns-clause-gives : goal.returns-clause-gives
+returns-clause-gives c = worked_rest _ _ _ _ _ c.in_ok-worked.ensures.gives (subst (λ (conds : List Cond). GivesLine (λ _. tt) c.lever_and_conds_worked.result (all_worked c.args.here.now (c.args.row.now.object ∷ map (λ cond. cond.lever) conds))) c.as_slice.ensures c.lever_and_conds_worked.ensures.gives)

@@ -5,9 +5,9 @@ use Rattle.plan_draft.specs.Reading.{box_with, here_onto}
 use Rattle.plan_draft.proofs.Following.{fails_then, in_front}
 use Rattle.plan_draft.proofs.kinds.here_line.Goals as goal
 
-pub returns-in-Err : goal.returns-in-Err
+pub returns-in-Err-clause-gives : goal.returns-in-Err-clause-gives
 unfolding here_onto
-returns-in-Err c =
+returns-in-Err-clause-gives c =
     let here : in_box c.draft.inside.stage ≡ true = ap (λ (d : DraftFields). in_box d.stage) c.draft.view_is ∙ c.requires.here in
     let count : c.len.result - 1 ≡ length c.draft.inside.boxes.items = in_front c.draft.inside.stage c.draft.inside.boxes.items c.draft.inside.here c.draft.inside.box_names c.len.result here c.len.ensures.len c.draft.invariant.1 in
     rw (sym c.draft.view_is)

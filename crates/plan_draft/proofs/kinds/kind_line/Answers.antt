@@ -18,6 +18,6 @@ looks_line-requires c = early c.args.kind c.args.draft.now.stage (rw c.in-Looks.
 pub class_line-requires : goal.class_line-requires
 class_line-requires c = early c.args.kind c.args.draft.now.stage (rw c.in-Class.is (omega arith)) c.requires
 
-pub returns-in-Start : goal.returns-in-Start
+pub returns-in-Start-clause-gives : goal.returns-in-Start-clause-gives
 unfolding kind_onto here_onto box_with
-returns-in-Start c = rw c.in-Start.is refl
+returns-in-Start-clause-gives c = rw c.in-Start.is refl

@@ -4,10 +4,9 @@ use Rattle.rail_text.specs.Gives.{TakesNoMemory}
 use Rattle.rail_text.specs.declared.cause.Cause.{Cause}
 use Rattle.rail_text.specs.declared.line_fault.LineFault.{LineFault}
 use Rattle.rail_text.specs.declared.line_fault.LineFault.TheVariants as faults
-use Rattle.line_report.specs.Drafts.{DraftFields}
-use Rattle.line_report.specs.Reading.{RunsOut}
+use Rattle.script_text.specs.Memory.{RunsOut}
 
-pub never_runs_out : (old new : DraftFields) (result : Result (Unit {0}) LineFault) (read : Result DraftFields Cause)
+pub never_runs_out : {D : Type 0} (old new : D) (result : Result (Unit {0}) LineFault) (read : Result D Cause)
     → TakesNoMemory result → RunsOut old new result read
 never_runs_out old new (Ok done) read h = tt
 never_runs_out old new (Err (faults.Cause cause)) read h = tt
