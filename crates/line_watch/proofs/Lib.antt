@@ -5,3 +5,4 @@ pub mod SectionNumbers
 pub mod BoardsShown
 pub mod Rounds
 pub mod Lines
+pub mod JournalRounds

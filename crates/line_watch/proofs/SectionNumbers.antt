@@ -70,12 +70,12 @@ up_leaves n b low high =
     let c : nat_lt b n ≡ true = grind (arith, nat_tests) in
     rw (a, c) refl
 
--- each of the sections of a plan is one
-even_or_odd : (k : ℕ) → (k ≡ 2 * (k / 2)) ⊎ (k ≡ 2 * (k / 2) + 1)
+pub even_or_odd : (k : ℕ) → (k ≡ 2 * (k / 2)) ⊎ (k ≡ 2 * (k / 2) + 1)
 even_or_odd k = ⊎_elim (λ (t : ((k == 2 * (k / 2)) ≡ true) × (k ≡ 2 * (k / 2))). inl t.1)
     (λ (t : ((k == 2 * (k / 2)) ≡ false) × (k ≢ 2 * (k / 2))). inr (let ne = t.1 in omega arith))
     (eqb_tells k (2 * (k / 2)))
 
+-- each of the sections of a plan is one
 pub listed_section : (plan : PlanFields) (k : ℕ) → k < length (sections_of plan) → IsSection plan (section_in plan k)
 listed_section plan k lt =
     let n = length plan.boxes in

@@ -47,7 +47,7 @@ use Rattle.line_watch.proofs.Marks.{Follows}
 -- ---- what an entry alone tells of its instrument
 
 -- the instrument as a turn or a pull leaves it
-abbrev block_shown : Act → Reply → Option Block
+abbrev pub block_shown : Act → Reply → Option Block
 block_shown act (Turned v) = Some (record { turns = v; position = position_of act; spent = false })
 block_shown act (PulledUnder v) = Some (record { turns = v; position = shows.LineClear; spent = true })
 block_shown act (HeldByInstrument way v shown spent) = Some (record { turns = v; position = shown; spent = true })
@@ -120,22 +120,22 @@ kind_back BlockWord Down Down act reply pair shown k same fits e = shown_back ac
 
 -- ---- in a line
 
-abbrev block_in : LineState → ℕ → Way → Block
+abbrev pub block_in : LineState → ℕ → Way → Block
 block_in state q w = of_way (pair_at state q).blocks w
 
 -- an entry is on that instrument, and tells how it leaves it
-record ShowsAt (plan : PlanFields) (e : Entry) (q : ℕ) (w : Way) (block : Block) : Type 0 where
-  kind : kind_told e.reply ≡ BlockWord
-  pair : pair_for plan e ≡ q
-  way : way_at plan e.box_no e.call ≡ w
-  shown : block_shown e.call.act e.reply ≡ Some block
+pub record ShowsAt (plan : PlanFields) (e : Entry) (q : ℕ) (w : Way) (block : Block) : Type 0 where
+  pub kind : kind_told e.reply ≡ BlockWord
+  pub pair : pair_for plan e ≡ q
+  pub way : way_at plan e.box_no e.call ≡ w
+  pub shown : block_shown e.call.act e.reply ≡ Some block
 
 -- an entry leaves an instrument as it was, or tells how it leaves it
 abbrev StaysOrShows : PlanFields → LineState → Entry → Way → ℕ → PairState → Type 0
 StaysOrShows plan state e w q pair =
     (of_way pair.blocks w ≡ block_in state q w) ⊎ ShowsAt plan e q w (of_way pair.blocks w)
 
-step_shows : (plan : PlanFields) (state : LineState) (e : Entry) (q : ℕ) (w : Way) → IsPlan plan
+pub step_shows : (plan : PlanFields) (state : LineState) (e : Entry) (q : ℕ) (w : Way) → IsPlan plan
     → IsStateOf plan state → KnowsCall plan e.box_no e.call → e.reply ≡ (step plan state e.box_no e.call).reply
     → (block_in (after_entry plan state e) q w ≡ block_in state q w)
     ⊎ ShowsAt plan e q w (block_in (after_entry plan state e) q w)
@@ -151,7 +151,7 @@ step_shows plan state e q w is shape known told =
     (sym (pairs_after plan state e told))
     (pair_written (λ k x. StaysOrShows plan state e w k x) state.pairs p _ q there own (inl refl))
 
-step_back : (plan : PlanFields) (state : LineState) (e : Entry) (q : ℕ) (w : Way) (shown : Block)
+pub step_back : (plan : PlanFields) (state : LineState) (e : Entry) (q : ℕ) (w : Way) (shown : Block)
     → e.reply ≡ (step plan state e.box_no e.call).reply → q < length state.pairs → ShowsAt plan e q w shown
     → block_in (after_entry plan state e) q w ≡ shown
 step_back plan state e q w shown told lt h =

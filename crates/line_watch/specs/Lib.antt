@@ -2,3 +2,4 @@ pub mod Sights
 pub mod Watching
 pub mod Boards
 pub mod Shown
+pub mod Told

@@ -22,6 +22,12 @@ sight_in rounds r k = slice_index_or (slice_index_or rounds r []) k first_sight
 abbrev pub section_in : PlanFields → ℕ → Section
 section_in plan k = slice_index_or (sections_of plan) k (record { rear = 0; way = Down })
 
+-- a round shows how all instruments stand after a history: it has a sight of each section, which is right after it
+pub record IsRoundAfter (plan : PlanFields) (log : List Entry) (round : List Sight) : Type 0 where
+  pub each : length round ≡ length (sections_of plan)
+  pub right : (k : ℕ) → k < length (sections_of plan)
+      → IsRightAfter plan log (section_in plan k) (slice_index_or round k first_sight)
+
 -- A board shows a history. Each round has a sight of each section, which is right after some beginning of the history;
 -- for each section the shortest such beginnings never get shorter from round to round; and the last round is right
 -- after the whole history.

@@ -5,15 +5,19 @@ ghost use Rattle.std.specs.Prelude.{map, slice_index_or};
 ghost use Rattle.line_plan.specs.Sections.{sections_from, sections_of};
 ghost use Rattle.line_plan.specs.Ways.{leaves};
 ghost use Rattle.line_plan.specs.declared.section.Section.{Section};
+ghost use Rattle.line_law.specs.History.{IsLegal};
 ghost use Rattle.line_watch.specs.declared.sight.Sight.{Sight};
 ghost use Rattle.line_watch.specs.Boards.{blank_round, section_count, section_number};
+ghost use Rattle.line_watch.specs.Shown.{IsBoardOf};
 ghost use Rattle.line_watch.specs.Watching.{LooksInTurn, RoundsInTurn, Watches};
 
 use crate::numbers::section_number;
 use crate::round::Round;
 use crate::sight::Sight;
+use crate::told::sights_after;
 use crate::watcher::Watcher;
 use instrument_rule::Line;
+use line_law::Journal;
 use line_plan::{Plan, Section};
 use rail_text::NoMemory;
 use std::alloc::Global;
@@ -57,6 +61,19 @@ fn blank_rounds(alloc: Global, boxes: u32, count: u32) -> Result<Vec<Round>, NoM
     Ok(blank)
 }
 
+// So many rounds, each of these sights.
+fn same_rounds(alloc: Global, sights: &[Sight], count: u32) -> Result<Vec<Round>, NoMemory>
+    requires { count ≤ 1000 }
+    ensures count { IfOk result (λ rounds. length rounds.items ≡ count) }
+    ensures same { IfOk result (λ rounds. All (λ round. round.sights ≡ sights.now) rounds.items) }
+{
+    let mut rounds = Vec::new(alloc);
+    for _ in 0..count {
+        rounds.push(Round::of_sights(alloc, sights)?)?;
+    }
+    Ok(rounds)
+}
+
 impl Board {
     /// A board for so many rounds of looks at the line of a plan, none of them filled.
     pub fn new(alloc: Global, plan: &Plan, rounds: u32) -> Result<Board, NoMemory>
@@ -72,6 +89,31 @@ impl Board {
             boxes,
             rounds,
             blank,
+        })
+    }
+
+    /// A board of so many rounds, each of which shows the instruments as they stand after a whole journal. So it is
+    /// where nobody could look at the line while it was worked.
+    pub fn of_journal(
+        alloc: Global,
+        plan: &Plan,
+        rounds: u32,
+        journal: &Journal,
+    ) -> Result<Board, NoMemory>
+        requires rounds { (1 ≤ rounds) × (rounds ≤ 1000) }
+        requires legal { IsLegal plan.now journal.now.entries }
+        ensures boxes { IfOk result (λ board. board.boxes ≡ length plan.now.boxes) }
+        ensures filled { IfOk result (λ board. (board.left ≡ 0) × (length board.rounds ≡ rounds)) }
+        ensures shown { IfOk result (λ board. IsBoardOf plan.now journal.now.entries board.rounds) }
+    {
+        plan.meets_conditions();
+        let boxes = plan.boxes.len() as u32;
+        let sights = sights_after(alloc, plan, journal.entries.as_slice())?;
+        let rounds = same_rounds(alloc, &sights, rounds)?;
+        Ok(Board {
+            boxes,
+            rounds,
+            blank: Vec::new(alloc),
         })
     }
 
@@ -116,6 +158,7 @@ impl Board {
               left = 1;
               rounds = self.old.rounds ++ rounds;
             })
+            × (length rounds + 1 ≡ self.old.left)
             × RoundsInTurn line.now.table.shared.key rounds watcher.old.view.seen watcher.new.view.seen }
     {
         let but_last = self.left() - 1;

@@ -8,10 +8,11 @@ mod numbers;
 mod printing;
 mod round;
 mod sight;
+mod told;
 mod watcher;
 
 pub use board::Board;
 pub use laws::{board_law, sight_law};
-pub use printing::print_board;
+pub use printing::{print_board, put_board};
 pub use sight::Sight;
 pub use watcher::Watcher;

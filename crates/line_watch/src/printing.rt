@@ -112,9 +112,10 @@ fn put_rounds(out: &mut String, plan: &Plan, rounds: &[Round]) -> Result<(), All
     Ok(())
 }
 
-// A board.
+/// Puts a board, as far as its rounds are filled, behind a text, by the plan for which it was made: [`print_board`] says
+/// how.
 #[tactic(auto, unfolding(crate::specs::Boards::board_text))]
-fn put_board(out: &mut String, plan: &Plan, board: &Board) -> Result<(), AllocError>
+pub fn put_board(out: &mut String, plan: &Plan, board: &Board) -> Result<(), AllocError>
     requires { board.now.boxes ≡ length plan.now.boxes }
     ensures { OnOk result (string_bytes out.new ≡ string_bytes out.old ++ board_text plan.now board.now.rounds) }
 {

@@ -45,6 +45,16 @@ impl Round {
         })
     }
 
+    /// A round of these sights, with no room for more.
+    pub fn of_sights(alloc: Global, sights: &[Sight]) -> Result<Round, NoMemory>
+        ensures { IfOk result (λ round. round.sights ≡ sights.now) }
+    {
+        Ok(Round {
+            sights: Vec::from_slice(alloc, sights)?,
+            spare: 0,
+        })
+    }
+
     /// Its sights so far.
     pub fn sights(&self) -> &[Sight]
         ensures { result.now ≡ self.now.sights }

@@ -1,21 +1,31 @@
-//! A line that is opened, worked and watched.
+//! A line that is opened, worked, watched and closed.
 
-ghost use Rattle.std.specs.Prelude.{◌≡◌, ◌<◌, ◌≤◌, [], All, IfOk, length, replicate};
-ghost use Rattle.instrument_rule.specs.Calls.{Sits};
+ghost use Rattle.std.specs.Prelude.{◌≡◌, ◌≤◌, [], IfOk, length, replicate};
 ghost use Rattle.line_maker.specs.MadeCalls.{AreLineScripts};
-ghost use Rattle.signalman_seats.specs.Lines.{AreFresh};
-ghost use Rattle.signalman_seats.specs.Men.{IsOf};
+ghost use Rattle.line_watch.specs.Shown.{IsBoardOf};
+ghost use Rattle.signalman_seats.specs.Lines.{AreFresh, AreMen, Closed};
 
-use instrument_rule::{Line, Post};
+use instrument_rule::Line;
+use line_journal::merge;
+use line_law::Journal;
 use line_plan::Plan;
-use line_watch::{Board, Watcher, print_board};
-use line_working::{OpenGate, work_line};
+use line_watch::{Board, print_board};
+use line_working::OpenGate;
 use rail_text::NoMemory;
 use script_text::{MOST_CALLS, Script};
-use signalman_seats::{Signalman, open_line};
+use signalman_seats::{Signalman, close_line, open_line};
 use std::alloc::Global;
 use std::sync::Wait;
 use std::thread::Threads;
+use train_register::Ended;
+use watch_working::{watched_law, work_watched};
+
+/// A line that was watched while it was worked, and has ended: its board and its journal.
+#[derive(Drop)]
+pub struct WatchedLine {
+    pub board: Board,
+    pub journal: Journal,
+}
 
 // A line of a plan with its men, each with room for as many entries as a script may have calls.
 fn opened(alloc: Global, plan: &Plan) -> Result<(Line, Vec<Signalman>), NoMemory>
@@ -36,101 +46,96 @@ fn opened(alloc: Global, plan: &Plan) -> Result<(Line, Vec<Signalman>), NoMemory
     }
 }
 
-// A post lent by the first man, who stays as he is.
-fn lent_by_first(line: &Line, men: &mut [Signalman]) -> Post
-    requires some { 0 < length men.old }
-    requires man { All (IsOf line.now.table.shared.table_id line.now.table.shared.key) men.old }
-    ensures same { men.new ≡ men.old }
-    ensures line { result.seat.table_id ≡ line.now.table.shared.table_id }
-    ensures sits { Sits line.now.table.shared.key result.seat.me.0 }
-    ensures free { result.seat.me.0.posts ≡ [] }
+// The registers of a line, which is closed by its men.
+fn ended(alloc: Global, line: Line, men: Vec<Signalman>) -> Result<Ended, NoMemory>
+    requires { AreMen line.table.shared.table_id line.table.shared.key men.items }
+    ensures { IfOk result (λ ended. Closed line.table.shared.key men.items ended.registers) }
 {
-    men[0].lend_watch(line)
-}
-
-/// A board of the line of a plan, with so many rounds, all filled from a post that holds no box.
-///
-/// # Errors
-///
-/// `NoMemory` where there is none for the board.
-pub fn filled(
-    alloc: Global,
-    plan: &Plan,
-    line: &Line,
-    post: Post,
-    rounds: u32,
-) -> Result<Board, NoMemory>
-    requires rounds { (1 ≤ rounds) × (rounds ≤ 1000) }
-    requires plan { line.now.table.shared.key ≡ plan.now }
-    requires table { post.seat.table_id ≡ line.now.table.shared.table_id }
-    requires sits { Sits line.now.table.shared.key post.seat.me.0 }
-    requires free { post.seat.me.0.posts ≡ [] }
-    ensures filled { IfOk result (λ board. board.left ≡ 0) }
-    ensures plan { IfOk result (λ board. board.boxes ≡ length plan.now.boxes) }
-{
-    let mut watcher = Watcher::new(post);
-    match Board::new(alloc, plan, rounds) {
-        Ok(mut board) => {
-            board.fill_to_last(line, &mut watcher);
-            board.fill(line, &mut watcher);
-            drop(watcher);
-            Ok(board)
-        }
-        Err(NoMemory) => {
-            drop(watcher);
+    match close_line(alloc, line, men) {
+        Ok(ended) => Ok(ended),
+        Err(refused) => {
+            drop(refused);
             Err(NoMemory)
         }
     }
 }
 
-/// The text of such a board.
-///
-/// # Errors
-///
-/// `NoMemory` where there is none for the board or its text.
-pub fn filled_text(
+// Lets the men of an open line work these scripts, each on a thread of his own, while an observer fills the board; and
+// closes the line and merges its registers.
+fn work<R: Threads + Wait + Sync>(
+    rt: &R,
     alloc: Global,
     plan: &Plan,
-    line: &Line,
-    post: Post,
-    rounds: u32,
-) -> Result<Vec<u8>, NoMemory>
-    requires rounds { (1 ≤ rounds) × (rounds ≤ 1000) }
-    requires plan { line.now.table.shared.key ≡ plan.now }
-    requires table { post.seat.table_id ≡ line.now.table.shared.table_id }
-    requires sits { Sits line.now.table.shared.key post.seat.me.0 }
-    requires free { post.seat.me.0.posts ≡ [] }
-{
-    let board = filled(alloc, plan, line, post, rounds)?;
-    let text = print_board(alloc, plan, &board);
-    drop(board);
-    text
-}
-
-/// Opens the line of a plan, and gives the text of a board of so many rounds at which nobody had worked.
-///
-/// # Errors
-///
-/// `NoMemory` where the line can't be opened, or there is none for the board or its text.
-pub fn unworked_text(alloc: Global, plan: &Plan, rounds: u32) -> Result<Vec<u8>, NoMemory>
-    requires { (1 ≤ rounds) × (rounds ≤ 1000) }
+    scripts: &[Script],
+    board: &mut Board,
+    line: Line,
+    mut men: Vec<Signalman>,
+) -> Result<Journal, NoMemory>
+    requires scripts { AreLineScripts plan.now scripts.now }
+    requires line { line.table.shared.key ≡ plan.now }
+    requires men { AreFresh line.table.shared.table_id plan.now (replicate (length plan.now.boxes) 10000) men.items }
+    requires left { 1 ≤ board.old.left }
+    requires boxes { board.old.boxes ≡ length plan.now.boxes }
+    requires none { board.old.rounds ≡ [] }
+    ensures left { board.new.left ≡ 0 }
+    ensures boxes { board.new.boxes ≡ length plan.now.boxes }
+    ensures rounds { length board.new.rounds ≡ board.old.left }
+    ensures shows { IfOk result (λ journal. IsBoardOf plan.now journal.entries board.new.rounds) }
 {
     plan.meets_conditions();
-    let (line, mut men) = opened(alloc, plan)?;
-    let post = lent_by_first(&line, &mut men);
-    let text = filled_text(alloc, plan, &line, post, rounds);
-    drop(men);
-    drop(line);
-    text
+    work_watched(
+        rt, alloc, &line, scripts, plan.looks, &OpenGate, board, &mut men,
+    );
+    let ended = ended(alloc, line, men)?;
+    let journal = merge(alloc, plan, &ended);
+    drop(ended);
+    watched_law();
+    journal
 }
 
-/// Opens the line of a plan, lets the men work these scripts, each on a thread of his own, and gives the text of a
-/// board of so many rounds that were filled after that.
+/// Opens the line of a plan, lets the men work these scripts, each on a thread of his own, while an observer fills a
+/// board of so many rounds, and closes the line. The board shows the journal.
 ///
 /// # Errors
 ///
-/// `NoMemory` where the line can't be opened, or there is none for the board or its text.
-pub fn worked_text<R: Threads + Wait + Sync>(
+/// `NoMemory` where the line can't be opened or closed, or there is none for the board or the journal.
+pub fn watched<R: Threads + Wait + Sync>(
+    rt: &R,
+    alloc: Global,
+    plan: &Plan,
+    scripts: &[Script],
+    rounds: u32,
+) -> Result<WatchedLine, NoMemory>
+    requires scripts { AreLineScripts plan.now scripts.now }
+    requires rounds { (1 ≤ rounds) × (rounds ≤ 1000) }
+    ensures left { IfOk result (λ line. line.board.left ≡ 0) }
+    ensures boxes { IfOk result (λ line. line.board.boxes ≡ length plan.now.boxes) }
+    ensures rounds { IfOk result (λ line. length line.board.rounds ≡ rounds) }
+    ensures shows { IfOk result (λ line. IsBoardOf plan.now line.journal.entries line.board.rounds) }
+{
+    let (line, men) = opened(alloc, plan)?;
+    match Board::new(alloc, plan, rounds) {
+        Ok(mut board) => match work(rt, alloc, plan, scripts, &mut board, line, men) {
+            Ok(journal) => Ok(WatchedLine { board, journal }),
+            Err(NoMemory) => {
+                drop(board);
+                Err(NoMemory)
+            }
+        },
+        Err(NoMemory) => {
+            drop(men);
+            drop(line);
+            Err(NoMemory)
+        }
+    }
+}
+
+/// The text of the board of a line that is watched so.
+///
+/// # Errors
+///
+/// `NoMemory` where the line can't be opened or closed, or there is none for the board, the journal or the text.
+pub fn watched_text<R: Threads + Wait + Sync>(
     rt: &R,
     alloc: Global,
     plan: &Plan,
@@ -140,12 +145,8 @@ pub fn worked_text<R: Threads + Wait + Sync>(
     requires scripts { AreLineScripts plan.now scripts.now }
     requires rounds { (1 ≤ rounds) × (rounds ≤ 1000) }
 {
-    plan.meets_conditions();
-    let (line, mut men) = opened(alloc, plan)?;
-    let post = lent_by_first(&line, &mut men);
-    work_line(rt, alloc, &line, &mut men, scripts, plan.looks, &OpenGate);
-    let text = filled_text(alloc, plan, &line, post, rounds);
-    drop(men);
+    let line = watched(rt, alloc, plan, scripts, rounds)?;
+    let text = print_board(alloc, plan, &line.board);
     drop(line);
     text
 }

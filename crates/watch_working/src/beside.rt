@@ -1,6 +1,6 @@
 //! The scripts of a line, worked while an observer fills his board.
 
-ghost use Rattle.std.specs.Prelude.{◌≡◌, ◌≤◌, ◌<◌, ◌++◌, ℕ, List, length, slice_index_or};
+ghost use Rattle.std.specs.Prelude.{◌≡◌, ◌≤◌, ◌<◌, ◌+◌, ◌++◌, ℕ, List, length, slice_index_or};
 ghost use Rattle.line_watch.specs.declared.sight.Sight.{Sight};
 ghost use Rattle.line_watch.specs.Watching.{RoundsInTurn, Watches};
 ghost use Rattle.line_working.specs.Working.{CanWork, DidWork};
@@ -50,6 +50,7 @@ pub fn work_beside<R: Threads + Wait + Sync, G: Gate>(
           left = 1;
           rounds = board.old.rounds ++ rounds;
         })
+        × (length rounds + 1 ≡ board.old.left)
         × RoundsInTurn line.now.table.shared.key rounds watcher.old.view.seen watcher.new.view.seen }
 {
     join_mut(

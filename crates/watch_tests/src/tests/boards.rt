@@ -1,10 +1,31 @@
 //! Worked boards.
 
-use crate::line::{unworked_text, worked_text};
+ghost use Rattle.std.specs.Prelude.{◌≤◌};
+ghost use Rattle.line_maker.specs.MadeCalls.{AreLineScripts};
+
+use crate::busy::{busy_plan, busy_scripts};
+use crate::line::{watched, watched_text};
+use crate::shown::shows;
+use line_law::Journal;
 use line_maker::make_line;
+use line_plan::Plan;
+use line_report::{Verdict, judge, may_judge};
 use plan_text::read_plan;
+use rail_text::NoMemory;
+use script_text::Script;
+use std::alloc::Global;
 use std::process::Abort;
+use std::sync::Wait;
 use std::test::Fail;
+use std::thread::Threads;
+
+// How often each man of the busy line does what he does.
+const TIMES: u32 = 60;
+
+// How many calls all of them then make: 7 for each time and each end of a section.
+const CALLS: usize = 26_040;
+
+const ROUNDS: u32 = 1_000;
 
 // Ends the test where a fact doesn't hold, and names it.
 fn holds(rt: &impl Abort, fact: &str, is_so: bool) {
@@ -20,7 +41,9 @@ fn two_rounds_show_a_line_that_nobody_worked(rt: HostRuntime) -> Result<(), Fail
         2 down Ash Beech 0 normal unspent\n\
         2 up Beech Ash 0 normal unspent\n";
     let plan = read_plan(rt.alloc(), plan.as_slice())?;
-    let text = unworked_text(rt.alloc(), &plan, 2);
+    let scripts = busy_scripts(rt.alloc(), &plan, 0)?;
+    let text = watched_text(&rt, rt.alloc(), &plan, &scripts, 2);
+    drop(scripts);
     drop(plan);
     holds(&rt, "the board", text?.as_slice() == shown.as_slice());
     Ok(())
@@ -34,9 +57,49 @@ fn one_round_shows_the_made_line_of_one_train_at_turn_three(rt: HostRuntime) -> 
         1 down Beech Cedar 3 normal unspent\n\
         1 up Cedar Beech 0 normal unspent\n";
     let (plan, scripts) = make_line(rt.alloc(), 1)?;
-    let text = worked_text(&rt, rt.alloc(), &plan, &scripts, 1);
+    let text = watched_text(&rt, rt.alloc(), &plan, &scripts, 1);
     drop(scripts);
     drop(plan);
     holds(&rt, "the board", text?.as_slice() == shown.as_slice());
+    Ok(())
+}
+
+// Is the journal legal, with all calls?
+fn is_legal(alloc: Global, plan: &Plan, journal: &Journal) -> Result<bool, NoMemory> {
+    if journal.entries.len() != CALLS || !may_judge(alloc, plan, journal)? {
+        return Ok(false);
+    }
+    match judge(alloc, plan, journal)? {
+        Verdict::Legal => Ok(true),
+        Verdict::WrongAt { .. } => Ok(false),
+    }
+}
+
+// Does the board of a thousand rounds show the journal, which is legal?
+fn is_shown<R: Threads + Wait + Sync>(
+    rt: &R,
+    alloc: Global,
+    plan: &Plan,
+    scripts: &[Script],
+) -> Result<bool, NoMemory>
+    requires { AreLineScripts plan.now scripts.now }
+{
+    plan.meets_conditions();
+    let line = watched(rt, alloc, plan, scripts, ROUNDS)?;
+    let boxes = plan.boxes.len() as u32;
+    let is_so = shows(&line.board, boxes, ROUNDS, line.journal.entries.as_slice());
+    let legal = is_legal(alloc, plan, &line.journal);
+    drop(line);
+    Ok(is_so & legal?)
+}
+
+#[test]
+fn a_thousand_rounds_show_a_busy_line_of_32_boxes(rt: HostRuntime) -> Result<(), Fail> {
+    let plan = busy_plan(rt.alloc())?;
+    let scripts = busy_scripts(rt.alloc(), &plan, TIMES)?;
+    let is_so = is_shown(&rt, rt.alloc(), &plan, &scripts);
+    drop(scripts);
+    drop(plan);
+    holds(&rt, "the board shows the journal", is_so?);
     Ok(())
 }

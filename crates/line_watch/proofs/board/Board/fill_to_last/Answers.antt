@@ -1,4 +1,4 @@
-use Rattle.std.proofs.Common.{◌≡◌, List, [], ◌∷◌, ◌++◌, ap, ◌∙◌, append_assoc, arith}
+use Rattle.std.proofs.Common.{◌≡◌, List, [], ◌∷◌, ◌++◌, ap, ◌∙◌, append_assoc, arith, length-append}
 use Rattle.line_watch.specs.declared.sight.Sight.{Sight}
 use Rattle.line_watch.specs.Boards.{BoardFields}
 use Rattle.line_watch.proofs.BoardsShown.{begins_itself, rounds_on}
@@ -22,7 +22,8 @@ loop-preserved c =
       filled = (
         now.filled.0 ++ one.0 ∷ [],
         rounds,
-        rounds_on plan now.filled.0 one.0 _ seen seen later later now.filled.2 (begins_itself seen) one.2
+        (let l = length-append now.filled.0 (one.0 ∷ []) in let n = now.filled.2 in omega arith),
+        rounds_on plan now.filled.0 one.0 _ seen seen later later now.filled.3 (begins_itself seen) one.2
             (begins_itself later),
       );
     }
