@@ -6,39 +6,80 @@ use Rattle.box_top.specs.declared.status.Status.TheVariants as statuses
 use Rattle.text_fetch.specs.declared.stop.Stop.{Stop}
 use Rattle.line_runs.specs.Made.{IsSummaryOf}
 use Rattle.line_runs.specs.Outputs.{IsOutputOf, MakesText, MayCome}
+use Rattle.line_runs.specs.Watched.{IsWatchOf}
 use Rattle.line_runs.proofs.OutputRead.{output_read}
 use Rattle.text_fetch.specs.FromTexts.{AreTold, Held, FromTexts, Untold, Gives, Refuses}
 use Rattle.text_fetch.specs.Runs.{Run, run_told}
-use Rattle.box_top.specs.Headlines.{PrintsJournal, PrintsSummary}
+use Rattle.box_top.specs.Headlines.{PrintsBoard, PrintsJournal, PrintsSummary}
 use Rattle.box_top.specs.Top.{PutOutcome}
 use Rattle.box_top.proofs.AllTold.{IsTold, told_run}
 use Rattle.box_top.proofs.Outcomes.{IsPut, outcome_done}
+use Rattle.box_top.proofs.WatchRead.{watch_read}
+
+-- ---- a run, and one that is watched
+
+-- the texts of these names spell a run, and the bytes taken are a text that comes of it
+record IsWorked (Comes : Run → List ℕ → Type 0) (held : Held) (name : List ℕ) (names : List (List ℕ))
+    (old new : Option (List ℕ)) : Type 0 where
+  pub run : Run
+  pub spelled : run_told held name names ≡ Gives run
+  pub text : List ℕ
+  pub comes : Comes run text
+  pub taken : new ≡ appended old text
+
+worked_done : {X : Type 0} (Comes : Run → List ℕ → Type 0) (outcome : Result X Stop) (view : X → List ℕ) (held : Held)
+    (name : List ℕ) (names : List (List ℕ)) (old new : Option (List ℕ)) (status : Status)
+    → MakesText Comes view outcome (run_told held name names) → PutOutcome view outcome old new status
+    → status ≡ statuses.Done → AreTold held (name ∷ names) → IsWorked Comes held name names old new
+worked_done {X = X} Comes outcome view held name names old new status made put e told =
+    go (outcome_done outcome view old new status put e)
+  where
+    prints : (text : List ℕ) (t : FromTexts Run) → new ≡ appended old text → run_told held name names ≡ t → IsTold t
+        → MayCome Comes text t → IsWorked Comes held name names old new
+    prints text Untold taken is told h = absurd told
+    prints text (Gives run) taken is told h = record { run = run; spelled = is; text = text; comes = h; taken = taken }
+    prints text (Refuses n fault) taken is told h = absurd h
+
+    go : IsPut outcome view old new → IsWorked Comes held name names old new
+    go p =
+        let made_so : MakesText Comes view (Ok p.made) (run_told held name names) =
+        subst (λ (o : Result X Stop). MakesText Comes view o (run_told held name names)) p.is made in
+        prints (view p.made) (run_told held name names) p.taken refl (told_run held name names told) made_so
 
 pub run_done : {X : Type 0} (outcome : Result X Stop) (view : X → List ℕ) (held : Held) (name : List ℕ)
     (names : List (List ℕ)) (old new : Option (List ℕ)) (status : Status)
     → MakesText IsOutputOf view outcome (run_told held name names) → PutOutcome view outcome old new status
     → status ≡ statuses.Done → AreTold held (name ∷ names) → PrintsJournal held name names old new
-run_done {X = X} outcome view held name names old new status made put e told =
-    go (outcome_done outcome view old new status put e)
-  where
-    prints : (text : List ℕ) (t : FromTexts Run) → new ≡ appended old text → run_told held name names ≡ t → IsTold t
-        → MayCome IsOutputOf text t → PrintsJournal held name names old new
-    prints text Untold taken is told h = absurd told
-    prints text (Gives run) taken is told h = record {
-      run = run;
-      spelled = is;
-      journal = h.0;
-      is = h.1;
-      taken = taken ∙ ap (appended old) h.2;
-      read = output_read run h.0 h.1;
+run_done outcome view held name names old new status made put e told =
+    let p = worked_done IsOutputOf outcome view held name names old new status made put e told in
+    record {
+      run = p.run;
+      spelled = p.spelled;
+      journal = p.comes.0;
+      is = p.comes.1;
+      taken = p.taken ∙ ap (appended old) p.comes.2;
+      read = output_read p.run p.comes.0 p.comes.1;
     }
-    prints text (Refuses n fault) taken is told h = absurd h
 
-    go : IsPut outcome view old new → PrintsJournal held name names old new
-    go p =
-        let made_so : MakesText IsOutputOf view (Ok p.made) (run_told held name names) =
-        subst (λ (o : Result X Stop). MakesText IsOutputOf view o (run_told held name names)) p.is made in
-        prints (view p.made) (run_told held name names) p.taken refl (told_run held name names told) made_so
+pub watch_done : {X : Type 0} (n : ℕ) (outcome : Result X Stop) (view : X → List ℕ) (held : Held) (name : List ℕ)
+    (names : List (List ℕ)) (old new : Option (List ℕ)) (status : Status)
+    → MakesText (IsWatchOf n) view outcome (run_told held name names) → PutOutcome view outcome old new status
+    → status ≡ statuses.Done → AreTold held (name ∷ names) → PrintsBoard n held name names old new
+watch_done n outcome view held name names old new status made put e told =
+    let p = worked_done (IsWatchOf n) outcome view held name names old new status made put e told in
+    record {
+      run = p.run;
+      spelled = p.spelled;
+      journal = p.comes.0;
+      is = p.comes.2;
+      rounds = p.comes.1;
+      count = p.comes.3;
+      board = p.comes.4;
+      taken = p.taken ∙ ap (appended old) p.comes.5;
+      read = watch_read p.run p.comes.0 p.comes.1 p.comes.2;
+    }
+
+-- ---- a made line
 
 pub stress_done : {X : Type 0} (n : ℕ) (outcome : Result X Stop) (view : X → List ℕ) (old new : Option (List ℕ))
     (status : Status) → MakesText IsSummaryOf view outcome (Gives n) → PutOutcome view outcome old new status

@@ -1,4 +1,5 @@
 pub mod Outcomes
 pub mod AllTold
+pub mod WatchRead
 pub mod Headlines
 pub mod DeskDone

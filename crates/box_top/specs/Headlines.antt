@@ -28,7 +28,10 @@ use Rattle.desk_reports.specs.Judgements.{Case, case_told}
 use Rattle.desk_reports.specs.SingleLines.{token_script_told}
 use Rattle.line_runs.specs.Made.{summary_text}
 use Rattle.line_runs.specs.Outputs.{output_text}
+use Rattle.line_runs.specs.Watched.{watch_text}
 use Rattle.line_runs.specs.Worked.{IsJournalOf}
+use Rattle.line_watch.specs.declared.sight.Sight.{Sight}
+use Rattle.line_watch.specs.Shown.{IsBoardOf}
 use Rattle.text_fetch.specs.Runs.{Run, run_told}
 use Rattle.text_fetch.specs.FromTexts.{AreTold, Held, Gives, plan_told}
 use Rattle.token_law.specs.declared.calls.TokenEntry.{TokenEntry}
@@ -50,6 +53,23 @@ pub record PrintsJournal (held : Held) (plan : List ℕ) (scripts : List (List �
   pub read : length (output_text run.plan journal) ≤ most_journal_bytes run.plan.version
       → journal_of run.plan (output_text run.plan journal) ≡ Ok journal
 
+-- The texts of these names spell a plan and its scripts, and the bytes taken are the whole output of a journal of their
+-- run, and then a board of so many rounds that shows this journal: each sight is right after some beginning of it, for
+-- each section the shortest such beginnings never get shorter from round to round, and the last round is right after
+-- the whole of it. Where all this keeps within the limit of a journal's text, it is read as exactly that journal.
+pub record PrintsBoard (n : ℕ) (held : Held) (plan : List ℕ) (scripts : List (List ℕ)) (old new : Option (List ℕ))
+    : Type 0 where
+  pub run : Run
+  pub spelled : run_told held plan scripts ≡ Gives run
+  pub journal : List Entry
+  pub is : IsJournalOf run journal
+  pub rounds : List (List Sight)
+  pub count : length rounds ≡ n
+  pub board : IsBoardOf run.plan journal rounds
+  pub taken : new ≡ appended old (watch_text run.plan journal rounds)
+  pub read : length (watch_text run.plan journal rounds) ≤ most_journal_bytes run.plan.version
+      → journal_of run.plan (watch_text run.plan journal rounds) ≡ Ok journal
+
 -- the text of the made line of n trains spells a plan, and the bytes taken are the summary of a journal of that line,
 -- worked by its own scripts
 pub record PrintsSummary (n : ℕ) (old new : Option (List ℕ)) : Type 0 where
@@ -60,7 +80,8 @@ pub record PrintsSummary (n : ℕ) (old new : Option (List ℕ)) : Type 0 where
   pub taken : new ≡ appended old (summary_text n plan journal)
 
 -- The words are a command; where they are those of `run`, and the shelf tells all their texts, these spell a run, whose
--- output is what was taken; where they are those of `stress`, the summary of the made line is what was taken.
+-- output is what was taken; where they are those of `watch`, its output and a board of so many rounds; where they are
+-- those of `stress`, the summary of the made line is what was taken.
 abbrev pub Headline : Held → Option Command → Option (List ℕ) → Option (List ℕ) → Type 0
 Headline held None old new = ⊥
 Headline held (Some (Command.Run plan scripts)) old new = AreTold held (plan ∷ scripts)
@@ -73,6 +94,8 @@ Headline held (Some (Command.Judge plan journal)) old new = Unit {0}
 Headline held (Some (Command.Audit plan journal)) old new = Unit {0}
 Headline held (Some (Command.Upgrade plan)) old new = Unit {0}
 Headline held (Some (Command.Token script)) old new = Unit {0}
+Headline held (Some (Command.Watch n plan scripts)) old new = AreTold held (plan ∷ scripts)
+    → PrintsBoard n held plan scripts old new
 
 -- ---- a check
 
@@ -201,3 +224,4 @@ Reported held (Some (Command.Audit plan journal)) old new = AreTold held (plan �
     → PrintsAudit held plan journal old new
 Reported held (Some (Command.Upgrade plan)) old new = AreTold held (plan ∷ []) → PrintsUpgrade held plan old new
 Reported held (Some (Command.Token script)) old new = AreTold held (script ∷ []) → PrintsTokens held script old new
+Reported held (Some (Command.Watch n plan scripts)) old new = Unit {0}

@@ -12,18 +12,22 @@ use Rattle.desk_reports.specs.Reports.{findings_told, upgrade_told}
 use Rattle.desk_reports.specs.SingleLines.{HasTokenScript, token_script_told, tokens_told}
 use Rattle.line_runs.specs.Made.{IsSummaryOf}
 use Rattle.line_runs.specs.Outputs.{IsOutputOf}
+use Rattle.line_runs.specs.Watched.{IsWatchOf}
 
--- what a command is to print: exactly this text; the output of a run; or the summary of the made line of n trains
+-- what a command is to print: exactly this text; the output of a run; the summary of the made line of n trains; or the
+-- output of a run that is watched in so many rounds, with the board
 pub data Print : Type 0 where
   Exactly : List ℕ → Print
   OutputOf : Run → Print
   SummaryOf : ℕ → Print
+  WatchOf : ℕ → Run → Print
 
 -- a text is what is to be printed: of a line that is worked, that of one of its journals
 abbrev pub IsPrintOf : Print → List ℕ → Type 0
 IsPrintOf (Exactly bytes) text = text ≡ bytes
 IsPrintOf (OutputOf run) text = IsOutputOf run text
 IsPrintOf (SummaryOf n) text = IsSummaryOf n text
+IsPrintOf (WatchOf n run) text = IsWatchOf n run text
 
 -- exactly the text that is told is to be printed
 abbrev pub told_exactly : FromTexts (List ℕ) → FromTexts Print
@@ -40,6 +44,7 @@ command_told held (Command.Judge plan journal) = told_exactly (judgement_told he
 command_told held (Command.Audit plan journal) = told_exactly (audit_told held plan journal)
 command_told held (Command.Upgrade plan) = told_exactly (upgrade_told held plan)
 command_told held (Command.Token script) = told_exactly (tokens_told held script)
+command_told held (Command.Watch n plan scripts) = told_then (run_told held plan scripts) (λ run. Gives (WatchOf n run))
 
 -- What is told of a command of the desk is sound: the verdict on a case is the law's, and the calls of a token script
 -- may be made. Of the other commands nothing more has to be said.
@@ -53,6 +58,7 @@ IsSound held (Command.Judge plan journal) = IsJudged (case_told held plan journa
 IsSound held (Command.Audit plan journal) = IsJudged (case_told held plan journal)
 IsSound held (Command.Upgrade plan) = Unit {0}
 IsSound held (Command.Token script) = HasTokenScript (token_script_told held script)
+IsSound held (Command.Watch n plan scripts) = Unit {0}
 
 -- what is told before text k of a command, from 0, is fetched
 abbrev pub told_before : Held → Command → ℕ → FromTexts (Unit {0})
@@ -65,6 +71,7 @@ told_before held (Command.Judge plan journal) = case_told_before held plan
 told_before held (Command.Audit plan journal) = case_told_before held plan
 told_before held (Command.Upgrade plan) = λ k. Gives tt
 told_before held (Command.Token script) = λ k. Gives tt
+told_before held (Command.Watch n plan scripts) = run_told_before held plan scripts
 
 -- the count of no text that the words name rose
 abbrev pub NoneRose : (List ℕ → ℕ) → (List ℕ → ℕ) → Option Command → Type 0

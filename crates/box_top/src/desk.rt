@@ -85,8 +85,8 @@ pub fn serve_desk<S: Shelf, K: Sink>(
 /// How it ends:
 ///
 /// - `Done`: what the command prints is put. A finding, or a wrong reply in a journal, is an answer too.
-/// - `Words`: the words are no such command, as those of `run` and `stress` aren't. Nothing is asked of the shelf, and
-///   `words not understood` is put.
+/// - `Words`: the words are no such command, as those of `run`, `stress` and `watch` aren't. Nothing is asked of the
+///   shelf, and `words not understood` is put.
 /// - `Refused`: `refused text T line L: CAUSE` is put, for the text that is refused first, the plan or the token script
 ///   being text 1, and the journal text 2. A name that no box has is refused as `unknown name` at line 0 of the plan.
 /// - `ShelfFault`: the fetch of a text that the words name failed, and nothing before it is refused. Nothing is put.

@@ -12,7 +12,7 @@ use crate::desk::serve_desk;
 use crate::put::{WORDS_LINE, put_outcome, put_text};
 use crate::status::Status;
 use command_words::{CommandLine, command_of};
-use line_runs::{run_outcome, stress_outcome};
+use line_runs::{run_outcome, stress_outcome, watch_outcome};
 use line_working::Gate;
 use rail_text::{NoMemory, Shelf, Sink};
 use std::alloc::Global;
@@ -43,6 +43,36 @@ fn serve_run<R: Threads + Wait + Sync, S: Shelf, K: Sink, G: Gate>(
     ensures same { (n : List ℕ) → S.held shelf.new n ≡ S.held shelf.old n }
 {
     let outcome = run_outcome(rt, alloc, shelf, plan, scripts, gate);
+    put_outcome(alloc, out, outcome)
+}
+
+// Runs the scripts of a plan in the same way, while an observer looks at the line's instruments in so many rounds.
+fn serve_watch<R: Threads + Wait + Sync, S: Shelf, K: Sink, G: Gate>(
+    rt: &R,
+    alloc: Global,
+    rounds: u32,
+    plan: &str,
+    scripts: &[&str],
+    shelf: &mut S,
+    out: &mut K,
+    gate: &G,
+) -> Status
+    requires low { 1 ≤ rounds }
+    requires high { rounds ≤ 1000 }
+    ensures printed { Printed (S.held shelf.old) (Some (Command.Watch rounds plan.now (named scripts.now)))
+        (K.taken out.old) (K.taken out.new) result }
+    ensures headline { result ≡ Status.Done
+        → Headline (S.held shelf.old) (Some (Command.Watch rounds plan.now (named scripts.now))) (K.taken out.old)
+        (K.taken out.new) }
+    ensures sink { result ≡ Status.SinkFault → Rose (K.faults out.old) (K.faults out.new) }
+    ensures shelf { result ≡ Status.ShelfFault
+        → ShelfCause (S.held shelf.old) (S.faults shelf.old) (S.faults shelf.new)
+        (Some (Command.Watch rounds plan.now (named scripts.now))) }
+    ensures not_fetched { result ≡ Status.ShelfFault → out.new ≡ out.old }
+    ensures no_memory { result ≡ Status.NoMemory → out.new ≡ out.old }
+    ensures same { (n : List ℕ) → S.held shelf.new n ≡ S.held shelf.old n }
+{
+    let outcome = watch_outcome(rt, alloc, shelf, rounds, plan, scripts, gate);
     put_outcome(alloc, out, outcome)
 }
 
@@ -95,6 +125,15 @@ fn serve<R: Threads + Wait + Sync, S: Shelf, K: Sink, G: Gate>(
             serve_run(rt, alloc, plan, &scripts, shelf, out, gate)
         }
         Ok(Some(CommandLine::Stress { trains })) => serve_stress(rt, alloc, trains, out, gate),
+        Ok(
+            Some(
+                CommandLine::Watch {
+                    rounds,
+                    plan,
+                    scripts,
+                },
+            ),
+        ) => serve_watch(rt, alloc, rounds, plan, &scripts, shelf, out, gate),
         Ok(Some(CommandLine::Desk(command))) => serve_desk(alloc, command, shelf, out),
         Ok(None) => put_text(out, WORDS_LINE, Status::Words),
         Err(NoMemory) => Status::NoMemory,
@@ -104,15 +143,18 @@ fn serve<R: Threads + Wait + Sync, S: Shelf, K: Sink, G: Gate>(
 /// Does what the words of a command line say, those behind the program's name. `run PLAN SCRIPT..` fetches the plan and
 /// one script for each of its boxes, in box order, works the scripts, each call behind the gate, and puts the whole
 /// output: the journal, the register of each box, the refused calls, and the most trains that each section held.
-/// `stress N` makes the line of N trains, works it by its own scripts, each call behind the gate, and puts a summary.
-/// Every other command is done as `desk_top` does it.
+/// `watch N PLAN SCRIPT..` does the same while an observer looks at the line's instruments in N rounds, and puts the
+/// same and then the board of these rounds. `stress N` makes the line of N trains, works it by its own scripts, each
+/// call behind the gate, and puts a summary. Every other command is done as `desk_top` does it.
 ///
 /// - `Done`: what the command prints is put. The journal of a run, and that of a made line, is one legal history of the
-///   line, and has exactly each script's calls, in order.
+///   line, and has exactly each script's calls, in order. Each sight of a board is right after some beginning of the
+///   journal, the shortest such beginnings never get shorter from round to round, and the last round is right after the
+///   whole.
 /// - `Words`: the words are no command. Nothing is asked of the shelf, and `words not understood` is put.
 /// - `Refused`: `refused text T line L: CAUSE` is put, for what is wrong first in the order of fetching: the plan as
-///   text 1, then for a run at its line 0 the number of scripts, then each script or the journal, from text 2 on. A
-///   made line is never refused.
+///   text 1, then for `run` and `watch` at its line 0 the number of scripts, then each script or the journal, from text
+///   2 on. A made line is never refused.
 /// - `ShelfFault`: the fetch of a text that the words name failed, and nothing before it is refused. Nothing is put.
 /// - `SinkFault`: the sink failed, and took only a front part of what was to be put.
 /// - `NoMemory`: memory ran out. Nothing is put, since the whole output is built first.

@@ -164,3 +164,11 @@ token_entered = record {
   finds = finds (codes "token")
       (shape_of (codes "token")) refl refl refl;
 }
+
+pub watch_entered : IsEntered (codes "watch")
+unfolding clap_on_literals
+watch_entered = record {
+  takes = enters (codes "watch") (shape_of (codes "watch")) refl refl refl;
+  finds = finds (codes "watch")
+      (shape_of (codes "watch")) refl refl refl;
+}

@@ -13,13 +13,16 @@ use Rattle.clap.specs.Lexer.{usize_max}
 use Rattle.clap.specs.Words.{Text, subcommand_of, takes}
 use Rattle.command_words.specs.Commands.{Command, audit_in, bytes_of, chart_in, check_in, command_in, command_of}
 use Rattle.command_words.specs.Commands.{is_plain_word, judge_in, run_in, stress_in, tables_in, token_in, upgrade_in}
+use Rattle.command_words.specs.Commands.{watch_in}
 use Rattle.command_words.specs.ClapTable.{has_word_count, has_command_form, all_commands}
 use Rattle.command_words.specs.ClapReads.{command_read}
 use Rattle.command_words.proofs.Enters.{IsEntered, audit_entered, chart_entered, check_entered, judge_entered}
 use Rattle.command_words.proofs.Enters.{run_entered, stress_entered, tables_entered, token_entered, upgrade_entered}
+use Rattle.command_words.proofs.Enters.{watch_entered}
 use Rattle.command_words.proofs.RunWords.{both, no_hyphen, run_reads, run_takes}
 use Rattle.command_words.proofs.ShortWords.{TakesOne, TakesTwo, audit_two, chart_two, check_one, judge_two, stress_one}
 use Rattle.command_words.proofs.ShortWords.{tables_two, token_one, upgrade_one}
+use Rattle.command_words.proofs.WatchWords.{watch_reads, watch_takes}
 
 -- clap takes the words, and what it finds is this command
 pub record Reads (words : List Text) (command : Option Command) : Type 0 where
@@ -41,6 +44,30 @@ run_words ((b ∷ bs) ∷ (c ∷ cs) ∷ words) plain count fits =
       taken = run_entered.takes _ (run_takes b bs c cs (no_hyphen b e.0) (no_hyphen c f.0) words f.1 (omega arith));
       found = ap command_read (run_entered.finds ((b ∷ bs) ∷ (c ∷ cs) ∷ words))
           ∙ run_reads b bs c cs (no_hyphen b e.0) (no_hyphen c f.0) words f.1;
+    }
+
+watch_words : (words : List Text) → list_all is_plain_word words ≡ true → nat_le 3 (length words) ≡ true
+    → length words ≤ usize_max + 1 → Reads (codes "watch" ∷ words) (watch_in words)
+watch_words [] plain count fits = absurd cc
+watch_words (rounds ∷ []) plain count fits = absurd cc
+watch_words (rounds ∷ plan ∷ []) plain count fits = absurd cc
+watch_words ([] ∷ plan ∷ script ∷ words) plain count fits = absurd cc
+watch_words ((d ∷ ds) ∷ [] ∷ script ∷ words) plain count fits =
+    absurd (true≢false (sym (both (not (eqb d 45)) _ plain).1))
+watch_words ((d ∷ ds) ∷ (b ∷ bs) ∷ [] ∷ words) plain count fits =
+    let e = both (not (eqb d 45)) _ plain in
+    absurd (true≢false (sym (both (not (eqb b 45)) _ e.1).1))
+watch_words ((d ∷ ds) ∷ (b ∷ bs) ∷ (c ∷ cs) ∷ words) plain count fits =
+    let e = both (not (eqb d 45)) _ plain in
+    let f = both (not (eqb b 45)) _ e.1 in
+    let g = both (not (eqb c 45)) (list_all is_plain_word words) f.1 in
+    let x = no_hyphen d e.0 in
+    let y = no_hyphen b f.0 in
+    let z = no_hyphen c g.0 in
+    record {
+      taken = watch_entered.takes _ (watch_takes d ds b bs c cs x y z words g.1 (omega arith));
+      found = ap command_read (watch_entered.finds ((d ∷ ds) ∷ (b ∷ bs) ∷ (c ∷ cs) ∷ words))
+          ∙ watch_reads d ds b bs c cs x y z words g.1;
     }
 
 other_count : (m n : ℕ) → n < m → (m == n) ≡ true → ⊥
@@ -174,7 +201,10 @@ counted first words plain count fits = elim (split (bytes_eq first (codes "run")
                 | inl h ↦ named (codes "upgrade") first words h.0 (upgrade_words words plain h.1)
                 | inr upgrade ↦ elim (split (bytes_eq first (codes "token")) _ _ upgrade) [
                   | inl h ↦ named (codes "token") first words h.0 (token_words words plain h.1)
-                  | inr none ↦ absurd cc
+                  | inr token ↦ elim (split (bytes_eq first (codes "watch")) _ _ token) [
+                    | inl h ↦ named (codes "watch") first words h.0 (watch_words words plain h.1 fits)
+                    | inr none ↦ absurd cc
+                  ]
                 ]
               ]
             ]
@@ -211,6 +241,13 @@ no_run : (words : List Text) → nat_le 2 (length words) ≡ false → run_in wo
 no_run [] e = refl
 no_run (plan ∷ []) e = refl
 no_run (plan ∷ script ∷ words) e = let some : 2 ≤ length (plan ∷ script ∷ words) = omega arith in
+    absurd (true≢false (sym (le-leb _ _ some) ∙ e))
+
+no_watch : (words : List Text) → nat_le 3 (length words) ≡ false → watch_in words ≡ None
+no_watch [] e = refl
+no_watch (rounds ∷ []) e = refl
+no_watch (rounds ∷ plan ∷ []) e = refl
+no_watch (rounds ∷ plan ∷ script ∷ words) e = let some : 3 ≤ length (rounds ∷ plan ∷ script ∷ words) = omega arith in
     absurd (true≢false (sym (le-leb _ _ some) ∙ e))
 
 no_stress : (words : List Text) → (length words == 1) ≡ false → stress_in words ≡ None
@@ -268,7 +305,8 @@ not_counted first words =
     (no_branch (bytes_eq first (codes "judge")) _ _ _ _ (no_judge words)
     (no_branch (bytes_eq first (codes "audit")) _ _ _ _ (no_audit words)
     (no_branch (bytes_eq first (codes "upgrade")) _ _ _ _ (no_upgrade words)
-    (no_branch (bytes_eq first (codes "token")) _ _ _ _ (no_token words) (λ e. refl)))))))))
+    (no_branch (bytes_eq first (codes "token")) _ _ _ _ (no_token words)
+    (no_branch (bytes_eq first (codes "watch")) _ _ _ _ (no_watch words) (λ e. refl))))))))))
 
 -- words of another form are no command
 pub no_form : (words : List Text) → has_command_form words ≡ false → command_of words ≡ None

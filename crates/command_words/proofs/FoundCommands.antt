@@ -7,13 +7,12 @@ use Rattle.clap.specs.declared.parser.matches.ArgMatches.{ArgMatches}
 use Rattle.clap.specs.declared.parser.matches.ArgMatches.TheViews.{out-ArgMatches}
 use Rattle.clap.specs.declared.parser.matches.ArgMatches.TheViews.{out-SubCommand}
 use Rattle.clap.specs.declared.parser.matches.SubCommand.{SubCommand}
-use Rattle.std.specs.Prelude.{Box, nat_le, option_and_then, ◌&&◌, ℕ}
+use Rattle.std.specs.Prelude.{Box, option_and_then, ℕ}
 use Rattle.std.specs.Box.{box_value}
-use Rattle.rail_text.specs.Number.{number_of}
-use Rattle.command_words.specs.Commands.{Command, at_desk, desk_command_of, stress_of}
+use Rattle.command_words.specs.Commands.{Command, at_desk, count_of, desk_command_of, most_made_trains, most_rounds}
 use Rattle.command_words.specs.ClapTable.{has_command_form}
 use Rattle.command_words.proofs.Forms.{no_form}
-use Rattle.command_words.specs.ClapReads.{command_line_read, command_read, desk_read, of_both, plan_read}
+use Rattle.command_words.specs.ClapReads.{command_line_read, command_read, desk_read, of_both, plan_read, watch_with}
 
 -- ---- the commands of the desk are those that it reads
 
@@ -59,25 +58,26 @@ run_not_served (Some plan) (Some scripts) = refl
 run_not_served (Some plan) None = refl
 run_not_served None scripts = refl
 
-stress_not_served : (word : Option Text)
-    → at_desk (option_and_then (λ w. option_and_then stress_of (number_of w)) word) ≡ None
+stress_not_served : (trains : Option ℕ) → at_desk (option_map Command.Stress trains) ≡ None
+stress_not_served (Some n) = refl
 stress_not_served None = refl
-stress_not_served (Some word) = go (number_of word)
-  where
-    here : (n : ℕ) (b : Bool) → at_desk (cond b (Some (Command.Stress n)) None) ≡ None
-    here n true = refl
-    here n false = refl
 
-    go : (n : Option ℕ) → at_desk (option_and_then stress_of n) ≡ None
-    go None = refl
-    go (Some n) = here n (nat_le 1 n && nat_le n 200)
+watch_not_served : (rounds : Option ℕ) (plan : Option Text) (scripts : Option (List Text))
+    → at_desk (watch_with rounds plan scripts) ≡ None
+watch_not_served (Some n) (Some plan) (Some scripts) = refl
+watch_not_served (Some n) (Some plan) None = refl
+watch_not_served (Some n) None scripts = refl
+watch_not_served None plan scripts = refl
 
 pub line_at_desk : (name : Text) (rows : List Row) → at_desk (command_line_read name rows) ≡ desk_read name rows
 line_at_desk name rows =
     other (bytes_eq name (codes "run")) name (codes "run") rows _ _ refl refl
     (run_not_served (first_of (codes "plan") rows) (all_of (codes "script") rows))
     (other (bytes_eq name (codes "stress")) name (codes "stress") rows _ _ refl refl
-    (stress_not_served (first_of (codes "trains") rows)) (desk_at_desk name rows))
+    (stress_not_served (option_and_then (count_of most_made_trains) (first_of (codes "trains") rows)))
+    (other (bytes_eq name (codes "watch")) name (codes "watch") rows _ _ refl refl
+    (watch_not_served (option_and_then (count_of most_rounds) (first_of (codes "rounds") rows))
+    (first_of (codes "plan") rows) (all_of (codes "script") rows)) (desk_at_desk name rows)))
 
 -- ---- the subcommand that clap entered
 

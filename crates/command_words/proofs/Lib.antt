@@ -2,7 +2,8 @@ pub mod AddedCommands
 pub mod MatchRules
 pub mod Enters
 pub mod RunWords
+pub mod WatchWords
 pub mod ShortWords
 pub mod Forms
 pub mod FoundCommands
-pub mod StressWords
+pub mod CountWords

@@ -4,4 +4,4 @@ use Rattle.std.proofs.lemmas.Bool.Decides.{nat_tests}
 
 pub ruleset match_rules = (first_value-rows, raw_values-rows)
 
-pub ruleset stress_rules = (first_value-rows, nat_tests)
+pub ruleset count_rules = nat_tests

@@ -17,10 +17,11 @@ use Rattle.command_words.proofs.Enters.{shape_of}
 abbrev pub shape : Shape
 shape = shape_of (codes "run")
 
-abbrev plan_row : Text → Row
-plan_row plan = record {
-  id = codes "plan";
-  values = plan ∷ [];
+-- what is read of an argument that takes one word
+abbrev pub value_row : Text → Text → Row
+value_row id word = record {
+  id = id;
+  values = word ∷ [];
   count = None;
   source = Some CommandLine;
   reading = reading_of
@@ -30,7 +31,7 @@ plan_row plan = record {
 -- the plan and these scripts are read, and more scripts may come
 abbrev among_scripts : Text → List Text → Walk
 among_scripts plan scripts = record {
-  held = record { rows = plan_row plan ∷ []; pending = Some (codes "script", scripts); skip = 0 };
+  held = record { rows = value_row (codes "plan") plan ∷ []; pending = Some (codes "script", scripts); skip = 0 };
   waiting = positional;
   position = 2;
   is_trailing = false;
@@ -78,6 +79,10 @@ scripts_pass plan scripts ((b ∷ bs) ∷ words) h =
     let e = both (not (eqb b 45)) (list_all is_plain_word words) h in
     script_passes plan scripts words b bs (no_hyphen b e.0) (scripts_pass plan (scripts ++ (b ∷ bs) ∷ []) words e.1)
 
+pub all_pass : (texts : List Text) → list_all (λ text. true) texts ≡ true
+all_pass [] = refl
+all_pass (text ∷ texts) = all_pass texts
+
 -- ---- from the plan and the first script on
 
 module _ (b : ℕ) (bs : Text) (c : ℕ) (cs : Text) (h : eqb b 45 ≡ false) (k : eqb c 45 ≡ false) (words : List Text)
@@ -99,10 +104,6 @@ module _ (b : ℕ) (bs : Text) (c : ℕ) (cs : Text) (h : eqb b 45 ≡ false) (k
   passes : walk_passes shape [] (walk_from nothing_held) (plan ∷ scripts) ≡ true
   unfolding clap_on_literals
   passes = simp (h, k, scripts_pass plan ((c ∷ cs) ∷ []) words plain)
-
-  all_pass : (texts : List Text) → list_all (λ text. true) texts ≡ true
-  all_pass [] = refl
-  all_pass (text ∷ texts) = all_pass texts
 
   few : length scripts ≤ usize_max → nat_le (length scripts) usize_max ≡ true
   few fits = le-leb _ _ fits

@@ -1,12 +1,11 @@
 -- What clap makes of one word or two behind a command's name.
 use Rattle.std.proofs.Common.{◌≡◌, ℕ, true, false, eqb, [], ◌∷◌, codes, Option, Some}
-use Rattle.std.specs.Prelude.{option_and_then}
-use Rattle.rail_text.specs.Number.{number_of}
+use Rattle.std.specs.Prelude.{option_map}
 use Rattle.clap.specs.Words.{Text}
 use Rattle.clap.specs.Walk.{nothing_held, rows_after}
 use Rattle.clap.specs.Takes.{level_passes}
 use Rattle.clap.proofs.OnLiterals.{clap_on_literals}
-use Rattle.command_words.specs.Commands.{Command, stress_of}
+use Rattle.command_words.specs.Commands.{Command, count_of, most_made_trains}
 use Rattle.command_words.specs.ClapReads.{command_line_read}
 use Rattle.command_words.proofs.Enters.{shape_of}
 
@@ -25,7 +24,7 @@ pub record TakesTwo (name : Text) (command : Text → Text → Option Command) :
       → command_line_read name (rows_after (shape_of name).rules [] ((b ∷ bs) ∷ (c ∷ cs) ∷ []))
       ≡ command (b ∷ bs) (c ∷ cs)
 
-pub stress_one : TakesOne (codes "stress") (λ word. option_and_then stress_of (number_of word))
+pub stress_one : TakesOne (codes "stress") (λ word. option_map Command.Stress (count_of most_made_trains word))
 unfolding clap_on_literals
 stress_one = record { takes = λ b bs h. simp h; reads = λ b bs h. simp h }
 

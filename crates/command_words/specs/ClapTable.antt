@@ -20,6 +20,7 @@ has_word_count first count =
     else if bytes_eq first (codes "audit") then count == 2
     else if bytes_eq first (codes "upgrade") then count == 1
     else if bytes_eq first (codes "token") then count == 1
+    else if bytes_eq first (codes "watch") then nat_le 3 count
     else false
 
 -- words that clap takes: plain, the first a command, and behind it as many as the command has
@@ -49,6 +50,11 @@ two_argument_command name first second = with_rule (one_argument_command name fi
 abbrev pub run_command : App
 run_command = with_rule (one_argument_command (codes "run") (codes "plan")) (repeated_argument (codes "script"))
 
+-- `watch N PLAN SCRIPT..`
+abbrev pub watch_command : App
+watch_command = with_rule (two_argument_command (codes "watch") (codes "rounds") (codes "plan"))
+    (repeated_argument (codes "script"))
+
 -- the command of a name
 abbrev pub command_named : CommandName → App
 command_named names.Run = run_command
@@ -60,6 +66,7 @@ command_named names.Judge = two_argument_command (codes "judge") (codes "plan") 
 command_named names.Audit = two_argument_command (codes "audit") (codes "plan") (codes "journal")
 command_named names.Upgrade = one_argument_command (codes "upgrade") (codes "plan")
 command_named names.Token = one_argument_command (codes "token") (codes "script")
+command_named names.Watch = watch_command
 
 -- the program; clap is given its words without its own name in front
 abbrev pub program : App
@@ -75,7 +82,7 @@ with_command app name = with_subcommand app (command_named name).top
 abbrev pub all_names : List CommandName
 all_names =
     names.Run ∷ names.Stress ∷ names.Check ∷ names.Tables ∷ names.Chart ∷ names.Judge ∷ names.Audit ∷ names.Upgrade
-    ∷ names.Token ∷ []
+    ∷ names.Token ∷ names.Watch ∷ []
 
 -- the program with all its commands
 abbrev pub all_commands : App

@@ -1,6 +1,6 @@
 -- The command table.
 use Rattle.std.specs.Prelude.{ℕ, Bool, false, not, ◌&&◌, ◌==◌, nat_le, List, [], ◌∷◌, Option, Some, None, if◌then◌else◌}
-use Rattle.std.specs.Prelude.{bytes_eq, codes, map, option_and_then, String, string_bytes}
+use Rattle.std.specs.Prelude.{bytes_eq, codes, map, option_map, option_and_then, String, string_bytes}
 use Rattle.std.specs.Global.{Global}
 use Rattle.std.specs.List.{list_all}
 use Rattle.rail_text.specs.Number.{number_of}
@@ -13,7 +13,8 @@ use Rattle.command_words.specs.declared.command.DeskCommand.TheVariants as desk
 -- its boxes; Stress: the made line of so many trains is worked by its own scripts; Check: a plan is checked; Tables:
 -- the frame of a plan's box is shown, the box by its name; Chart: the locking chart of such a box is shown; Judge: a
 -- journal of a plan's line is judged; Audit: such a journal is audited; Upgrade: a plan is put into version 2; Token: a
--- single line with tokens is worked by the calls of a token script.
+-- single line with tokens is worked by the calls of a token script; Watch: as Run, and the line's instruments are
+-- looked at in so many rounds.
 pub data Command : Type 0 where
   Run : List ℕ → List (List ℕ) → Command
   Stress : ℕ → Command
@@ -24,6 +25,7 @@ pub data Command : Type 0 where
   Audit : List ℕ → List ℕ → Command
   Upgrade : List ℕ → Command
   Token : List ℕ → Command
+  Watch : ℕ → List ℕ → List (List ℕ) → Command
 
 -- the names of a command's texts, in the order in which they are fetched: text 1, text 2 and so on
 abbrev pub texts_of : Command → List (List ℕ)
@@ -36,6 +38,7 @@ texts_of (Command.Judge plan journal) = plan ∷ journal ∷ []
 texts_of (Command.Audit plan journal) = plan ∷ journal ∷ []
 texts_of (Command.Upgrade plan) = plan ∷ []
 texts_of (Command.Token script) = script ∷ []
+texts_of (Command.Watch n plan scripts) = plan ∷ scripts
 
 -- ---- which words are a command
 
@@ -58,13 +61,17 @@ run_in (plan ∷ script ∷ scripts) = Some (Command.Run plan (script ∷ script
 abbrev pub most_made_trains : ℕ
 most_made_trains = 200
 
--- a made line has 1 train to that many
-abbrev pub stress_of : ℕ → Option Command
-stress_of n = if nat_le 1 n && nat_le n most_made_trains then Some (Command.Stress n) else None
+-- a count, from 1 to the most, if the number is one
+abbrev pub within_count : ℕ → ℕ → Option ℕ
+within_count most n = if nat_le 1 n && nat_le n most then Some n else None
 
--- `stress N`, where N is written as numbers are printed
+-- the count that a word names, from 1 to the most; it is written as numbers are printed
+abbrev pub count_of : ℕ → List ℕ → Option ℕ
+count_of most word = option_and_then (within_count most) (number_of word)
+
+-- `stress N`: a made line has 1 train to the most
 abbrev pub stress_in : List (List ℕ) → Option Command
-stress_in (n ∷ []) = option_and_then stress_of (number_of n)
+stress_in (n ∷ []) = option_map Command.Stress (count_of most_made_trains n)
 stress_in words = None
 
 -- `check PLAN`
@@ -102,6 +109,21 @@ abbrev pub token_in : List (List ℕ) → Option Command
 token_in (script ∷ []) = Some (Command.Token script)
 token_in words = None
 
+-- the most rounds of a watch
+abbrev pub most_rounds : ℕ
+most_rounds = 1000
+
+-- a watch of a plan's line in so many rounds
+abbrev pub watch_of : List ℕ → List (List ℕ) → ℕ → Command
+watch_of plan scripts n = Command.Watch n plan scripts
+
+-- `watch N PLAN SCRIPT..`, with one script or more: a watch has 1 round to the most
+abbrev pub watch_in : List (List ℕ) → Option Command
+watch_in [] = None
+watch_in (n ∷ []) = None
+watch_in (n ∷ plan ∷ []) = None
+watch_in (n ∷ plan ∷ script ∷ scripts) = option_map (watch_of plan (script ∷ scripts)) (count_of most_rounds n)
+
 -- the command of a first word and the words behind it
 abbrev pub command_in : List ℕ → List (List ℕ) → Option Command
 command_in first words =
@@ -114,6 +136,7 @@ command_in first words =
     else if bytes_eq first (codes "audit") then audit_in words
     else if bytes_eq first (codes "upgrade") then upgrade_in words
     else if bytes_eq first (codes "token") then token_in words
+    else if bytes_eq first (codes "watch") then watch_in words
     else None
 
 -- the command of these words, if they are of the table
@@ -123,7 +146,7 @@ command_of (first ∷ words) = if list_all is_plain_word (first ∷ words) then 
 
 -- ---- the desk, which works no line of a plan
 
--- a command, if the desk serves it: every one but `run` and `stress`
+-- a command, if the desk serves it: every one but `run`, `stress` and `watch`
 abbrev pub at_desk : Option Command → Option Command
 at_desk None = None
 at_desk (Some (Command.Run plan scripts)) = None
@@ -135,6 +158,7 @@ at_desk (Some (Command.Judge plan journal)) = Some (Command.Judge plan journal)
 at_desk (Some (Command.Audit plan journal)) = Some (Command.Audit plan journal)
 at_desk (Some (Command.Upgrade plan)) = Some (Command.Upgrade plan)
 at_desk (Some (Command.Token script)) = Some (Command.Token script)
+at_desk (Some (Command.Watch n plan scripts)) = None
 
 -- the command of these words, if the desk serves it
 unfoldable pub desk_command_of : List (List ℕ) → Option Command
@@ -156,4 +180,5 @@ desk_shown (desk.Token script) = Command.Token script.now
 abbrev pub shown : CommandLine → Command
 shown (lines.Run plan scripts) = Command.Run plan.now (map (λ name. name.now) scripts.items)
 shown (lines.Stress trains) = Command.Stress trains
+shown (lines.Watch rounds plan scripts) = Command.Watch rounds plan.now (map (λ name. name.now) scripts.items)
 shown (lines.Desk command) = desk_shown command

@@ -6,7 +6,7 @@ ghost use Rattle.clap.specs.declared.builder.command.Command.TheViews.{out-Comma
 ghost use Rattle.command_words.specs.Commands.{bytes_of, command_of};
 ghost use Rattle.command_words.specs.ClapTable.{all_commands, command_named, has_command_form, one_argument_command};
 ghost use Rattle.command_words.specs.ClapTable.{program, repeated_argument, required_argument, run_command};
-ghost use Rattle.command_words.specs.ClapTable.{two_argument_command, with_command};
+ghost use Rattle.command_words.specs.ClapTable.{two_argument_command, watch_command, with_command};
 ghost use Rattle.command_words.specs.ClapReads.{command_read};
 
 use clap::error::ErrorKind;
@@ -26,10 +26,11 @@ enum CommandName {
     Audit,
     Upgrade,
     Token,
+    Watch,
 }
 
 // The names of all commands.
-const ALL_NAMES: [CommandName; 9] = [
+const ALL_NAMES: [CommandName; 10] = [
     CommandName::Run,
     CommandName::Stress,
     CommandName::Check,
@@ -39,6 +40,7 @@ const ALL_NAMES: [CommandName; 9] = [
     CommandName::Audit,
     CommandName::Upgrade,
     CommandName::Token,
+    CommandName::Watch,
 ];
 
 // An argument that is required.
@@ -90,6 +92,14 @@ fn run_command<'a>(alloc: Global) -> Result<Command<'a>, AllocError>
     one_argument_command(alloc, "run", "plan")?.arg(repeated_argument(alloc, "script"))
 }
 
+// `watch N PLAN SCRIPT..`
+fn watch_command<'a>(alloc: Global) -> Result<Command<'a>, AllocError>
+    ensures shape { IfOk result (λ c. app_of c ≡ watch_command) }
+    ensures own { IfOk result (λ c. (out-Command c).has_globals ≡ false) }
+{
+    two_argument_command(alloc, "watch", "rounds", "plan")?.arg(repeated_argument(alloc, "script"))
+}
+
 // The program. clap is given its words without its own name in front.
 fn program<'a>(alloc: Global) -> Command<'a>
     ensures { app_of result ≡ program }
@@ -112,6 +122,7 @@ fn command_named<'a>(alloc: Global, name: CommandName) -> Result<Command<'a>, Al
         CommandName::Audit => two_argument_command(alloc, "audit", "plan", "journal"),
         CommandName::Upgrade => one_argument_command(alloc, "upgrade", "plan"),
         CommandName::Token => one_argument_command(alloc, "token", "script"),
+        CommandName::Watch => watch_command(alloc),
     }
 }
 

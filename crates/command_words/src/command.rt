@@ -1,13 +1,14 @@
 //! The words of a command line.
 
-ghost use Rattle.std.specs.Prelude.{◌≡◌, IfOk, string_bytes};
+ghost use Rattle.std.specs.Prelude.{◌≡◌, IfOk, codes, string_bytes};
 ghost use Rattle.std.specs.List.{list_all};
-ghost use Rattle.std.specs.Option.{option_map};
-ghost use Rattle.clap.specs.Words.{found_of, rows_of, subcommand_rows_of};
-ghost use Rattle.command_words.specs.Commands.{bytes_of, command_of, desk_command_of, desk_shown, is_plain_word, shown};
+ghost use Rattle.std.specs.Option.{option_and_then, option_map};
+ghost use Rattle.clap.specs.Words.{first_of, found_of, rows_of, subcommand_rows_of};
+ghost use Rattle.command_words.specs.Commands.{bytes_of, command_of, count_of, desk_command_of, desk_shown};
+ghost use Rattle.command_words.specs.Commands.{is_plain_word, most_rounds, shown};
 ghost use Rattle.command_words.specs.ClapTable.{has_word_count, has_command_form};
 ghost use Rattle.command_words.specs.ClapReads.{command_line_read, command_read, desk_read, plan_read, run_read};
-ghost use Rattle.command_words.specs.ClapReads.{stress_read};
+ghost use Rattle.command_words.specs.ClapReads.{stress_read, watch_read};
 
 use crate::clap_words::matches_of;
 use clap::ArgMatches;
@@ -16,6 +17,9 @@ use std::alloc::Global;
 
 /// The most trains of a made line.
 pub const MOST_MADE_TRAINS: u32 = 200;
+
+/// The most rounds of a watch.
+pub const MOST_ROUNDS: u32 = 1000;
 
 /// A command that the desk serves: it works no line of a plan.
 #[derive(Clone, Copy, Debug)]
@@ -48,6 +52,13 @@ pub enum CommandLine<'a> {
     Stress {
         trains: u32,
     },
+    /// `watch N PLAN SCRIPT..`: as `run`, and the line's instruments are looked at in so many
+    /// rounds, 1 to 1000.
+    Watch {
+        rounds: u32,
+        plan: &'a str,
+        scripts: Vec<&'a str>,
+    },
     /// A command of the desk.
     Desk(DeskCommand<'a>),
 }
@@ -74,6 +85,7 @@ fn has_word_count(first: &str, count: usize) -> bool
 {
     match first {
         "run" => count >= 2,
+        "watch" => count >= 3,
         "tables" | "chart" | "judge" | "audit" => count == 2,
         "stress" | "check" | "upgrade" | "token" => count == 1,
         _ => false,
@@ -102,19 +114,57 @@ fn read_run<'a>(alloc: Global, found: &ArgMatches<'a>) -> Result<Option<CommandL
     Ok(Some(CommandLine::Run { plan, scripts }))
 }
 
-// The number of trains of `stress`.
-#[tactic(auto, using(crate::proofs::MatchRules::stress_rules))]
-fn read_stress<'a>(found: &ArgMatches<'a>) -> Option<CommandLine<'a>>
-    ensures { option_map shown result ≡ stress_read (rows_of (found_of found.now)) }
+// The count that a word names, from 1 to the most.
+#[tactic(auto, using(crate::proofs::MatchRules::count_rules))]
+fn read_count(word: &str, most: u32) -> Option<u32>
+    ensures { result ≡ count_of most word.now }
 {
-    let trains = read_number(found.get_str("trains")?.as_bytes())?;
-    if (1..=u64::from(MOST_MADE_TRAINS)).contains(&trains) {
-        Some(CommandLine::Stress {
-            trains: trains as u32,
-        })
+    let count = read_number(word.as_bytes())?;
+    if (1..=u64::from(most)).contains(&count) {
+        Some(count as u32)
     } else {
         None
     }
+}
+
+// The number of trains of `stress`.
+#[tactic(auto, using(crate::proofs::MatchRules::match_rules))]
+fn read_stress<'a>(found: &ArgMatches<'a>) -> Option<CommandLine<'a>>
+    ensures { option_map shown result ≡ stress_read (rows_of (found_of found.now)) }
+{
+    let trains = read_count(found.get_str("trains")?, MOST_MADE_TRAINS)?;
+    Some(CommandLine::Stress { trains })
+}
+
+// The rounds of `watch`.
+#[tactic(auto, using(crate::proofs::MatchRules::match_rules))]
+fn read_rounds(found: &ArgMatches<'_>) -> Option<u32>
+    ensures { result
+        ≡ option_and_then (count_of most_rounds) (first_of (codes "rounds") (rows_of (found_of found.now))) }
+{
+    read_count(found.get_str("rounds")?, MOST_ROUNDS)
+}
+
+// The rounds, the plan and the scripts of `watch`.
+#[tactic(auto, using(crate::proofs::MatchRules::match_rules))]
+fn read_watch<'a>(
+    alloc: Global,
+    found: &ArgMatches<'a>,
+) -> Result<Option<CommandLine<'a>>, NoMemory>
+    ensures { IfOk result (λ command. option_map shown command ≡ watch_read (rows_of (found_of found.now))) }
+{
+    let Some(rounds) = read_rounds(found) else {
+        return Ok(None);
+    };
+    let (Some(plan), Some(scripts)) = (found.get_str("plan"), found.get_strs("script")) else {
+        return Ok(None);
+    };
+    let scripts = Vec::from_slice(alloc, scripts)?;
+    Ok(Some(CommandLine::Watch {
+        rounds,
+        plan,
+        scripts,
+    }))
 }
 
 // A command of the desk that names a plan, by its name and what clap found.
@@ -172,14 +222,15 @@ fn read_command_line<'a>(
     match name {
         "run" => read_run(alloc, found),
         "stress" => Ok(read_stress(found)),
+        "watch" => read_watch(alloc, found),
         _ => Ok(read_desk(name, found).map(CommandLine::Desk)),
     }
 }
 
 /// The command of these words, if they are of the table: `run PLAN SCRIPT..`, with one script or
-/// more, `stress N`, with N from 1 to 200, `check PLAN`, `tables PLAN BOX`, `chart PLAN BOX`,
-/// `judge PLAN JOURNAL`, `audit PLAN JOURNAL`, `upgrade PLAN` or `token SCRIPT`. No word is empty or
-/// begins with `-`.
+/// more, `stress N`, with N from 1 to 200, `watch N PLAN SCRIPT..`, with N from 1 to 1000 and one
+/// script or more, `check PLAN`, `tables PLAN BOX`, `chart PLAN BOX`, `judge PLAN JOURNAL`,
+/// `audit PLAN JOURNAL`, `upgrade PLAN` or `token SCRIPT`. No word is empty or begins with `-`.
 #[tactic(auto, using(crate::proofs::FoundCommands::command_rules))]
 pub fn command_of<'a>(
     alloc: Global,
@@ -197,7 +248,8 @@ pub fn command_of<'a>(
     }
 }
 
-/// The command of these words, if the desk serves it: every command but `run` and `stress`.
+/// The command of these words, if the desk serves it: every command but `run`, `stress` and
+/// `watch`.
 #[tactic(auto, using(crate::proofs::FoundCommands::desk_rules), unfolding(crate::specs::Commands::desk_command_of))]
 pub fn desk_command_of<'a>(
     alloc: Global,

@@ -4,4 +4,6 @@
 mod clap_words;
 mod command;
 
-pub use command::{CommandLine, DeskCommand, MOST_MADE_TRAINS, command_of, desk_command_of};
+pub use command::{
+    CommandLine, DeskCommand, MOST_MADE_TRAINS, MOST_ROUNDS, command_of, desk_command_of,
+};

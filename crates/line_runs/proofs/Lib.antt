@@ -4,3 +4,4 @@ pub mod Turning
 pub mod SerialTurns
 pub mod ScriptsWorked
 pub mod OutputRead
+pub mod LineWatched

@@ -21,16 +21,19 @@ use Rattle.train_laws.proofs.PullTold.{each_pull_told}
 use Rattle.script_text.specs.Scripts.{IsScriptOf, most_calls}
 use Rattle.script_text.specs.declared.script.Script.{Script}
 use Rattle.train_register.specs.Registers.{AreParts, RegisterFields}
+use Rattle.train_register.proofs.Parts.{parts_printable}
 use Rattle.signalman_seats.specs.Lines.{AreFresh, AreMen, Closed}
 use Rattle.signalman_seats.specs.Men.{IsFresh, Man}
 use Rattle.line_journal.specs.Order.{IsInOrder}
 use Rattle.line_report.specs.Asked.{AreFewEntries}
+use Rattle.line_report.proofs.Histories.{legal_spelled}
 use Rattle.line_report.proofs.PrintedJournals.{legal_judged, legal_read}
 use Rattle.line_working.specs.Working.{CanWork, DidWork}
 use Rattle.line_working.proofs.FreshMen.{fresh_works}
 use Rattle.text_fetch.specs.Runs.{AreScriptsOf, Run}
 use Rattle.line_runs.specs.Rosters.{calls_of_scripts}
-use Rattle.line_runs.specs.Worked.{ArePullsTold, AreWorked, HasCallsOf, HoldsFew, IsJournalOf, lengths_of}
+use Rattle.line_runs.specs.Worked.{ArePullsTold, AreWorked, HasCallsOf, HoldsFew, IsJournalOf}
+use Rattle.line_runs.specs.Worked.{IsWorkedLine, lengths_of}
 use Rattle.line_runs.proofs.SerialTurns.{boxes_few, entries_few, scripts_are, scripts_few}
 
 -- ---- scripts by their boxes
@@ -120,6 +123,15 @@ can_work table_id plan scripts men own fresh b d e lt =
     let room = length_there scripts b e within in
     fresh_works table_id plan b (get_or (lengths_of scripts) b 0) (get_or scripts b e) (get_or men b d)
     (fresh.fresh b d lt) (script_of_box plan scripts own b e within) (omega (arith, room))
+
+-- the same as the men are lent, by the plan of which they are
+pub can_work_lent : (table_id : TableId) (plan key : PlanFields) (scripts : List Script) (men lent : List Man)
+    → key ≡ plan → lent ≡ men → AreScriptsOf plan scripts → AreFresh table_id plan (lengths_of scripts) men
+    → (b : ℕ) (d : Man) (e : Script) → b < length lent → CanWork table_id key (get_or scripts b e) (get_or lent b d)
+can_work_lent table_id plan key scripts men lent of same own fresh b d e lt =
+    subst (λ (p : PlanFields). CanWork table_id p (get_or scripts b e) (get_or lent b d)) (sym of)
+    (subst (λ (ms : List Man). CanWork table_id plan (get_or scripts b e) (get_or ms b d)) (sym same)
+    (can_work table_id plan scripts men own fresh b d e (subst (λ (ms : List Man). b < length ms) same lt)))
 
 -- each of these men has worked his script
 pub record HaveWorked (table_id : TableId) (plan : PlanFields) (scripts : List Script) (looks : ℕ)
@@ -215,6 +227,40 @@ men_worked table_id plan scripts looks before after registers is own fresh have 
     calls : HasCallsOf scripts closed.log
     calls b = by_box b (cases_lt b (length scripts))
 
+-- the men of an open line have worked, and are written back
+pub record AreDone (table_id : TableId) (plan key : PlanFields) (scripts : List Script) (looks : ℕ)
+    (before after written : List Man) : Type 0 where
+  pub have : HaveWorked table_id plan scripts looks before after
+  pub back : written ≡ after
+  pub are : AreMen table_id key written
+
+pub men_done : (table_id : TableId) (plan key : PlanFields) (scripts : List Script) (looks n : ℕ)
+    (before lent after : List Man) → key ≡ plan → lent ≡ before → n ≡ length lent → AreScriptsOf plan scripts
+    → AreFresh table_id plan (lengths_of scripts) before → length after ≡ length lent
+    → ((b : ℕ) (d : Man) (e : Script) → b < length lent
+    → DidWork table_id key (get_or scripts b e) looks (get_or lent b d) (get_or after b d))
+    → AreDone table_id plan key scripts looks before after (take n (after ++ drop (length after) before))
+men_done table_id plan key scripts looks n before lent after of same len own fresh each worked =
+    let have = have_worked table_id plan key scripts looks before lent after of same each worked in
+    let back = written_back n after before (len ∙ sym each) in
+    record {
+      have = have;
+      back = back;
+      are = subst (λ (ms : List Man). AreMen table_id key ms) (sym back)
+          (subst (λ (p : PlanFields). AreMen table_id p after) (sym of)
+          (are_men table_id plan scripts looks before after own fresh have));
+    }
+
+pub done_worked : (table_id : TableId) (plan key : PlanFields) (scripts : List Script) (looks : ℕ)
+    (before after written : List Man) (registers : List RegisterFields) → IsPlan plan → key ≡ plan
+    → AreScriptsOf plan scripts → AreFresh table_id plan (lengths_of scripts) before
+    → AreDone table_id plan key scripts looks before after written → Closed key written registers
+    → AreWorked plan scripts registers
+done_worked table_id plan key scripts looks before after written registers is of own fresh done closed =
+    men_worked table_id plan scripts looks before after registers is own fresh done.have
+    (subst (λ (ms : List Man). Closed plan ms registers) done.back
+    (subst (λ (p : PlanFields). Closed p written registers) of closed))
+
 -- ---- on one thread
 
 pub alone_worked : (plan : PlanFields) (scripts : List Script) (es : List Entry) (registers : List RegisterFields)
@@ -287,3 +333,23 @@ few_merged plan scripts registers journal worked count =
     let few = worked.few in
     let same = count worked.history worked.legal worked.parts in
     omega (arith, few, same)
+
+-- what the registers of a line that was worked are merged into
+pub line_merged : (run : Run) (registers : List RegisterFields) (journal : List Entry) → IsPlan run.plan
+    → AreWorked run.plan run.scripts registers → IsLegal run.plan journal → AreParts run.plan journal registers
+    → IsInOrder run.plan journal
+    → ((history : List Entry) → IsLegal run.plan history → AreParts run.plan history registers
+    → length journal ≡ length history) → IsWorkedLine run journal registers
+line_merged run registers journal is worked legal parts order count =
+    let few = few_merged run.plan run.scripts registers journal worked count in
+    let spelled = legal_spelled run.plan journal is (omega (arith, few)) legal in
+    record {
+      journal = journal_is run registers journal is worked legal parts order;
+      printed = record {
+        legal = legal;
+        few = few;
+        spelled = spelled;
+        parts = parts;
+        printable = parts_printable run.plan journal registers parts spelled;
+      };
+    }

@@ -4,3 +4,4 @@ pub mod Serial
 pub mod Worked
 pub mod Outputs
 pub mod Made
+pub mod Watched

@@ -1,5 +1,5 @@
 -- A line that is worked by its scripts, and the journal that comes of it.
-use Rattle.std.specs.Prelude.{◌≡◌, ◌≤◌, ℕ, List, ◌∷◌, ◌++◌, Ok, length, map}
+use Rattle.std.specs.Prelude.{◌≡◌, ◌≤◌, ℕ, List, ◌∷◌, ◌++◌, All, Ok, length, map}
 use Rattle.line_plan.specs.Plans.{PlanFields}
 use Rattle.line_plan.specs.Sections.{IsSection, limit_of}
 use Rattle.line_plan.specs.declared.section.Section.{Section}
@@ -14,10 +14,11 @@ use Rattle.line_report.specs.Journals.{journal_text}
 use Rattle.line_report.specs.Reading.{journal_of, most_journal_bytes}
 use Rattle.line_report.specs.Verdicts.{verdict_of}
 use Rattle.line_report.specs.declared.judging.Verdict.TheVariants.{Legal}
+use Rattle.script_text.specs.Entries.{IsSpelled}
 use Rattle.script_text.specs.declared.script.Script.{Script}
 use Rattle.text_fetch.specs.Runs.{Run}
 use Rattle.train_laws.specs.MayPull.{IsPullTold}
-use Rattle.train_register.specs.Registers.{AreParts, RegisterFields}
+use Rattle.train_register.specs.Registers.{AreParts, IsPrintable, RegisterFields}
 use Rattle.line_runs.specs.Rosters.{calls_of_scripts}
 
 -- how many calls each script has
@@ -66,3 +67,16 @@ pub record IsJournalOf (run : Run) (journal : List Entry) : Type 0 where
   pub trains : HoldsFew run.plan journal
   pub read : IsReadBack run.plan journal
   pub judged : verdict_of run.plan journal ≡ Legal
+
+-- a legal journal can be printed, and so can the registers with its parts
+pub record CanBePrinted (plan : PlanFields) (entries : List Entry) (registers : List RegisterFields) : Type 0 where
+  pub legal : IsLegal plan entries
+  pub few : AreFewEntries entries
+  pub spelled : All (IsSpelled plan) entries
+  pub parts : AreParts plan entries registers
+  pub printable : All (IsPrintable plan) registers
+
+-- a line was worked and has ended: its journal is one of this run, and it can be printed with its registers
+pub record IsWorkedLine (run : Run) (entries : List Entry) (registers : List RegisterFields) : Type 0 where
+  pub journal : IsJournalOf run entries
+  pub printed : CanBePrinted run.plan entries registers

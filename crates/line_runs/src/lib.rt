@@ -1,5 +1,5 @@
-//! Runs: a line is worked by the scripts of its boxes, each on a thread of its own, and what is printed of it is built
-//! whole.
+//! Runs: a line is worked by the scripts of its boxes, each on a thread of its own, and may be watched meanwhile. What is
+//! printed of it is built whole.
 #![tactic(auto)]
 
 mod look;
@@ -8,8 +8,12 @@ mod run;
 mod serial;
 mod stress;
 mod turns;
+mod watch;
+mod watched;
 mod worked;
 
 pub use run::run_outcome;
 pub use stress::stress_outcome;
+pub use watch::watch_outcome;
+pub use watched::{WatchedLine, watched_line};
 pub use worked::{WorkedLine, worked_line};

@@ -20,10 +20,10 @@ use std::thread::Threads;
 use text_fetch::{Inputs, Stop, fetch_inputs};
 use train_register::put_registers;
 
-// Puts the whole output of a line that was worked behind a text: the journal, the registers, the refused calls and the
-// sections.
+/// Puts the whole output of a line that was worked behind a text: the journal, the registers, the refused calls and the
+/// sections.
 #[tactic(auto, unfolding(crate::specs::Outputs::output_text))]
-fn put_output(
+pub(crate) fn put_output(
     out: &mut String,
     alloc: Global,
     plan: &Plan,

@@ -3,11 +3,11 @@
 ghost use Rattle.std.specs.Prelude.{◌≡◌, All, Err, IfOk, IfSome, Ok, OnErr};
 ghost use Rattle.line_report.specs.Asked.{AreFewEntries};
 ghost use Rattle.script_text.specs.Entries.{IsSpelled};
-ghost use Rattle.signalman_seats.specs.Lines.{AreFresh};
+ghost use Rattle.signalman_seats.specs.Lines.{AreFresh, AreMen, Closed};
 ghost use Rattle.signalman_seats.specs.declared.opening.OpenError.{OpenError};
 ghost use Rattle.text_fetch.specs.Runs.{AreScriptsOf};
 ghost use Rattle.train_register.specs.Registers.{AreParts, IsPrintable};
-ghost use Rattle.line_runs.specs.Worked.{AreWorked, IsJournalOf, lengths_of};
+ghost use Rattle.line_runs.specs.Worked.{AreWorked, IsJournalOf, IsWorkedLine, lengths_of};
 
 use crate::serial::work_serially;
 use instrument_rule::Line;
@@ -32,8 +32,8 @@ pub struct WorkedLine {
     pub ended: Ended,
 }
 
-// How many calls each script has.
-fn lengths_of(alloc: Global, scripts: &[Script]) -> Result<Vec<usize>, AllocError>
+/// How many calls each script has.
+pub(crate) fn lengths_of(alloc: Global, scripts: &[Script]) -> Result<Vec<usize>, AllocError>
     ensures { IfOk result (λ lengths. lengths.items ≡ lengths_of scripts.now) }
 {
     let mut lengths = Vec::new(alloc);
@@ -41,6 +41,20 @@ fn lengths_of(alloc: Global, scripts: &[Script]) -> Result<Vec<usize>, AllocErro
         lengths.push(script.calls.as_slice().len())?;
     }
     Ok(lengths)
+}
+
+/// The registers of a line that is closed by its men.
+pub(crate) fn closed_line(alloc: Global, line: Line, men: Vec<Signalman>) -> Result<Ended, NoMemory>
+    requires { AreMen line.table.shared.table_id line.table.shared.key men.items }
+    ensures { IfOk result (λ ended. Closed line.table.shared.key men.items ended.registers) }
+{
+    match close_line(alloc, line, men) {
+        Ok(ended) => Ok(ended),
+        Err(refused) => {
+            drop(refused);
+            Err(NoMemory)
+        }
+    }
 }
 
 // Lets each man of an open line work his script, and closes the line.
@@ -60,17 +74,11 @@ fn work_and_close<R: Threads + Wait + Sync, G: Gate>(
 {
     plan.meets_conditions();
     work_line(rt, alloc, &line, &mut men, scripts, plan.looks, gate);
-    match close_line(alloc, line, men) {
-        Ok(ended) => Ok(ended),
-        Err(refused) => {
-            drop(refused);
-            Err(NoMemory)
-        }
-    }
+    closed_line(alloc, line, men)
 }
 
-// The line that was opened, with its men; none where the post of a box was taken.
-fn opened_line(
+/// The line that was opened, with its men; none where the post of a box was taken.
+pub(crate) fn opened_line(
     opened: Result<(Line, Vec<Signalman>), OpenError>,
 ) -> Result<Option<(Line, Vec<Signalman>)>, NoMemory>
     ensures line { IfOk result (λ o. IfSome o (λ line. opened ≡ Ok line)) }
@@ -105,8 +113,8 @@ fn work_by_men<R: Threads + Wait + Sync, G: Gate>(
     }
 }
 
-// The registers of a line whose scripts are worked on this thread.
-fn work_alone<G: Gate>(
+/// The registers of a line whose scripts are worked on this thread.
+pub(crate) fn work_alone<G: Gate>(
     alloc: Global,
     plan: &Plan,
     scripts: &[Script],
@@ -139,6 +147,29 @@ fn work_scripts<R: Threads + Wait + Sync, G: Gate>(
     }
 }
 
+/// Merges the registers of a line whose scripts were worked into its journal.
+pub(crate) fn merged_line(
+    alloc: Global,
+    plan: &Plan,
+    scripts: &[Script],
+    ended: Ended,
+) -> Result<WorkedLine, NoMemory>
+    requires scripts { AreScriptsOf plan.now scripts.now }
+    requires worked { AreWorked plan.now scripts.now ended.registers }
+    ensures line { IfOk result (λ line. IsWorkedLine (record { plan = plan.now; scripts = scripts.now })
+        line.journal.entries line.ended.registers) }
+    ensures kept { IfOk result (λ line. line.ended.registers ≡ ended.registers) }
+{
+    plan.meets_conditions();
+    match merge(alloc, plan, &ended) {
+        Ok(journal) => Ok(WorkedLine { journal, ended }),
+        Err(NoMemory) => {
+            drop(ended);
+            Err(NoMemory)
+        }
+    }
+}
+
 /// Works the scripts of a plan's boxes, one for each in box order, and merges the registers into the journal. Each
 /// script is worked by its own signalman on a thread of his own, each call behind the gate.
 pub fn worked_line<R: Threads + Wait + Sync, G: Gate>(
@@ -156,13 +187,6 @@ pub fn worked_line<R: Threads + Wait + Sync, G: Gate>(
     ensures spelled { IfOk result (λ line. All (IsSpelled plan.now) line.journal.entries) }
     ensures printable { IfOk result (λ line. All (IsPrintable plan.now) line.ended.registers) }
 {
-    plan.meets_conditions();
     let ended = work_scripts(rt, alloc, plan, scripts, gate)?;
-    match merge(alloc, plan, &ended) {
-        Ok(journal) => Ok(WorkedLine { journal, ended }),
-        Err(NoMemory) => {
-            drop(ended);
-            Err(NoMemory)
-        }
-    }
+    merged_line(alloc, plan, scripts, ended)
 }

@@ -1,0 +1,95 @@
+//! The output of a run that is watched, built whole.
+
+ghost use Rattle.std.specs.Prelude.{◌≡◌, ◌≤◌, ◌++◌, ◌∷◌, ℕ, List, IfOk, IsErrOf, OnOk, length, string_bytes};
+ghost use Rattle.text_fetch.specs.FromTexts.{HasShelfFault, named};
+ghost use Rattle.text_fetch.specs.Runs.{AreScriptsOf, run_told, run_told_before};
+ghost use Rattle.line_runs.specs.Outputs.{MakesText};
+ghost use Rattle.line_runs.specs.Watched.{IsWatchOf, watch_text};
+ghost use Rattle.line_runs.specs.Worked.{CanBePrinted};
+
+use crate::run::put_output;
+use crate::watched::{WatchedLine, watched_line};
+use line_plan::Plan;
+use line_watch::put_board;
+use line_working::Gate;
+use rail_text::{NoMemory, Shelf};
+use std::alloc::Global;
+use std::sync::Wait;
+use std::thread::Threads;
+use text_fetch::{Inputs, Stop, fetch_inputs};
+
+// Puts the whole output of a line that was watched behind a text: that of a run, and the board.
+#[tactic(auto, unfolding(crate::specs::Watched::watch_text))]
+fn put_watch(
+    out: &mut String,
+    alloc: Global,
+    plan: &Plan,
+    watched: &WatchedLine,
+) -> Result<(), NoMemory>
+    requires printed { CanBePrinted plan.now watched.now.worked.journal.entries watched.now.worked.ended.registers }
+    requires board { watched.now.board.boxes ≡ length plan.now.boxes }
+    ensures { OnOk result (string_bytes out.new ≡ string_bytes out.old
+        ++ watch_text plan.now watched.now.worked.journal.entries watched.now.board.rounds) }
+{
+    put_output(out, alloc, plan, &watched.worked)?;
+    Ok(put_board(out, plan, &watched.board)?)
+}
+
+// The whole output of a line that was watched.
+fn watched_output(alloc: Global, plan: &Plan, watched: &WatchedLine) -> Result<Vec<u8>, NoMemory>
+    requires printed { CanBePrinted plan.now watched.now.worked.journal.entries watched.now.worked.ended.registers }
+    requires board { watched.now.board.boxes ≡ length plan.now.boxes }
+    ensures { IfOk result (λ text. text.items
+        ≡ watch_text plan.now watched.now.worked.journal.entries watched.now.board.rounds) }
+{
+    let mut out = String::new(alloc);
+    put_watch(&mut out, alloc, plan, watched)?;
+    Ok(out.into_bytes())
+}
+
+// The whole output of a plan and its scripts, watched for so many rounds.
+fn watch_output<R: Threads + Wait + Sync, G: Gate>(
+    rt: &R,
+    alloc: Global,
+    rounds: u32,
+    inputs: &Inputs,
+    gate: &G,
+) -> Result<Vec<u8>, NoMemory>
+    requires scripts { AreScriptsOf inputs.now.plan inputs.now.scripts.items }
+    requires rounds { (1 ≤ rounds) × (rounds ≤ 1000) }
+    ensures { IfOk result (λ text. IsWatchOf rounds
+        (record { plan = inputs.now.plan; scripts = inputs.now.scripts.items }) text.items) }
+{
+    let watched = watched_line(rt, alloc, &inputs.plan, &inputs.scripts, rounds, gate)?;
+    let text = watched_output(alloc, &inputs.plan, &watched);
+    drop(watched);
+    text
+}
+
+/// The output of the run of the named texts, each script worked by its own signalman on a thread of his own, and behind
+/// it the board of an observer who watched the line for so many rounds; or why there is none.
+pub fn watch_outcome<R: Threads + Wait + Sync, S: Shelf, G: Gate>(
+    rt: &R,
+    alloc: Global,
+    shelf: &mut S,
+    rounds: u32,
+    plan_name: &str,
+    script_names: &[&str],
+    gate: &G,
+) -> Result<Vec<u8>, Stop>
+    requires rounds { (1 ≤ rounds) × (rounds ≤ 1000) }
+    ensures told { MakesText (IsWatchOf rounds) (λ text. text.items) result
+        (run_told (S.held shelf.old) plan_name.now (named script_names.now)) }
+    ensures fault { IsErrOf result Stop.ShelfFault
+        → HasShelfFault (S.faults shelf.old) (S.faults shelf.new) (plan_name.now ∷ named script_names.now)
+        (run_told_before (S.held shelf.old) plan_name.now (named script_names.now)) }
+    ensures same { (n : List ℕ) → S.held shelf.new n ≡ S.held shelf.old n }
+{
+    let inputs = fetch_inputs(alloc, shelf, plan_name, script_names)?;
+    let text = watch_output(rt, alloc, rounds, &inputs, gate);
+    drop(inputs);
+    match text {
+        Ok(text) => Ok(text),
+        Err(NoMemory) => Err(Stop::NoMemory),
+    }
+}
