@@ -1,4 +1,4 @@
-.PHONY: demo build cases bench soak faults edge test
+.PHONY: demo build cases bench soak faults edge sizes test
 
 example = run data/example.plan data/ash.script data/beech.script data/cedar.script
 
@@ -20,8 +20,8 @@ cases:
 bench:
 	python3 bench/times.py $(BESIDE) crates/box_main/out/box_main
 
-# Three that try the program that `make build` leaves: it works made lines for MINUTES, with bad signalmen; each allocation
-# is refused in turn; bad files, outputs and words. Each stops with status 0 where it found nothing.
+# Four that try the program that `make build` leaves: it works made lines for MINUTES, with bad signalmen; each allocation
+# is refused in turn; bad files, outputs and words; the greatest texts. Each stops with status 0 where it found nothing.
 MINUTES = 10
 
 soak:
@@ -32,6 +32,9 @@ faults:
 
 edge:
 	python3 hostile/edge.py crates/box_main/out/box_main
+
+sizes:
+	python3 hostile/sizes.py crates/box_main/out/box_main
 
 # The gate: every proof, the must-fail edits, the tests, and the program as two compilers make it.
 test:

@@ -6,3 +6,4 @@ mod bad_signalmen;
 mod desk;
 mod faults;
 mod gates;
+mod orders;

@@ -5,6 +5,8 @@ ghost use Rattle.token_block.specs.Men.{IsOf};
 
 use crate::facts::all_hold;
 use crate::men::asked;
+use crate::worked::JOURNEY;
+use std::sync::atomic::{AtomicU64, Ordering};
 use std::thread;
 use std::thread::Threads;
 use token_block::{TokenLine, TokenMan, open_token};
@@ -98,4 +100,111 @@ fn no_token_is_lost_between_two_threads(rt: HostRuntime) {
     let is_so = all_tokens_stay(&rt, &line, one, other, 7);
     drop(line);
     all_hold(&rt, &[("seven tokens", is_so)]);
+}
+
+// How often a man looks whether it is his turn before he gives up.
+const MOST_TURNS: u32 = 1_000_000_000;
+
+// A gate that lets the calls of a list be made in its order. It keeps how many were made, and how many men gave up.
+#[derive(Drop)]
+struct InTurn {
+    made: AtomicU64,
+    gave_up: AtomicU64,
+}
+
+impl InTurn {
+    fn new() -> InTurn {
+        InTurn {
+            made: AtomicU64::new(0),
+            gave_up: AtomicU64::new(0),
+        }
+    }
+
+    // Waits until so many calls are made.
+    fn wait(&self, calls: u64) {
+        for _ in 0..MOST_TURNS {
+            if self.made.load(Ordering::SeqCst) == calls {
+                return;
+            }
+        }
+        self.gave_up.fetch_add(1, Ordering::SeqCst);
+    }
+
+    // Lets the next call be made.
+    fn pass_on(&self) {
+        self.made.fetch_add(1, Ordering::SeqCst);
+    }
+}
+
+// A man who has made his calls, and whether each got the reply that is due.
+#[derive(Drop)]
+struct Made {
+    man: TokenMan,
+    are_due: bool,
+}
+
+// A man makes the calls of his box of the journey, each in its turn.
+fn makes_his(mut man: TokenMan, line: &TokenLine, box_no: u32, gate: &InTurn) -> Made
+    requires { IsOf line.now.table.shared.table_id line.now.table.shared.key man }
+    ensures { IsOf line.now.table.shared.table_id line.now.table.shared.key result.man }
+{
+    let mut are_due = true;
+    for (i, (at, act, reply)) in JOURNEY.iter().enumerate() {
+        if *at == box_no {
+            gate.wait(i as u64);
+            let told = asked(line, &mut man, *act);
+            are_due &= told == Some(*reply);
+            gate.pass_on();
+        }
+    }
+    Made { man, are_due }
+}
+
+// Both men make the journey, each on a thread of his own, in turn. Did each call get the reply that is due, and is the
+// only token at the other end then?
+fn make_the_journey(
+    rt: &impl Threads,
+    line: &TokenLine,
+    one: TokenMan,
+    other: TokenMan,
+    gate: &InTurn,
+) -> bool
+    requires one { IsOf line.now.table.shared.table_id line.now.table.shared.key one }
+    requires other { IsOf line.now.table.shared.table_id line.now.table.shared.key other }
+{
+    let (mut one, mut other) = thread::join(
+        rt,
+        move || -> Made
+            requires { IsOf line.now.table.shared.table_id line.now.table.shared.key one }
+            ensures { IsOf line.entry.now.table.shared.table_id line.entry.now.table.shared.key result.man }
+        { makes_his(one, line, 0, gate) },
+        move || -> Made
+            requires { IsOf line.now.table.shared.table_id line.now.table.shared.key other }
+            ensures { IsOf line.entry.now.table.shared.table_id line.entry.now.table.shared.key result.man }
+        { makes_his(other, line, 1, gate) },
+    );
+    one.man.meet(line, &mut other.man);
+    let are_due = one.are_due & other.are_due;
+    let have_called = one.man.calls() == 5 && other.man.calls() == 5;
+    let is_moved = one.man.tokens() == 0 && other.man.tokens() == 1;
+    drop(other);
+    drop(one);
+    are_due & have_called & is_moved
+}
+
+#[test]
+fn two_threads_make_the_journey_in_turn(rt: HostRuntime) {
+    let gate = InTurn::new();
+    let (line, one, other) = open_token(rt.alloc(), 1, 0).expect(&rt, "a line");
+    let is_made = make_the_journey(&rt, &line, one, other, &gate);
+    let nobody_gave_up = gate.gave_up.load(Ordering::SeqCst) == 0;
+    drop(line);
+    drop(gate);
+    all_hold(
+        &rt,
+        &[
+            ("each reply, and the token at box 1", is_made),
+            ("nobody gave up", nobody_gave_up),
+        ],
+    );
 }

@@ -1,7 +1,8 @@
 //! The desk alone: it works no line.
 
 use crate::tests::desk::{
-    ASH_IDLE, BEECH_IDLE, IDLE_JOURNAL, JUDGE, RUN_TWO, TWO_BOXES, agrees, serve_at_desk,
+    ASH_IDLE, AUDIT, BEECH_IDLE, IDLE_JOURNAL, JUDGE, RUN_TWO, TOKEN, TOKEN_IDLE, TWO_BOXES,
+    WATCH_TWO, agrees, serve_at_desk,
 };
 use box_top::Status;
 use std::test::Fail;
@@ -14,8 +15,15 @@ type Row = (
     &'static str,
 );
 
-const ROWS: [Row; 9] = [
+const ROWS: [Row; 12] = [
     (JUDGE, &[TWO_BOXES, IDLE_JOURNAL], Status::Done, "legal 0\n"),
+    (AUDIT, &[TWO_BOXES, IDLE_JOURNAL], Status::Done, "audit 0\n"),
+    (
+        TOKEN,
+        &[TOKEN_IDLE],
+        Status::Done,
+        "token 1\nend\ntokens 1 0 out 0\n",
+    ),
     (
         &["check", "plan"],
         &[TWO_BOXES],
@@ -54,6 +62,12 @@ const ROWS: [Row; 9] = [
     ),
     (
         RUN_TWO,
+        &[TWO_BOXES, ASH_IDLE, BEECH_IDLE],
+        Status::Words,
+        "words not understood\n",
+    ),
+    (
+        WATCH_TWO,
         &[TWO_BOXES, ASH_IDLE, BEECH_IDLE],
         Status::Words,
         "words not understood\n",

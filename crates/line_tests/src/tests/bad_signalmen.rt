@@ -1,8 +1,10 @@
-//! Bad signalmen, each on a thread of his own, five hundred times each: whatever comes of it, the judge finds it legal.
+//! Bad signalmen, each on a thread of his own, five hundred times each: whatever comes of it, the judge finds it legal,
+//! the journal stands in the order of its own parts, and while it is clean its section holds few trains.
 
 use crate::tests::desk::{JUDGE, RUN_TWO, SOUND, agrees, output_behind, serve_at_desk};
+use crate::tests::orders::are_orderly;
 use box_top::{Gate, Status};
-use rail_text::NoMemory;
+use rail_text::ReadError;
 use std::alloc::Global;
 use std::sync::Wait;
 use std::sync::atomic::{AtomicU64, Ordering};
@@ -87,17 +89,19 @@ impl Gate for Restless {
     }
 }
 
-// Works the scripts behind the gate, and judges what was printed.
+// Works the scripts behind the gate, judges what was printed, and looks at its order and its trains.
 fn is_judged_legal<R: Threads + Wait + Sync>(
     rt: &R,
     alloc: Global,
     (ash, beech, legal): Bad,
     gate: &Restless,
-) -> Result<bool, NoMemory> {
+) -> Result<bool, ReadError> {
     let (status, output) = output_behind(rt, alloc, RUN_TWO, &[PLAN, ash, beech], SOUND, gate)?;
     let judged = serve_at_desk(alloc, JUDGE, &[PLAN, &output], legal);
+    let is_orderly = are_orderly(alloc, PLAN, &output);
     drop(output);
-    Ok(status == Status::Done && judged?.fills(legal.len(), Status::Done, legal))
+    let is_legal = judged?.fills(legal.len(), Status::Done, legal);
+    Ok(status == Status::Done && is_legal && is_orderly?)
 }
 
 #[test]

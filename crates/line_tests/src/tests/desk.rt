@@ -11,6 +11,9 @@ use std::thread::Threads;
 /// The words that run a plan of two boxes.
 pub const RUN_TWO: &[&str] = &["run", "plan", "ash", "beech"];
 
+/// The words that watch it for two rounds.
+pub const WATCH_TWO: &[&str] = &["watch", "2", "plan", "ash", "beech"];
+
 /// The words that judge a journal.
 pub const JUDGE: &[&str] = &["judge", "plan", "journal"];
 
@@ -25,6 +28,15 @@ pub const BEECH_IDLE: &[u8] = b"script Beech\nend\n";
 
 /// A journal without an entry.
 pub const IDLE_JOURNAL: &[u8] = b"journal 1\nend\n";
+
+/// The words that audit a journal.
+pub const AUDIT: &[&str] = &["audit", "plan", "journal"];
+
+/// The words that work a single line with tokens.
+pub const TOKEN: &[&str] = &["token", "single"];
+
+/// A token script without a call.
+pub const TOKEN_IDLE: &[u8] = b"token 1\ntokens 1 0\nend\n";
 
 /// Which fetch and which put fails, counted from 1, if any, and how many bytes the sink has room for.
 #[derive(Clone, Copy, Debug)]
@@ -105,6 +117,14 @@ fn named(alloc: Global, name: &str, text: &[u8]) -> Result<(String, Vec<u8>), No
     }
 }
 
+// How many words stand before those that name texts.
+fn words_before_texts(words: &[&str]) -> usize {
+    match words {
+        ["watch", ..] => 2,
+        _ => 1,
+    }
+}
+
 // Puts texts, each under the word that names it, behind others.
 fn push_texts(
     held: &mut Vec<(String, Vec<u8>)>,
@@ -112,7 +132,7 @@ fn push_texts(
     words: &[&str],
     texts: &[&[u8]],
 ) -> Result<(), NoMemory> {
-    for (name, text) in words.iter().skip(1).zip(texts) {
+    for (name, text) in words.iter().skip(words_before_texts(words)).zip(texts) {
         held.push(named(alloc, name, text)?)?;
     }
     Ok(())
@@ -159,7 +179,7 @@ fn with_words(
     }
 }
 
-// A desk with these words, over a shelf of the texts that the words behind the first name, as many as are given.
+// A desk with these words, over a shelf of the texts that they name, as many as are given.
 fn desk_of(
     alloc: Global,
     words: &[&str],
@@ -186,8 +206,8 @@ fn taken_of(taken: &[u8], wanted: &[u8]) -> Option<usize> {
     }
 }
 
-/// Does what the words say, over a shelf of the texts that the words behind the first name, as many as are given, and
-/// looks for these bytes in the sink.
+/// Does what the words say, over a shelf of the texts that they name, as many as are given, and looks for these bytes
+/// in the sink.
 pub fn work_behind<R: Threads + Wait + Sync, G: Gate>(
     rt: &R,
     alloc: Global,

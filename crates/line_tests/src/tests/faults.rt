@@ -1,8 +1,8 @@
 //! Texts that can't be fetched, and output that can't be written.
 
 use crate::tests::desk::{
-    ASH_IDLE, BEECH_IDLE, IDLE_JOURNAL, JUDGE, Outside, RUN_TWO, SOUND, TWO_BOXES, agrees,
-    work_behind,
+    ASH_IDLE, AUDIT, BEECH_IDLE, IDLE_JOURNAL, JUDGE, Outside, RUN_TWO, SOUND, TOKEN, TOKEN_IDLE,
+    TWO_BOXES, WATCH_TWO, agrees, work_behind,
 };
 use box_top::{OpenGate, Status};
 use std::test::Fail;
@@ -19,7 +19,7 @@ type Fetch = (
     Status,
 );
 
-const FETCHES: [Fetch; 15] = [
+const FETCHES: [Fetch; 22] = [
     (
         Some(1),
         RUN_TWO,
@@ -61,6 +61,31 @@ const FETCHES: [Fetch; 15] = [
     ),
     (
         Some(1),
+        WATCH_TWO,
+        &[TWO_BOXES, ASH_IDLE, BEECH_IDLE],
+        Status::ShelfFault,
+    ),
+    (
+        Some(2),
+        WATCH_TWO,
+        &[TWO_BOXES, ASH_IDLE, BEECH_IDLE],
+        Status::ShelfFault,
+    ),
+    (
+        Some(3),
+        WATCH_TWO,
+        &[TWO_BOXES, ASH_IDLE, BEECH_IDLE],
+        Status::ShelfFault,
+    ),
+    // The number of rounds names no text.
+    (
+        Some(2),
+        WATCH_TWO,
+        &[b"", ASH_IDLE, BEECH_IDLE],
+        Status::Refused,
+    ),
+    (
+        Some(1),
         JUDGE,
         &[TWO_BOXES, IDLE_JOURNAL],
         Status::ShelfFault,
@@ -71,6 +96,19 @@ const FETCHES: [Fetch; 15] = [
         &[TWO_BOXES, IDLE_JOURNAL],
         Status::ShelfFault,
     ),
+    (
+        Some(1),
+        AUDIT,
+        &[TWO_BOXES, IDLE_JOURNAL],
+        Status::ShelfFault,
+    ),
+    (
+        Some(2),
+        AUDIT,
+        &[TWO_BOXES, IDLE_JOURNAL],
+        Status::ShelfFault,
+    ),
+    (Some(1), TOKEN, &[TOKEN_IDLE], Status::ShelfFault),
     // A plan that is refused is refused before the journal is fetched.
     (Some(2), JUDGE, &[b"", IDLE_JOURNAL], Status::Refused),
     (
@@ -131,13 +169,31 @@ type Output = (
     u64,
 );
 
-const OUTPUTS: [Output; 10] = [
+const OUTPUTS: [Output; 13] = [
     (
         RUN_TWO,
         &[TWO_BOXES, ASH_IDLE, BEECH_IDLE],
         Status::Done,
         IDLE,
         12,
+    ),
+    (
+        WATCH_TWO,
+        &[TWO_BOXES, ASH_IDLE, BEECH_IDLE],
+        Status::Done,
+        b"journal 1\n\
+            end\n\
+            register Ash 0\n\
+            register Beech 0\n\
+            refusals 0\n\
+            section down Ash Beech most 0\n\
+            section up Beech Ash most 0\n\
+            board 2\n\
+            1 down Ash Beech 0 normal unspent\n\
+            1 up Beech Ash 0 normal unspent\n\
+            2 down Ash Beech 0 normal unspent\n\
+            2 up Beech Ash 0 normal unspent\n",
+        26,
     ),
     (
         &["check", "plan"],
@@ -196,6 +252,23 @@ const OUTPUTS: [Output; 10] = [
         Status::Done,
         b"wrong at 1\nsaid heard 1 1\nlaw silent 0\n",
         4,
+    ),
+    (
+        AUDIT,
+        &[
+            TWO_BOXES,
+            b"journal 1\n1 Ash 10:00 ring down 3-1 -> rung 1\nend\n",
+        ],
+        Status::Done,
+        b"audit 1\n1 rule 1 offer\n",
+        3,
+    ),
+    (
+        TOKEN,
+        &[TOKEN_IDLE],
+        Status::Done,
+        b"token 1\nend\ntokens 1 0 out 0\n",
+        3,
     ),
     (
         &["tables", "plan", "Ash"],

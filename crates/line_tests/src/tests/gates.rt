@@ -1,9 +1,16 @@
 //! The calls that pass the gate, each signalman on a thread of his own.
 
-use crate::tests::desk::{ASH_IDLE, BEECH_IDLE, RUN_TWO, SOUND, TWO_BOXES, agrees, work_behind};
+use crate::tests::desk::{
+    ASH_IDLE, BEECH_IDLE, RUN_TWO, SOUND, TWO_BOXES, WATCH_TWO, agrees, work_behind,
+};
 use box_top::{Gate, Status};
+use rail_text::NoMemory;
+use std::alloc::Global;
+use std::process::Abort;
+use std::sync::Wait;
 use std::sync::atomic::{AtomicU64, Ordering};
 use std::test::Fail;
+use std::thread::Threads;
 
 // A gate that counts the calls of three boxes, and those that came out of their turn.
 #[derive(Drop)]
@@ -70,16 +77,32 @@ const COUNTS: [Count; 4] = [
     ),
 ];
 
-#[test]
-fn calls_pass_the_gate_once_and_in_turn(rt: HostRuntime) -> Result<(), Fail> {
+// Works the texts of each row by these words, and tests which calls pass.
+fn test_counts<R: Threads + Wait + Sync + Abort>(
+    rt: &R,
+    alloc: Global,
+    words: &[&str],
+) -> Result<(), NoMemory> {
     for (row, (texts, calls)) in COUNTS.into_iter().enumerate() {
         let gate = Counter::new();
-        let worked = work_behind(&rt, rt.alloc(), RUN_TWO, texts, SOUND, &gate, b"");
+        let worked = work_behind(rt, alloc, words, texts, SOUND, &gate, b"");
         let is_so = gate.has_counted(calls);
         drop(gate);
         worked?;
-        agrees(&rt, RUN_TWO, row as u64, is_so);
+        agrees(rt, words, row as u64, is_so);
     }
+    Ok(())
+}
+
+#[test]
+fn calls_pass_the_gate_once_and_in_turn(rt: HostRuntime) -> Result<(), Fail> {
+    test_counts(&rt, rt.alloc(), RUN_TWO)?;
+    Ok(())
+}
+
+#[test]
+fn watched_calls_pass_the_gate_once_and_in_turn(rt: HostRuntime) -> Result<(), Fail> {
+    test_counts(&rt, rt.alloc(), WATCH_TWO)?;
     Ok(())
 }
 
