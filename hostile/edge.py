@@ -143,7 +143,8 @@ class Edge:
             self.row(f"a first word that is {what}", [word], 1, WORDS)
         long = "check " + "x" * 100_000 + " plan"
         for said in ("", "check", "check -", "check --help", "--help", "-V", "help", "stress 0", "stress 201",
-                     "stress 01", "stress +1", "Check plan", long, "check\tplan"):  # fmt: skip
+                     "stress 01", "stress +1", "watch 0 plan ash", "watch 1001 plan ash", "watch 01 plan ash",
+                     "watch 1 plan", "Check plan", long, "check\tplan"):  # fmt: skip
             self.row(f"the words {said}"[:60], said.split(" ") if said else [], 1, WORDS)
         self.row("an empty first word", [""], 1, WORDS)
         self.row("an empty name", ["check", ""], 1, WORDS)

@@ -5,8 +5,8 @@ PROGRAM is crates/box_main/out/box_main. For each command the program is run onc
 C library for; each time it ends with status 5 and prints nothing, or prints what it prints with ample memory. Anything
 else is told, and the exit status is then 1. It takes some minutes, and a C compiler.
 
-Where a thread can't be started, its script is worked when another has ended, so awaits are given up: what `run` then
-prints must be a journal that the program judges legal. The made line of `stress` looks a thousand million times before
+Where a thread can't be started, its script is worked when another has ended, so awaits are given up: what `run` and
+`watch` then print must begin with a journal that the program judges legal. The made line of `stress` looks a thousand million times before
 it gives up; where it still waits after some seconds it is stopped, and counted as waiting.
 """
 
@@ -38,6 +38,7 @@ def commands(folder):
     return [
         ["run", "two.plan", "ash", "beech"],
         ["run", *EXAMPLE],
+        ["watch", "2", "two.plan", "ash", "beech"],
         ["stress", "1"],
         ["check", "example.plan"],
         ["tables", "example.plan", "Beech"],
@@ -68,10 +69,11 @@ class Faults:
         return ran.returncode, ran.stdout, ran.stderr
 
     def is_legal(self, words, output):
-        """Whether a run printed a journal that is judged legal."""
+        """Whether a run, watched or not, printed a journal that is judged legal."""
         with open(f"{self.folder}/printed", "wb") as file:
             file.write(output)
-        return words[0] == "run" and self.ran(["judge", words[1], "printed"])[1].startswith(b"legal ")
+        plan = {"run": 1, "watch": 2}.get(words[0])
+        return plan is not None and self.ran(["judge", words[plan], "printed"])[1].startswith(b"legal ")
 
     def count(self, words):
         """How many allocations the command asks for, at the most of some runs, and how it ends with ample memory."""

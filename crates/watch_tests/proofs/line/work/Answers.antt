@@ -4,12 +4,9 @@ use Rattle.std.specs.Prelude.{IfOk}
 use Rattle.std.proofs.lemmas.List.{get_or-replicate, length-replicate, take-append-le, take_all}
 use Rattle.atomic_table.specs.Seated.{TableId}
 use Rattle.line_plan.specs.Plans.{PlanFields}
-use Rattle.line_law.specs.declared.call.Entry.{Entry}
-use Rattle.line_law.specs.History.{IsLegal}
 use Rattle.line_maker.specs.MadeCalls.{AreLineScripts}
 use Rattle.script_text.specs.Scripts.{IsScriptOf}
 use Rattle.script_text.specs.declared.script.Script.{Script}
-use Rattle.train_register.specs.Registers.{AreParts}
 use Rattle.signalman_seats.specs.Lines.{AreFresh, AreMen, Closed}
 use Rattle.signalman_seats.specs.Men.{IsFresh, Man}
 use Rattle.line_working.specs.Working.{CanWork, DidWork}
