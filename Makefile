@@ -28,7 +28,7 @@ soak:
 	python3 hostile/soak.py crates/box_main/out/box_main $(MINUTES)
 
 faults:
-	python3 hostile/faults.py crates/box_main/out/box_main
+	python3 hostile/faults.py crates/box_main/out/box_main $(wildcard crates/desk_tests/out/desk_tests_tests)
 
 edge:
 	python3 hostile/edge.py crates/box_main/out/box_main

@@ -1,13 +1,18 @@
 #!/usr/bin/env python3
-"""Refuses each allocation of the proved program in turn, one at a time and then all from there on: faults.py PROGRAM
+"""Refuses each allocation of the proved program in turn, one at a time, and then all from there on.
+
+faults.py PROGRAM [TESTS]
 
 PROGRAM is crates/box_main/out/box_main. For each command the program is run once for each allocation that it asks the
 C library for; each time it ends with status 5 and prints nothing, or prints what it prints with ample memory. Anything
 else is told, and the exit status is then 1. It takes some minutes, and a C compiler.
 
 Where a thread can't be started, its script is worked when another has ended, so awaits are given up: what `run` and
-`watch` then print must begin with a journal that the program judges legal. The made line of `stress` looks a thousand million times before
-it gives up; where it still waits after some seconds it is stopped, and counted as waiting.
+`watch` then print must begin with a journal that the program judges legal. The made line of `stress` looks a thousand
+million times before it gives up; where it still waits after some seconds it is stopped, and counted as waiting.
+
+TESTS is crates/desk_tests/out/desk_tests_tests, which `make test` leaves: its tests of men who work a line call by
+call, and close it once more where memory ran out for that, pass or tell that memory ran out.
 """
 
 import os
@@ -101,7 +106,29 @@ class Faults:
         print(f"{' '.join(words)}: {count} allocations; ended {said}", flush=True)
 
 
-def main(program):
+class TestFaults(Faults):
+    """The same for one test of a program of tests."""
+
+    def refuse(self, test):
+        count, passes = self.count([test])
+        ends = {}
+        for number in range(1, count + 1):
+            for settings in ({}, {"REFUSE_ALL": "1"}):
+                told = self.ran([test], REFUSE=str(number), **settings)
+                self.runs += 1
+                ends[told[0]] = ends.get(told[0], 0) + 1
+                if told[0] and b"NoMemory" not in told[2] or passes[0]:
+                    self.bad += 1
+                    print(f"{test}: allocation {number}: {told[0]} {told[1][:60]!r} {told[2][:60]!r}")
+        said = ", ".join(f"{times} with status {status}" for status, times in sorted(ends.items(), key=str))
+        print(f"{test}: {count} allocations; ended {said}", flush=True)
+
+    def of_men(self):
+        listed = subprocess.run([self.program, "--list"], capture_output=True, text=True).stdout.split("\n")
+        return [line.split(": ")[0] for line in listed if "::men::" in line]
+
+
+def main(program, *tests):
     with tempfile.TemporaryDirectory(prefix="menglazou-faults-") as folder:
         faults = Faults(program, folder)
         every = commands(folder)
@@ -111,11 +138,15 @@ def main(program):
                 file.write(journal.replace(cut, b" -> rung 2\n", 1) if cut else journal)
         for words in every:
             faults.refuse(words)
+        for those in (TestFaults(path, folder) for path in tests):
+            for test in those.of_men():
+                those.refuse(test)
+            faults.runs, faults.bad = faults.runs + those.runs, faults.bad + those.bad
         print(f"faults {faults.runs} agree {faults.runs - faults.bad}")
         return 1 if faults.bad else 0
 
 
 if __name__ == "__main__":
-    if len(sys.argv) != 2:
+    if len(sys.argv) not in (2, 3):
         sys.exit(__doc__)
-    sys.exit(main(sys.argv[1]))
+    sys.exit(main(*sys.argv[1:]))

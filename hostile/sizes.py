@@ -3,9 +3,9 @@
 
 PROGRAM is crates/box_main/out/box_main. A plan of 64 boxes, each with 64 places, 120 levers and 400 rows, with 5,000
 trains and exactly 4,194,304 bytes, is checked, upgraded and worked by 64 scripts of 10,000 calls each; and a journal of
-its 640,000 entries, of exactly 134,217,728 bytes, is judged and audited. Of each command the time and the most memory are
-printed. One byte more of the plan or of the journal is refused. It takes some minutes; the exit status is 1 where the
-program answers otherwise.
+its 640,000 entries, of exactly 134,217,728 bytes, is judged and audited. Of each command the time and the most memory
+are printed. One byte more of the plan or of the journal is refused. The exit status is 1 where the program answers
+otherwise.
 """
 
 import multiprocessing
@@ -88,7 +88,8 @@ class Sizes:
         self.bad += not is_so
         size = os.path.getsize(out)
         told = "" if is_so else f": status {ended >> 8}, printed {front!r}"
-        print(f"{' '.join(words[:2])}: {took:.2f} s, {used.ru_maxrss / 1024:.0f} MB, {size} bytes printed{told}", flush=True)
+        most = used.ru_maxrss / 1024
+        print(f"{' '.join(words[:2])}: {took:.2f} s, {most:.0f} MB, {size} bytes printed{told}", flush=True)
 
     def plan(self):
         # (in a process of its own: what a program takes is counted from what this one has)

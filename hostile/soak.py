@@ -4,12 +4,14 @@
 PROGRAM is the proved program, crates/box_main/out/box_main. Each round makes a line of 2 to 6 boxes, absolute and
 permissive, in either version, with trains that are offered and accepted by the book, signalmen who leave out calls,
 overrun, divide trains and release lines, and signalmen who do anything at all; few looks, so that awaits are given up.
-The scripts are worked by `run`, each on its thread, and the output is tested here, from the replies alone:
+The scripts are worked by `watch`, each on its thread, and the output is tested here, from the replies alone:
 
 - the journal has each script's calls, once each and in their order; the registers are its parts; the refused calls are
   those whose replies are refused; and `judge` finds it legal;
 - no call stands behind one of a higher box without need, where the two share nothing;
-- the most trains of each section are as the replies tell, and while a section is clean it holds no more than it may.
+- the most trains of each section are as the replies tell, and while a section is clean it holds no more than it may;
+- each sight on the board shows an instrument as it stood after some beginning of the journal, none as it stood before
+  what an earlier round showed, and the last round shows all as they stand at the end.
 
 A round has a number of its own, which is told, and makes the same line again where it is given as SEED.
 """
@@ -123,13 +125,13 @@ class Made:
         return told
 
     def write(self, folder):
-        """Writes plan and scripts, and returns the words that run them."""
+        """Writes plan and scripts, and returns their paths."""
         paths = [f"{folder}/plan", *(f"{folder}/{name}.script" for name in self.names)]
         texts = [self.plan, *([f"script {name}", *calls, "end"] for name, calls in zip(self.names, self.scripts))]
         for path, lines in zip(paths, texts):
             with open(path, "w", encoding="ascii") as file:
                 file.write("\n".join(lines) + "\n")
-        return ["run", *paths]
+        return paths
 
 
 # ---- What is printed
@@ -237,18 +239,51 @@ def test_sections(entries, told, made):
         must(line == most, f"the line of a section: {line}, by the replies {most}")
 
 
+def stands_after(entry, boxes):
+    """Which instrument an entry met or turned, and how that then stands, if the reply tells it."""
+    reply = entry.reply.split(" ")
+    if reply[0] == "turned":
+        return (entry.words[1], entry.section(entry.words[1], True)), (reply[1], entry.words[2], "unspent")
+    if reply[0] == "pulled_under":
+        return entry.shared(boxes)[1:], (reply[1], "line_clear", "spent")
+    if reply[0] == "held_by_instrument":
+        return (reply[1], entry.section(reply[1], False)), (reply[2], reply[3], "spent")
+    return None
+
+
+def test_board(entries, told, made, rounds):
+    """Each sight is one of those that the replies tell, in their order, and the last are those at the end."""
+    pairs = [(way, lower) for lower in range(made.boxes - 1) for way in ("down", "up")]
+    stood = {pair: [("0", "normal", "unspent")] for pair in pairs}
+    for pair, sight in filter(None, (stands_after(entry, made.boxes) for entry in entries)):
+        stood[pair].append(sight)
+    must(told[0] == f"board {rounds}" and len(told) == 1 + rounds * len(pairs), "the board's size")
+    seen, lines = dict.fromkeys(pairs, 0), iter(told[1:])
+    for number in range(1, rounds + 1):
+        for way, lower in pairs:
+            rear, ahead = (lower, lower + 1) if way == "down" else (lower + 1, lower)
+            *named, turns, position, mark = next(lines).split(" ")
+            must(named == [str(number), way, made.names[rear], made.names[ahead]], f"the sections of round {number}")
+            sights, sight = stood[way, lower], (turns, position, mark)
+            must(sight in sights[seen[way, lower] :], f"a sight of round {number}: {' '.join(sight)}")
+            seen[way, lower] = sights.index(sight, seen[way, lower])
+            must(number < rounds or sight == sights[-1], f"the last sight of {way} {lower}")
+
+
 def work(program, seed, folder):
     """Makes a line, works it, and tests what is printed. Returns how many calls it had."""
     made = Made(seed)
-    words = made.write(folder)
-    ran = subprocess.run([program, *words], capture_output=True, timeout=600)
+    paths, rounds = made.write(folder), made.chance.choice([1, 2, 30, 300])
+    ran = subprocess.run([program, "watch", str(rounds), *paths], capture_output=True, timeout=600)
     must(ran.returncode == 0 and not ran.stderr, f"status {ran.returncode} {ran.stderr[:200]}")
     with open(f"{folder}/output", "wb") as file:
         file.write(ran.stdout)
     entries, told = parts_of(ran.stdout, made)
     test_order(entries, made)
-    test_sections(entries, told, made)
-    judged = subprocess.run([program, "judge", words[1], f"{folder}/output"], capture_output=True, timeout=600)
+    sections = 2 * (made.boxes - 1)
+    test_sections(entries, told[:sections], made)
+    test_board(entries, told[sections:], made, rounds)
+    judged = subprocess.run([program, "judge", paths[0], f"{folder}/output"], capture_output=True, timeout=600)
     must(judged.returncode == 0 and judged.stdout == b"legal %d\n" % len(entries), f"the judge: {judged.stdout[:200]}")
     return len(entries)
 
