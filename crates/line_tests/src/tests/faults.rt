@@ -316,7 +316,15 @@ fn failed_puts_leave_whole_puts(rt: HostRuntime) -> Result<(), Fail> {
 #[test]
 fn small_rooms_are_filled(rt: HostRuntime) -> Result<(), Fail> {
     for (words, texts, status, printed, _) in OUTPUTS {
-        for room in [0, 1, 10, 20, 50, printed.len() - 1, printed.len()] {
+        for room in [
+            0,
+            1,
+            10,
+            20,
+            50,
+            printed.len().saturating_sub(1),
+            printed.len(),
+        ] {
             let outside = Outside { room, ..SOUND };
             let answer = work_behind(&rt, rt.alloc(), words, texts, outside, &OpenGate, printed)?;
             agrees(&rt, words, room as u64, answer.fills(room, status, printed));
