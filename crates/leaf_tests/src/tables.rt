@@ -2,8 +2,8 @@
 
 use crate::facts::{all_hold, are_equal, hold, is_debugged, is_shown};
 use locking_table::{
-    Cond, Conds, End, NoMemory, Row, RowError, RowKind, Stand, Table, end_of, print_row, read_row,
-    stand_of,
+    Cond, Conds, End, NoMemory, Row, RowError, RowFault, RowKind, Stand, Table, When, end_of,
+    print_row, read_row, read_spelled, stand_of,
 };
 use std::alloc::{AllocError, Global};
 use std::process::Abort;
@@ -84,6 +84,43 @@ fn a_row_has_its_parts(rt: HostRuntime) -> Result<(), Fail> {
     has_parts(&rt, &row, &wanted);
     let count = wanted.when.into_vec().len();
     assert!(rt; count == 2);
+    Ok(())
+}
+
+#[test]
+fn a_row_is_read_as_it_is_spelled(rt: HostRuntime) -> Result<(), Fail> {
+    let alloc = rt.alloc();
+    let text = b"1 released by 2 when 6 reversed and 7 normal";
+    let spelled = read_spelled(text)?;
+    let kept = spelled.kept(alloc)?;
+    let row = read_row(alloc, text)?;
+    all_hold(
+        &rt,
+        &[
+            ("the row", kept == row),
+            ("its levers differ", spelled.levers_differ()),
+            (
+                "its conditions",
+                spelled.when == When::Both(CONDS[0], CONDS[1]),
+            ),
+            (
+                "a row that ends too early",
+                read_spelled(b"2 locks").err() == Some(RowFault::BadRow { word: 3 }),
+            ),
+            (
+                "a lever twice",
+                read_spelled(b"2 locks 2 normal").err() == Some(RowFault::SameLever),
+            ),
+            (
+                "a lever twice, of a row to be kept",
+                RowError::from(RowFault::SameLever) == RowError::SameLever,
+            ),
+            (
+                "want of memory",
+                RowError::from(NoMemory) == RowError::NoMemory,
+            ),
+        ],
+    );
     Ok(())
 }
 

@@ -192,6 +192,63 @@ fn few_words_are_cut_once(rt: HostRuntime) {
     );
 }
 
+// Words of some others in a row, if there are so many.
+fn words_between<'a>(words: &LineWords<'a>, from: usize, to: usize) -> Option<LineWords<'a>> {
+    if from <= to && to <= words.word_count() {
+        Some(words.between(from, to))
+    } else {
+        None
+    }
+}
+
+#[test]
+fn some_words_stand_in_a_row(rt: HostRuntime) {
+    let many = LineWords::new(MANY_WORDS);
+    let some = words_between(&many, 2, 7).expect(&rt, "five words");
+    let two = words_between(&some, 1, 3).expect(&rt, "two words");
+    let none = words_between(&some, 5, 5).expect(&rt, "no word");
+    all_hold(
+        &rt,
+        &[
+            ("five words", some.word_count() == 5),
+            ("the first of them", some.keyword() == b"a".as_slice()),
+            ("the last of them is empty", is_found(some.word(4), b"")),
+            ("no word behind them", some.word(5).is_none()),
+            (
+                "behind the first of them",
+                is_found(some.behind(0), b"b c d "),
+            ),
+            ("nothing behind the last", some.behind(4).is_none()),
+            ("the number of one", some.number_of(b"c") == Some(2)),
+            ("another has no number", some.number_of(b"f").is_none()),
+            ("the last of two", is_found(two.word(1), b"c")),
+            ("nothing behind the two", two.behind(1).is_none()),
+            ("no word", none.word(0).is_none()),
+            ("no keyword", none.keyword().is_empty()),
+        ],
+    );
+}
+
+// Eighteen words.
+const LONG_LINE: &[u8] = b"0 1 2 3 4 5 6 7 8 9 a b c d e f g h";
+
+#[test]
+fn words_behind_the_first_are_sought(rt: HostRuntime) {
+    let long = LineWords::new(LONG_LINE);
+    all_hold(
+        &rt,
+        &[
+            ("eighteen words", long.word_count() == 18),
+            ("word 15", is_found(long.word(15), b"f")),
+            ("word 16", is_found(long.word(16), b"g")),
+            ("word 17", is_found(long.word(17), b"h")),
+            ("no word 18", long.word(18).is_none()),
+            ("behind word 15", is_found(long.behind(15), b"g h")),
+            ("the number of the last", long.number_of(b"h") == Some(17)),
+        ],
+    );
+}
+
 fn are_formed(text: &[u8], count: usize) -> bool {
     match line_of(text, true).formed(true) {
         Ok(Some(words)) => words.word_count() == count,

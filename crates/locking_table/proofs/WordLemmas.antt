@@ -1,5 +1,6 @@
 -- The words of a text.
-use Rattle.std.proofs.Common.{◌≡◌, ℕ, ◌<◌, ◌^◌, Bool, true, false, not, ◌&&◌, ◌==◌, cond, eqb, List, [], ◌∷◌, ◌++◌, Option, Some, None, refl, ap, sym, ◌∙◌, arith, decimal}
+use Rattle.std.proofs.Common.{◌≡◌, ℕ, ◌<◌, ◌^◌, Bool, true, false, not, ◌&&◌, ◌==◌, cond, eqb, List, [], ◌∷◌, ◌++◌}
+use Rattle.std.proofs.Common.{Option, Some, None, refl, ap, sym, ◌∙◌, arith, decimal}
 use Rattle.std.specs.Prelude.{is_some}
 use Rattle.std.specs.Char.{is_ascii_digit}
 use Rattle.std.specs.List.{list_all}
@@ -20,7 +21,8 @@ cut_step t b bs = cond t ([], Some bs) (b ∷ (cut_of bs).0, (cut_of bs).1)
 abbrev words_step : Bool → ℕ → List ℕ → List (List ℕ)
 words_step t b bs = cond t ([] ∷ words_of bs) (onto_word b (words_of bs))
 
-words-cut-step : (t : Bool) (b : ℕ) (bs : List ℕ) → words_of bs ≡ (cut_of bs).0 ∷ words_after (cut_of bs).1 → words_step t b bs ≡ (cut_step t b bs).0 ∷ words_after (cut_step t b bs).1
+words-cut-step : (t : Bool) (b : ℕ) (bs : List ℕ) → words_of bs ≡ (cut_of bs).0 ∷ words_after (cut_of bs).1
+    → words_step t b bs ≡ (cut_step t b bs).0 ∷ words_after (cut_step t b bs).1
 words-cut-step true b bs ih = refl
 words-cut-step false b bs ih = ap (onto_word b) ih
 
@@ -31,15 +33,19 @@ words-cut (b ∷ bs) = words-cut-step (eqb b 32) b bs (words-cut bs)
 
 pub ruleset word_rules = (words-cut)
 
-some_word : (words : List (List ℕ)) (word : List ℕ) (more : List (List ℕ)) → words ≡ word ∷ more → has_no_word words ≡ false
+some_word : (words : List (List ℕ)) (word : List ℕ) (more : List (List ℕ)) → words ≡ word ∷ more
+    → has_no_word words ≡ false
 some_word words word more e = rw e refl
 
 -- no word is left exactly where nothing is
-pub no_word : {A : Type 0} (text : A → List ℕ) (rest : Option A) (none : Bool) → not none ≡ is_some rest → none ≡ has_no_word (words_after (option_map text rest))
+pub no_word : {A : Type 0} (text : A → List ℕ) (rest : Option A) (none : Bool) → not none ≡ is_some rest
+    → none ≡ has_no_word (words_after (option_map text rest))
 no_word text None true e = refl
 no_word text None false e = cc
 no_word text (Some rest) true e = cc
-no_word text (Some rest) false e = sym (some_word (words_of (text rest)) (cut_of (text rest)).0 (words_after (cut_of (text rest)).1) (words-cut (text rest)))
+no_word text (Some rest) false e =
+    sym (some_word (words_of (text rest)) (cut_of (text rest)).0 (words_after (cut_of (text rest)).1)
+    (words-cut (text rest)))
 
 -- ---- words and their text
 
@@ -61,35 +67,45 @@ words_of-one (b ∷ bs) h =
     let p = not_space (b == 32) (has_no_space bs) h in
     space_step b (b == 32) ([] ∷ words_of bs) (onto_word b (words_of bs)) p.0 ∙ ap (onto_word b) (words_of-one bs p.1)
 
-pub words_of-more : (word rest : List ℕ) → has_no_space word ≡ true → words_of (word ++ 32 ∷ rest) ≡ word ∷ words_of rest
+pub words_of-more : (word rest : List ℕ) → has_no_space word ≡ true
+    → words_of (word ++ 32 ∷ rest) ≡ word ∷ words_of rest
 words_of-more [] rest h = refl
 words_of-more (b ∷ bs) rest h =
     let p = not_space (b == 32) (has_no_space bs) h in
-    space_step b (b == 32) ([] ∷ words_of (bs ++ 32 ∷ rest)) (onto_word b (words_of (bs ++ 32 ∷ rest))) p.0 ∙ ap (onto_word b) (words_of-more bs rest p.1)
+    space_step b (b == 32) ([] ∷ words_of (bs ++ 32 ∷ rest)) (onto_word b (words_of (bs ++ 32 ∷ rest))) p.0
+    ∙ ap (onto_word b) (words_of-more bs rest p.1)
 
 both_words : (a b : Bool) → (a && b) ≡ true → (a ≡ true) × (b ≡ true)
 both_words true b h = (refl, h)
 both_words false b h = cc
 
 -- the words of a joined text are those that were joined
-pub words_of-joined : (word : List ℕ) (words : List (List ℕ)) → list_all has_no_space (word ∷ words) ≡ true → words_of (joined (word ∷ words)) ≡ word ∷ words
-words_of-joined word [] h = let p = both_words (has_no_space word) true h in ap words_of (append-nil word) ∙ words_of-one word p.0
+pub words_of-joined : (word : List ℕ) (words : List (List ℕ)) → list_all has_no_space (word ∷ words) ≡ true
+    → words_of (joined (word ∷ words)) ≡ word ∷ words
+words_of-joined word [] h =
+    let p = both_words (has_no_space word) true h in ap words_of (append-nil word) ∙ words_of-one word p.0
 words_of-joined word (next ∷ words) h =
     let p = both_words (has_no_space word) (list_all has_no_space (next ∷ words)) h in
-    words_of-more word (joined (next ∷ words)) p.0 ∙ ap (λ (ws : List (List ℕ)). word ∷ ws) (words_of-joined next words p.1)
+    words_of-more word (joined (next ∷ words)) p.0
+    ∙ ap (λ (ws : List (List ℕ)). word ∷ ws) (words_of-joined next words p.1)
 
 -- the text of all words of a text is that text
 
-onto_joined : (b : ℕ) (words : List (List ℕ)) (word : List ℕ) (more : List (List ℕ)) → words ≡ word ∷ more → joined (onto_word b words) ≡ b ∷ joined words
+onto_joined : (b : ℕ) (words : List (List ℕ)) (word : List ℕ) (more : List (List ℕ)) → words ≡ word ∷ more
+    → joined (onto_word b words) ≡ b ∷ joined words
 onto_joined b words word more e = rw e refl
 
-spaced_joined : (words : List (List ℕ)) (word : List ℕ) (more : List (List ℕ)) → words ≡ word ∷ more → spaced words ≡ 32 ∷ joined words
+spaced_joined : (words : List (List ℕ)) (word : List ℕ) (more : List (List ℕ)) → words ≡ word ∷ more
+    → spaced words ≡ 32 ∷ joined words
 spaced_joined words word more e = rw e refl
 
-joined_step : (b : ℕ) (bs : List ℕ) (t : Bool) → (t ≡ true → b ≡ 32) → joined (words_of bs) ≡ bs → joined (words_step t b bs) ≡ b ∷ bs
+joined_step : (b : ℕ) (bs : List ℕ) (t : Bool) → (t ≡ true → b ≡ 32) → joined (words_of bs) ≡ bs
+    → joined (words_step t b bs) ≡ b ∷ bs
 joined_step b bs true is ih =
-    spaced_joined (words_of bs) (cut_of bs).0 (words_after (cut_of bs).1) (words-cut bs) ∙ (ap (λ (l : List ℕ). 32 ∷ l) ih ∙ ap (λ (x : ℕ). x ∷ bs) (sym (is refl)))
-joined_step b bs false is ih = onto_joined b (words_of bs) (cut_of bs).0 (words_after (cut_of bs).1) (words-cut bs) ∙ ap (λ (l : List ℕ). b ∷ l) ih
+    spaced_joined (words_of bs) (cut_of bs).0 (words_after (cut_of bs).1) (words-cut bs)
+    ∙ (ap (λ (l : List ℕ). 32 ∷ l) ih ∙ ap (λ (x : ℕ). x ∷ bs) (sym (is refl)))
+joined_step b bs false is ih =
+    onto_joined b (words_of bs) (cut_of bs).0 (words_after (cut_of bs).1) (words-cut bs) ∙ ap (λ (l : List ℕ). b ∷ l) ih
 
 pub joined-words_of : (text : List ℕ) → joined (words_of text) ≡ text
 joined-words_of [] = refl

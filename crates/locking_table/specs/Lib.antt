@@ -4,5 +4,6 @@ pub mod Sound
 pub mod Index
 pub mod Words
 pub mod Printing
+pub mod Spelled
 pub mod Reading
 pub mod FirstFault

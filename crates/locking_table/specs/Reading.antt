@@ -8,8 +8,10 @@ use Rattle.locking_table.specs.declared.row.RowKind.{RowKind}
 use Rattle.locking_table.specs.declared.row.RowKind.TheVariants.{LocksNormal, ReleasedBy, LocksBoth}
 use Rattle.locking_table.specs.declared.row.Cond.{Cond}
 use Rattle.locking_table.specs.declared.row.Row.{Row}
-use Rattle.locking_table.specs.declared.reading.RowError.{RowError}
-use Rattle.locking_table.specs.declared.reading.RowError.TheVariants as errors
+use Rattle.locking_table.specs.declared.fault.RowError.{RowError}
+use Rattle.locking_table.specs.declared.fault.RowError.TheVariants as errors
+use Rattle.locking_table.specs.declared.fault.RowFault.{RowFault}
+use Rattle.locking_table.specs.declared.fault.RowFault.TheVariants as faults
 use Rattle.locking_table.specs.declared.words.Verb.{Verb}
 use Rattle.locking_table.specs.declared.words.Verb.TheVariants.{Locks, Released}
 use Rattle.locking_table.specs.declared.words.Bound.{Bound}
@@ -55,103 +57,108 @@ abbrev pub only : List ℕ → List ℕ → Option (Unit {0})
 only wanted word = if bytes_eq word wanted then Some tt else None
 
 -- what the word with this number says, and what is left behind it
-abbrev pub said : {A : Type 0} → Option A → ℕ → List (List ℕ) → Result (A × Left) RowError
-said None number words = Err (errors.BadRow number)
+abbrev pub said : {A : Type 0} → Option A → ℕ → List (List ℕ) → Result (A × Left) RowFault
+said None number words = Err (faults.BadRow number)
 said (Some value) number words = Ok (value, record { number = number + 1; words = words })
 
-abbrev pub first_by : {A : Type 0} → (List ℕ → Option A) → ℕ → List (List ℕ) → Result (A × Left) RowError
-first_by meaning number [] = Err (errors.BadRow number)
+abbrev pub first_by : {A : Type 0} → (List ℕ → Option A) → ℕ → List (List ℕ) → Result (A × Left) RowFault
+first_by meaning number [] = Err (faults.BadRow number)
 first_by meaning number (word ∷ words) = said (meaning word) number words
 
 -- the next word, by its meaning
-abbrev pub word_by : {A : Type 0} → (List ℕ → Option A) → Left → Result (A × Left) RowError
+abbrev pub word_by : {A : Type 0} → (List ℕ → Option A) → Left → Result (A × Left) RowFault
 word_by meaning left = first_by meaning left.number left.words
 
 abbrev pub has_no_word : List (List ℕ) → Bool
 has_no_word [] = true
 has_no_word (word ∷ words) = false
 
-unfoldable pub lever_from : Left → Result (ℕ × Left) RowError
+unfoldable pub lever_from : Left → Result (ℕ × Left) RowFault
 lever_from left = word_by lever_of left
 
-unfoldable pub end_from : Left → Result (End × Left) RowError
+unfoldable pub end_from : Left → Result (End × Left) RowFault
 end_from left = word_by end_of_word left
 
-unfoldable pub verb_from : Left → Result (Verb × Left) RowError
+unfoldable pub verb_from : Left → Result (Verb × Left) RowFault
 verb_from left = word_by verb_of left
 
-unfoldable pub bound_from : Left → Result (Bound × Left) RowError
+unfoldable pub bound_from : Left → Result (Bound × Left) RowFault
 bound_from left = word_by bound_of left
 
 -- exactly this word
-unfoldable pub only_from : List ℕ → Left → Result (Unit {0} × Left) RowError
+unfoldable pub only_from : List ℕ → Left → Result (Unit {0} × Left) RowFault
 only_from wanted left = word_by (only wanted) left
 
 -- no word more
-unfoldable pub end_of_text : Left → Result (Unit {0} × Left) RowError
-end_of_text left = if has_no_word left.words then Ok (tt, left) else Err (errors.BadRow left.number)
+unfoldable pub end_of_text : Left → Result (Unit {0} × Left) RowFault
+end_of_text left = if has_no_word left.words then Ok (tt, left) else Err (faults.BadRow left.number)
 
-unfoldable pub locked_by : Bound → Left → Result (RowKind × Left) RowError
+unfoldable pub locked_by : Bound → Left → Result (RowKind × Left) RowFault
 locked_by bounds.Normal left = Ok (LocksNormal, left)
 locked_by bounds.Both left = only_from (codes "ways") left >>= λ p. Ok (LocksBoth, p.1)
 
 -- behind `locks B`: `normal` or `both ways`
-unfoldable pub locked_from : Left → Result (RowKind × Left) RowError
+unfoldable pub locked_from : Left → Result (RowKind × Left) RowFault
 locked_from left = bound_from left >>= λ p. locked_by p.0 p.1
 
 -- what the row says of its object: the kind, and the object
-unfoldable pub asked_by : Verb → Left → Result ((RowKind × ℕ) × Left) RowError
+unfoldable pub asked_by : Verb → Left → Result ((RowKind × ℕ) × Left) RowFault
 asked_by Locks left = lever_from left >>= λ object. locked_from object.1 >>= λ kind. Ok ((kind.0, object.0), kind.1)
 asked_by Released left =
     only_from (codes "by") left >>= λ p. lever_from p.1 >>= λ object. Ok ((ReleasedBy, object.0), object.1)
 
-unfoldable pub asked_from : Left → Result ((RowKind × ℕ) × Left) RowError
+unfoldable pub asked_from : Left → Result ((RowKind × ℕ) × Left) RowFault
 asked_from left = verb_from left >>= λ p. asked_by p.0 p.1
 
 -- a condition behind the word that joins it on
-unfoldable pub cond_from : List ℕ → Left → Result (Cond × Left) RowError
+unfoldable pub cond_from : List ℕ → Left → Result (Cond × Left) RowFault
 cond_from joint left = only_from joint left >>= λ p. lever_from p.1 >>= λ lever. end_from lever.1 >>= λ e. Ok
     (record { lever = lever.0; end = e.0 }, e.1)
 
 -- what stands behind one condition: nothing, or one more
-unfoldable pub second_from : Cond → Left → Result (List Cond) RowError
+unfoldable pub second_from : Cond → Left → Result (List Cond) RowFault
 second_from first left =
     if has_no_word left.words then Ok (first ∷ [])
     else (cond_from (codes "and") left >>= λ second. end_of_text second.1 >>= λ _. Ok (first ∷ second.0 ∷ []))
 
 -- up to two conditions, and no word more
-unfoldable pub conds_from : Left → Result (List Cond) RowError
+unfoldable pub conds_from : Left → Result (List Cond) RowFault
 conds_from left = if has_no_word left.words then Ok []
     else (cond_from (codes "when") left >>= λ first. second_from first.0 first.1)
 
 -- a row by the grammar of rows
-unfoldable pub row_from : Left → Result Row RowError
+unfoldable pub row_from : Left → Result Row RowFault
 row_from left = lever_from left >>= λ subject. asked_from subject.1 >>= λ asked. conds_from asked.1 >>= λ conds.
     Ok (record { subject = subject.0; kind = asked.0.0; object = asked.0.1; when = conds })
 
-unfoldable pub grammar_of : List ℕ → Result Row RowError
+unfoldable pub grammar_of : List ℕ → Result Row RowFault
 grammar_of text = row_from (record { number = 1; words = words_of text })
 
 -- all levers that a row names differ
-abbrev pub checked : Row → Result Row RowError
-checked row = if all_differ (levers_of row) then Ok row else Err errors.SameLever
+abbrev pub checked : Row → Result Row RowFault
+checked row = if all_differ (levers_of row) then Ok row else Err faults.SameLever
 
 -- the row that a text spells, or why it spells none
-unfoldable pub row_of : List ℕ → Result Row RowError
+unfoldable pub row_of : List ℕ → Result Row RowFault
 row_of text = grammar_of text >>= checked
 
--- The reader's answer where reading fails: the same cause, or memory ran out.
-abbrev pub FailsRow : {A : Type 0} → RowError → Result A RowError → Type 0
-FailsRow (errors.BadRow word) read = read ≡ Err (errors.BadRow word)
-FailsRow errors.SameLever read = read ≡ Err errors.SameLever
+-- The reader's answer where reading fails: the same fault, or memory ran out.
+abbrev pub FailsRow : {A : Type 0} → RowError → Result A RowFault → Type 0
+FailsRow (errors.BadRow word) read = read ≡ Err (faults.BadRow word)
+FailsRow errors.SameLever read = read ≡ Err faults.SameLever
 FailsRow errors.NoMemory read = Unit {0}
 
 -- A reader answers what reading gives, unless memory ran out.
-abbrev pub GivesRow : {A : Type 0} → Result A RowError → Result A RowError → Type 0
+abbrev pub GivesRow : {A : Type 0} → Result A RowError → Result A RowFault → Type 0
 GivesRow (Ok value) read = read ≡ Ok value
-GivesRow (Err cause) read = FailsRow cause read
+GivesRow (Err error) read = FailsRow error read
+
+-- A reader that takes no memory answers what reading gives.
+abbrev pub GivesFault : {X Y : Type 0} → (X → Y) → Result X RowFault → Result Y RowFault → Type 0
+GivesFault view (Ok value) read = read ≡ Ok (view value)
+GivesFault view (Err fault) read = read ≡ Err fault
 
 -- The same of a part of a row, behind which these words are left.
-abbrev pub GivesPart : {A : Type 0} → Result A RowError → Left → Result (A × Left) RowError → Type 0
+abbrev pub GivesPart : {A : Type 0} → Result A RowFault → Left → Result (A × Left) RowFault → Type 0
 GivesPart (Ok value) left read = read ≡ Ok (value, left)
-GivesPart (Err cause) left read = FailsRow cause read
+GivesPart (Err fault) left read = read ≡ Err fault

@@ -1,6 +1,6 @@
 //! What holds a lever, in the words of the locking.
 
-ghost use Rattle.std.specs.Prelude.{◌≡◌, ◌≢◌, ◌↔◌, ℕ, All, Err, List, None, Ok, Some, false, true};
+ghost use Rattle.std.specs.Prelude.{◌≡◌, ◌↔◌, ℕ, All, Err, List, None, Ok, Some, false, true};
 ghost use Rattle.locking_table.specs.declared.places.End.{End};
 ghost use Rattle.locking_table.specs.declared.places.Stand.{Stand};
 ghost use Rattle.locking_table.specs.declared.row.Holder.{Holder};
@@ -14,7 +14,7 @@ ghost use Rattle.locking_table.specs.Reading.{row_of};
 ghost use Rattle.locking_table.specs.Sound.{IsRow};
 ghost use Rattle.locking_table.specs.Words.{words_of};
 
-use crate::reading::RowError;
+use crate::fault::RowFault;
 
 /// A law: nothing holds a lever exactly where it may move, and what holds it is the first row that fails.
 pub fn holder_law()
@@ -24,8 +24,8 @@ pub fn holder_law()
         → holder_of ends lever rows ≡ Some holder → IsFirstToFail ends lever rows holder }
 {}
 
-/// A law: a row that doesn't name a lever means the same wherever that lever stands. So rows that hold and don't name it
-/// neither hold the lever nor are broken by its move; and of rows that hold, only one that names the lever holds it.
+/// A law: a row that doesn't name a lever means the same wherever that lever stands. So rows that hold and don't name
+/// it neither hold the lever nor are broken by its move; and of rows that hold, only one that names the lever holds it.
 pub fn unnamed_lever_law()
     ensures same { (ends : List End) (lever : ℕ) (place : Stand) (row : Row) → names lever row ≡ false
         → row_holds (stand_of ends lever place) row ≡ row_holds (at_ends ends) row }
@@ -41,8 +41,7 @@ pub fn unnamed_lever_law()
 pub fn row_law()
     ensures printed { (row : Row) → IsRow row → row_of (row_text row) ≡ Ok row }
     ensures spelled { (text : List ℕ) (row : Row) → row_of text ≡ Ok row → IsRow row × (text ≡ row_text row) }
-    ensures bad_row { (text : List ℕ) (number : ℕ) → row_of text ≡ Err (RowError.BadRow number)
+    ensures bad_row { (text : List ℕ) (number : ℕ) → row_of text ≡ Err (RowFault.BadRow number)
         → StopsAt (words_of text) number }
-    ensures same_lever { (text : List ℕ) → (row_of text ≡ Err RowError.SameLever) ↔ NamesTwice text }
-    ensures no_memory { (text : List ℕ) → row_of text ≢ Err RowError.NoMemory }
+    ensures same_lever { (text : List ℕ) → (row_of text ≡ Err RowFault.SameLever) ↔ NamesTwice text }
 {}

@@ -5,6 +5,7 @@
 #![tactic(auto)]
 
 mod conds;
+mod fault;
 mod index;
 mod laws;
 mod memory;
@@ -12,14 +13,17 @@ mod places;
 mod printing;
 mod reading;
 mod row;
+mod spelled;
 mod table;
 mod words;
 
 pub use conds::Conds;
+pub use fault::{RowError, RowFault};
 pub use laws::{holder_law, row_law, unnamed_lever_law};
 pub use memory::NoMemory;
 pub use places::{End, MOST_LEVERS, Stand, end_of, stand_of};
 pub use printing::{print_row, put_row};
-pub use reading::{RowError, read_row};
+pub use reading::{read_row, read_spelled};
 pub use row::{Cond, Holder, Row, RowKind};
+pub use spelled::{SpelledRow, When};
 pub use table::Table;

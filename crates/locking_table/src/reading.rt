@@ -1,53 +1,21 @@
 //! Rows as they are read.
 
-ghost use Rattle.std.specs.Prelude.{◌≡◌, ◌+◌, ◌<◌, ◌≤◌, ◌^◌, IfOk};
+ghost use Rattle.std.specs.Prelude.{◌≡◌, ◌+◌, ◌<◌, ◌≤◌, ◌^◌, Err, IfOk, IsOk};
 ghost use Rattle.locking_table.specs.Printing.{row_text};
-ghost use Rattle.locking_table.specs.Reading.{GivesPart, GivesRow, asked_from, cond_from, conds_from, grammar_of};
-ghost use Rattle.locking_table.specs.Reading.{locked_from, row_of};
+ghost use Rattle.locking_table.specs.Reading.{GivesFault, GivesPart, GivesRow, asked_from, cond_from, conds_from};
+ghost use Rattle.locking_table.specs.Reading.{grammar_of, locked_from, row_of};
 ghost use Rattle.locking_table.specs.Sound.{IsRow};
+ghost use Rattle.locking_table.specs.Spelled.{as_row, conds_of};
 
-use crate::conds::Conds;
+use crate::fault::{RowError, RowFault};
 use crate::row::{Cond, Row, RowKind};
+use crate::spelled::{SpelledRow, When};
 use crate::words::{Bound, Verb, Words};
-use std::alloc::{AllocError, AllocFailed, Global};
-
-/// Why a text spells no row.
-#[derive(Clone, Copy, Debug, PartialEq, Eq, Hash)]
-pub enum RowError {
-    /// The text is off the grammar of rows: no row's text goes on with the word of this number, from 1. It is
-    /// one past the last word where the text ends too early.
-    BadRow { word: u32 },
-    /// A row's text that names a lever twice.
-    SameLever,
-    /// Memory ran out.
-    NoMemory,
-}
-
-impl From<AllocError> for RowError {
-    ghost use Rattle.std.specs.Prelude.{◌≡◌};
-    ghost use Rattle.locking_table.specs.declared.reading.RowError.TheVariants as errors;
-
-    ghost from_gives = { λ _ e. e ≡ errors.NoMemory };
-
-    fn from(_: AllocError) -> RowError {
-        RowError::NoMemory
-    }
-}
-
-impl<T: Drop> From<AllocFailed<T>> for RowError {
-    ghost use Rattle.std.specs.Prelude.{◌≡◌};
-    ghost use Rattle.locking_table.specs.declared.reading.RowError.TheVariants as errors;
-
-    ghost from_gives = { λ _ e. e ≡ errors.NoMemory };
-
-    fn from(_: AllocFailed<T>) -> RowError {
-        RowError::NoMemory
-    }
-}
+use std::alloc::Global;
 
 // Behind `locks B`: `normal` or `both ways`.
 #[tactic(auto, unfolding(crate::specs::Reading::locked_from, crate::specs::Reading::locked_by))]
-fn read_locked(words: &mut Words<'_>) -> Result<RowKind, RowError>
+fn read_locked(words: &mut Words<'_>) -> Result<RowKind, RowFault>
     requires { words.old.number < 2 ^ 8 }
     ensures read { GivesPart result words.new (locked_from words.old) }
     ensures few { words.new.number ≤ words.old.number + 2 }
@@ -63,7 +31,7 @@ fn read_locked(words: &mut Words<'_>) -> Result<RowKind, RowError>
 
 // What the row says of its object: the kind, and the object.
 #[tactic(auto, unfolding(crate::specs::Reading::asked_from, crate::specs::Reading::asked_by))]
-fn read_asked(words: &mut Words<'_>) -> Result<(RowKind, u32), RowError>
+fn read_asked(words: &mut Words<'_>) -> Result<(RowKind, u32), RowFault>
     requires { words.old.number < 2 ^ 7 }
     ensures read { GivesPart result words.new (asked_from words.old) }
     ensures few { words.new.number ≤ words.old.number + 4 }
@@ -84,7 +52,7 @@ fn read_asked(words: &mut Words<'_>) -> Result<(RowKind, u32), RowError>
 
 // A condition behind the word that joins it on.
 #[tactic(auto, unfolding(crate::specs::Reading::cond_from))]
-fn read_cond(words: &mut Words<'_>, joint: &[u8]) -> Result<Cond, RowError>
+fn read_cond(words: &mut Words<'_>, joint: &[u8]) -> Result<Cond, RowFault>
     requires { words.old.number < 2 ^ 8 }
     ensures read { GivesPart result words.new (cond_from joint.now words.old) }
     ensures few { words.new.number ≤ words.old.number + 3 }
@@ -97,33 +65,32 @@ fn read_cond(words: &mut Words<'_>, joint: &[u8]) -> Result<Cond, RowError>
 
 // Up to two conditions, and no word more.
 #[tactic(auto, unfolding(crate::specs::Reading::conds_from, crate::specs::Reading::second_from))]
-fn read_conds(alloc: Global, words: &mut Words<'_>) -> Result<Conds, RowError>
+fn read_when(words: &mut Words<'_>) -> Result<When, RowFault>
     requires { words.old.number < 2 ^ 7 }
-    ensures { GivesRow result (conds_from words.old) }
+    ensures { GivesFault conds_of result (conds_from words.old) }
 {
-    let mut when = Vec::new(alloc);
     if words.is_empty() {
-        return Ok(Conds::from_vec(when));
+        return Ok(When::Always);
     }
-    when.push(read_cond(words, b"when")?)?;
+    let first = read_cond(words, b"when")?;
     if words.is_empty() {
-        return Ok(Conds::from_vec(when));
+        return Ok(When::One(first));
     }
-    when.push(read_cond(words, b"and")?)?;
+    let second = read_cond(words, b"and")?;
     words.finish()?;
-    Ok(Conds::from_vec(when))
+    Ok(When::Both(first, second))
 }
 
 // A row by the grammar of rows, whether or not it names a lever twice.
 #[tactic(auto, unfolding(crate::specs::Reading::grammar_of, crate::specs::Reading::row_from))]
-fn read_grammar(alloc: Global, text: &[u8]) -> Result<Row, RowError>
-    ensures { GivesRow result (grammar_of text.now) }
+fn read_grammar(text: &[u8]) -> Result<SpelledRow, RowFault>
+    ensures { GivesFault as_row result (grammar_of text.now) }
 {
     let mut words = Words::new(text);
     let subject = words.lever()?;
     let (kind, object) = read_asked(&mut words)?;
-    let when = read_conds(alloc, &mut words)?;
-    Ok(Row {
+    let when = read_when(&mut words)?;
+    Ok(SpelledRow {
         subject,
         kind,
         object,
@@ -131,21 +98,33 @@ fn read_grammar(alloc: Global, text: &[u8]) -> Result<Row, RowError>
     })
 }
 
-/// The row that a text spells.
+/// The row that a text spells, as it is spelled. Takes no memory.
 ///
 /// Its words stand between single spaces. It is `A locks B normal`, `A locks B both ways` or `A released by B`,
 /// alone, or followed by `when C E`, or by `when C E and D E`. A, B, C and D are numbers from 1 to 120 without
 /// leading zeros, and E is `normal` or `reversed`. All levers that it names differ.
 #[tactic(auto, using(crate::proofs::Spelling::row_rules), unfolding(crate::specs::Reading::row_of))]
-pub fn read_row(alloc: Global, text: &[u8]) -> Result<Row, RowError>
-    ensures exact { GivesRow result (row_of text.now) }
-    ensures row { IfOk result IsRow }
-    ensures spelled { IfOk result (λ row. text.now ≡ row_text row) }
+pub fn read_spelled(text: &[u8]) -> Result<SpelledRow, RowFault>
+    ensures exact { GivesFault as_row result (row_of text.now) }
+    ensures row { IfOk result (λ row. IsRow (as_row row)) }
+    ensures spelled { IfOk result (λ row. text.now ≡ row_text (as_row row)) }
 {
-    let row = read_grammar(alloc, text)?;
+    let row = read_grammar(text)?;
     if row.levers_differ() {
         Ok(row)
     } else {
-        Err(RowError::SameLever)
+        Err(RowFault::SameLever)
     }
+}
+
+/// The row that a text spells, as [`read_spelled`] reads it, to be kept. Want of memory is told only of a text that
+/// spells a row.
+pub fn read_row(alloc: Global, text: &[u8]) -> Result<Row, RowError>
+    ensures exact { GivesRow result (row_of text.now) }
+    ensures memory { result ≡ Err RowError.NoMemory → IsOk (row_of text.now) }
+    ensures row { IfOk result IsRow }
+    ensures spelled { IfOk result (λ row. text.now ≡ row_text row) }
+{
+    let row = read_spelled(text)?;
+    Ok(row.kept(alloc)?)
 }

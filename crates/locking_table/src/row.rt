@@ -1,6 +1,6 @@
 //! Rows of a locking table, and what they mean.
 
-ghost use Rattle.std.specs.Prelude.{◌≡◌, ◌==◌, ◌↔◌, All, IsTrue, length, map};
+ghost use Rattle.std.specs.Prelude.{◌≡◌, ◌==◌, ◌↔◌, ◌∷◌, All, IsTrue, length, map};
 ghost use Rattle.std.specs.List.{list_all, list_any};
 ghost use Rattle.locking_table.specs.Places.{IsLever, at_ends, other_end, end_at, stand_at, stand_of};
 ghost use Rattle.locking_table.specs.Meaning.{acts, breaks, holding_lever, row_holds, row_allows};
@@ -97,6 +97,14 @@ fn differ(conds: &[Cond]) -> bool
     true
 }
 
+/// Whether a subject, an object and the levers of conditions differ.
+#[tactic(auto, using(crate::proofs::RowLemmas::row_rules))]
+pub fn levers_differ(subject: u32, object: u32, conds: &[Cond]) -> bool
+    ensures { result ≡ all_differ (subject ∷ object ∷ map (λ cond. cond.lever) conds.now) }
+{
+    object != subject && !names(conds, subject) && !names(conds, object) && differ(conds)
+}
+
 // Whether a frame of so many levers has this one.
 fn is_lever(levers: u32, lever: u32) -> bool
     ensures { IsTrue result ↔ IsLever levers lever }
@@ -128,15 +136,10 @@ impl Row {
     }
 
     /// Whether all levers that the row names differ.
-    #[tactic(auto, using(crate::proofs::RowLemmas::row_rules))]
     pub fn levers_differ(&self) -> bool
         ensures { result ≡ all_differ (levers_of self.now) }
     {
-        let conds = self.when.as_slice();
-        self.object != self.subject
-            && !names(conds, self.subject)
-            && !names(conds, self.object)
-            && differ(conds)
+        levers_differ(self.subject, self.object, self.when.as_slice())
     }
 
     /// Whether the row holds with the lever `moved` brought to a place and all others at their ends.

@@ -149,8 +149,8 @@ impl Table {
         self.named_holder(positions, lever).map(|holder| holder.row)
     }
 
-    /// The holder as `holder` gives it, with the lever that its row names: `None` exactly where every row lets the lever
-    /// move.
+    /// The holder as `holder` gives it, with the lever that its row names: `None` exactly where every row lets the
+    /// lever move.
     #[tactic(auto, using(crate::proofs::Holding::holder_rules))]
     pub fn named_holder(&self, positions: &[End], lever: u32) -> Option<Holder>
         requires lever { IsLever (length positions.now) lever }

@@ -7,8 +7,8 @@ ghost use Rattle.locking_table.specs.Reading.{has_no_word, lever_from, lever_of,
 ghost use Rattle.locking_table.specs.Reading.{verb_of, with_digit};
 ghost use Rattle.locking_table.specs.Places.{most_levers};
 
+use crate::fault::RowFault;
 use crate::places::{End, MOST_LEVERS};
-use crate::reading::RowError;
 use std::marker::Model;
 
 /// The word behind a row's subject.
@@ -145,10 +145,10 @@ impl<'a> Words<'a> {
     }
 
     // That no row's text goes on with the first word that is left, or that none is left.
-    fn bad(&self) -> RowError
-        ensures { result ≡ RowError.BadRow self.now.number }
+    fn bad(&self) -> RowFault
+        ensures { result ≡ RowFault.BadRow self.now.number }
     {
-        RowError::BadRow { word: self.number }
+        RowFault::BadRow { word: self.number }
     }
 
     fn next(&mut self) -> Option<&'a [u8]>
@@ -165,7 +165,7 @@ impl<'a> Words<'a> {
 
     /// The lever that the next word names.
     #[tactic(auto, unfolding(crate::specs::Reading::lever_from))]
-    pub fn lever(&mut self) -> Result<u32, RowError>
+    pub fn lever(&mut self) -> Result<u32, RowFault>
         requires { self.old.number < 2 ^ 16 }
         ensures read { GivesPart result self.new (lever_from self.old) }
         ensures few { self.new.number ≤ self.old.number + 1 }
@@ -179,7 +179,7 @@ impl<'a> Words<'a> {
 
     /// The end that the next word names.
     #[tactic(auto, unfolding(crate::specs::Reading::end_from))]
-    pub fn end(&mut self) -> Result<End, RowError>
+    pub fn end(&mut self) -> Result<End, RowFault>
         requires { self.old.number < 2 ^ 16 }
         ensures read { GivesPart result self.new (end_from self.old) }
         ensures few { self.new.number ≤ self.old.number + 1 }
@@ -193,7 +193,7 @@ impl<'a> Words<'a> {
 
     /// The next word, as the word behind a subject.
     #[tactic(auto, unfolding(crate::specs::Reading::verb_from))]
-    pub fn verb(&mut self) -> Result<Verb, RowError>
+    pub fn verb(&mut self) -> Result<Verb, RowFault>
         requires { self.old.number < 2 ^ 16 }
         ensures read { GivesPart result self.new (verb_from self.old) }
         ensures few { self.new.number ≤ self.old.number + 1 }
@@ -207,7 +207,7 @@ impl<'a> Words<'a> {
 
     /// The next word, as the word behind an object that is locked.
     #[tactic(auto, unfolding(crate::specs::Reading::bound_from))]
-    pub fn bound(&mut self) -> Result<Bound, RowError>
+    pub fn bound(&mut self) -> Result<Bound, RowFault>
         requires { self.old.number < 2 ^ 16 }
         ensures read { GivesPart result self.new (bound_from self.old) }
         ensures few { self.new.number ≤ self.old.number + 1 }
@@ -221,7 +221,7 @@ impl<'a> Words<'a> {
 
     /// Takes the next word, which is this one.
     #[tactic(auto, unfolding(crate::specs::Reading::only_from))]
-    pub fn only(&mut self, wanted: &[u8]) -> Result<(), RowError>
+    pub fn only(&mut self, wanted: &[u8]) -> Result<(), RowFault>
         requires { self.old.number < 2 ^ 16 }
         ensures read { GivesPart result self.new (only_from wanted.now self.old) }
         ensures few { self.new.number ≤ self.old.number + 1 }
@@ -235,7 +235,7 @@ impl<'a> Words<'a> {
 
     /// That no word is left.
     #[tactic(auto, unfolding(crate::specs::Reading::end_of_text))]
-    pub fn finish(&self) -> Result<(), RowError>
+    pub fn finish(&self) -> Result<(), RowFault>
         ensures { GivesPart result self.now (end_of_text self.now) }
     {
         if self.is_empty() {

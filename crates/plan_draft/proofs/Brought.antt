@@ -19,7 +19,8 @@ unfolding brought_in number_in_names
 nothing text = let none : Result ℕ Cause = Err causes.UnknownName in rw (either (is_name text) none) refl
 
 -- where there is no such box, no place has the name
-pub brought_none : (boxes : List BoxFields) (i : ℕ) (text : List ℕ) → slice_get boxes i ≡ None → brought_in (box_at boxes i) text ≡ Err causes.UnknownName
+pub brought_none : (boxes : List BoxFields) (i : ℕ) (text : List ℕ) → slice_get boxes i ≡ None
+    → brought_in (box_at boxes i) text ≡ Err causes.UnknownName
 brought_none boxes i text e = ap (λ (b : BoxFields). brought_in b text) (none_here boxes i no_box e) ∙ nothing text
 
 pub ruleset brought_rules = (brought_none, get_or_from_slice_get)

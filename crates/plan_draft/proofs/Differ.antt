@@ -1,5 +1,6 @@
 -- Places of which no two are equal.
-use Rattle.std.proofs.Common.{◌≡◌, ℕ, Bool, true, false, not, ◌&&◌, ◌||◌, eqb, List, [], ◌∷◌, ◌++◌, refl, ap, ◌∙◌, arith}
+use Rattle.std.proofs.Common.{◌≡◌, ℕ, Bool, true, false, not, ◌&&◌, ◌||◌, eqb, List, [], ◌∷◌, ◌++◌, refl, ap, ◌∙◌}
+use Rattle.std.proofs.Common.{arith}
 use Rattle.std.specs.List.{list_any}
 use Rattle.std.proofs.lemmas.Bool.Decides.{nat_tests}
 use Rattle.std.proofs.lemmas.List.{append-nil}
@@ -18,16 +19,20 @@ either_way : (x y : ℕ) → eqb y x ≡ eqb x y
 either_way x y = grind (arith, nat_tests)
 
 -- a place behind the others differs from them
-pub differ_behind : (xs : List ℕ) (y : ℕ) → all_differ (xs ++ y ∷ []) ≡ (not (list_any (λ m. eqb m y) xs) && all_differ xs)
+pub differ_behind : (xs : List ℕ) (y : ℕ)
+    → all_differ (xs ++ y ∷ []) ≡ (not (list_any (λ m. eqb m y) xs) && all_differ xs)
 differ_behind [] y = refl
 differ_behind (x ∷ xs) y =
     ap (λ (t : Bool). not t && all_differ (xs ++ y ∷ [])) (list_any-append (λ m. eqb m x) xs (y ∷ []))
     ∙ ap (λ (t : Bool). not (list_any (λ m. eqb m x) xs || (eqb y x || false)) && t) (differ_behind xs y)
-    ∙ ap (λ (e : Bool). not (list_any (λ m. eqb m x) xs || (e || false)) && (not (list_any (λ m. eqb m y) xs) && all_differ xs)) (either_way x y)
+    ∙ ap (λ (e : Bool). not (list_any (λ m. eqb m x) xs || (e || false))
+    && (not (list_any (λ m. eqb m y) xs) && all_differ xs)) (either_way x y)
     ∙ turned (list_any (λ m. eqb m x) xs) (list_any (λ m. eqb m y) xs) (eqb x y) (all_differ xs)
 
 -- a signal's end differs from where it begins and from those over which it runs
-pub end_differs : (from y : ℕ) (over : List ℕ) → all_differ (from ∷ over ++ y ∷ []) ≡ (not (eqb from y || list_any (λ m. eqb m y) over) && all_differ (from ∷ over))
+pub end_differs : (from y : ℕ) (over : List ℕ)
+    → all_differ (from ∷ over ++ y ∷ [])
+    ≡ (not (eqb from y || list_any (λ m. eqb m y) over) && all_differ (from ∷ over))
 end_differs from y over = differ_behind (from ∷ over) y
 
 pub ruleset differ_rules = (end_differs, append-nil)

@@ -1,5 +1,6 @@
 -- Which lines a line may follow.
-use Rattle.std.proofs.Common.{◌≡◌, ℕ, ◌+◌, ◌-◌, ◌≤◌, Bool, true, false, cond, List, [], ◌∷◌, ◌++◌, length, Result, refl, ap, ◌∙◌, arith}
+use Rattle.std.proofs.Common.{◌≡◌, ℕ, ◌+◌, ◌-◌, ◌≤◌, Bool, true, false, cond, List, [], ◌∷◌, ◌++◌, length, Result, refl}
+use Rattle.std.proofs.Common.{ap, ◌∙◌, arith}
 use Rattle.std.proofs.lemmas.Bool.Decides.{nat_tests}
 use Rattle.rail_text.specs.Gives.{◌>>=◌, FailsLine}
 use Rattle.rail_text.specs.declared.cause.Cause.{Cause}
@@ -68,14 +69,18 @@ behind stages.Train last is may = absurd cc
 behind stages.Ended last is may = absurd cc
 
 -- where a line of the box fails, so does the line of the draft
-pub fails_then : {A B : Type 0} (e : LineFault) (r : Result A Cause) (f : A → Result B Cause) → FailsLine e r → FailsLine e (r >>= f)
+pub fails_then : {A B : Type 0} (e : LineFault) (r : Result A Cause) (f : A → Result B Cause) → FailsLine e r
+    → FailsLine e (r >>= f)
 fails_then (faults.Cause cause) r f h = rw h refl
 fails_then faults.NoMemory r f h = tt
 
 -- how many boxes stand in front of the one whose lines are being read
-pub in_front : (stage : Stage) (boxes : List BoxFields) (here : BoxFields) (names : List (List ℕ)) (n : ℕ) → in_box stage ≡ true → n ≡ length names → names ≡ names_of (boxes_with stage boxes here) → n - 1 ≡ length boxes
+pub in_front : (stage : Stage) (boxes : List BoxFields) (here : BoxFields) (names : List (List ℕ)) (n : ℕ)
+    → in_box stage ≡ true → n ≡ length names → names ≡ names_of (boxes_with stage boxes here) → n - 1 ≡ length boxes
 in_front stage boxes here names n is counted named =
-    let all : names ≡ names_of (boxes ++ here ∷ []) = named ∙ ap (λ (b : Bool). names_of (cond b (boxes ++ here ∷ []) boxes)) is in
-    let long : length (names_of (boxes ++ here ∷ [])) ≡ length (boxes ++ here ∷ []) = length-map (boxes ++ here ∷ []) (λ b. b.name) in
+    let all : names ≡ names_of (boxes ++ here ∷ []) = named
+    ∙ ap (λ (b : Bool). names_of (cond b (boxes ++ here ∷ []) boxes)) is in
+    let long : length (names_of (boxes ++ here ∷ []))
+    ≡ length (boxes ++ here ∷ []) = length-map (boxes ++ here ∷ []) (λ b. b.name) in
     let more : length (boxes ++ here ∷ []) ≡ length boxes + 1 = length-append boxes (here ∷ []) in
     omega (arith, counted, ap length all, long, more)

@@ -2,7 +2,6 @@ mod Behind
 mod PlaceWords
 mod Worked
 mod Differ
-mod Rows
 mod Brought
 mod Longer
 pub mod Following

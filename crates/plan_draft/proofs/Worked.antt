@@ -6,6 +6,8 @@ use Rattle.plan_draft.specs.BoxLines.{all_worked, worked}
 use Rattle.line_plan.specs.Frames.{BoxFields, kind_of}
 
 -- behind a lever that is so, those behind it decide
-pub worked_rest : (b : BoxFields) (n : ℕ) (ns : List ℕ) (u : Unit {0}) (r : Result (Unit {0}) LineFault) → worked (kind_of b n) ≡ Ok u → GivesLine (λ _. tt) r (all_worked b ns) → GivesLine (λ _. tt) r (all_worked b (n ∷ ns))
+pub worked_rest : (b : BoxFields) (n : ℕ) (ns : List ℕ) (u : Unit {0}) (r : Result (Unit {0}) LineFault)
+    → worked (kind_of b n) ≡ Ok u → GivesLine (λ _. tt) r (all_worked b ns)
+    → GivesLine (λ _. tt) r (all_worked b (n ∷ ns))
 unfolding all_worked
 worked_rest b n ns u r e h = rw e h

@@ -6,14 +6,12 @@ use Rattle.rail_text.specs.Gives.{◌>>=◌}
 use Rattle.rail_text.specs.Words.{number_in}
 use Rattle.rail_text.specs.declared.cause.Cause.{Cause}
 use Rattle.rail_text.specs.declared.cause.Cause.TheVariants as causes
-use Rattle.rail_text.specs.declared.line_fault.LineFault.{LineFault}
-use Rattle.rail_text.specs.declared.line_fault.LineFault.TheVariants as faults
 use Rattle.block_words.specs.declared.Way.{Way}
 use Rattle.block_words.specs.declared.Way.TheVariants.{Up, Down}
 use Rattle.locking_table.specs.Reading.{row_of}
 use Rattle.locking_table.specs.Sound.{all_differ, levers_of}
-use Rattle.locking_table.specs.declared.reading.RowError.{RowError}
-use Rattle.locking_table.specs.declared.reading.RowError.TheVariants as row_errors
+use Rattle.locking_table.specs.declared.fault.RowFault.{RowFault}
+use Rattle.locking_table.specs.declared.fault.RowFault.TheVariants as row_faults
 use Rattle.locking_table.specs.declared.row.Row.{Row}
 use Rattle.locking_table.specs.Places.{most_levers}
 use Rattle.line_plan.specs.Limits.{most_places, most_rows}
@@ -196,21 +194,14 @@ track_onto box_plan words = do
       else Err causes.SamePlace
 
 -- why a text spells no row
-abbrev pub row_cause : RowError → Cause
-row_cause (row_errors.BadRow number) = causes.BadRow
-row_cause row_errors.SameLever = causes.SameLever
-row_cause row_errors.NoMemory = causes.BadRow
-
--- the same as a line's fault, or that memory ran out
-abbrev pub row_fault : RowError → LineFault
-row_fault (row_errors.BadRow number) = faults.Cause causes.BadRow
-row_fault row_errors.SameLever = faults.Cause causes.SameLever
-row_fault row_errors.NoMemory = faults.NoMemory
+abbrev pub row_cause : RowFault → Cause
+row_cause (row_faults.BadRow number) = causes.BadRow
+row_cause row_faults.SameLever = causes.SameLever
 
 -- the row that a text spells
-abbrev pub spelled_row : Result Row RowError → Result Row Cause
+abbrev pub spelled_row : Result Row RowFault → Result Row Cause
 spelled_row (Ok row) = Ok row
-spelled_row (Err e) = Err (row_cause e)
+spelled_row (Err fault) = Err (row_cause fault)
 
 -- the lever is of the box, and no spare one
 abbrev pub worked : Option Kind → Result (Unit {0}) Cause

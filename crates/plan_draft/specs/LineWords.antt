@@ -1,13 +1,11 @@
 -- What the words of a plan's lines mean.
 use Rattle.std.specs.Prelude.{ℕ, nat_le, ◌&&◌, List, [], ◌∷◌, ◌++◌, length, position, slice_get, Option, Some, None}
-use Rattle.std.specs.Prelude.{Result, Ok, Err, IsOk, if◌then◌else◌, bytes_eq, codes}
+use Rattle.std.specs.Prelude.{Result, Ok, Err, if◌then◌else◌, bytes_eq, codes}
 use Rattle.std.specs.List.{list_any}
 use Rattle.rail_text.specs.Gives.{◌>>=◌}
 use Rattle.rail_text.specs.Words.{is_name, name_in, number_in}
 use Rattle.rail_text.specs.declared.cause.Cause.{Cause}
 use Rattle.rail_text.specs.declared.cause.Cause.TheVariants as causes
-use Rattle.rail_text.specs.declared.line_fault.LineFault.{LineFault}
-use Rattle.rail_text.specs.declared.line_fault.LineFault.TheVariants as faults
 use Rattle.block_words.specs.declared.Way.{Way}
 use Rattle.block_words.specs.declared.Way.TheVariants.{Up, Down}
 use Rattle.bell_codes.specs.Reading.{code_of}
@@ -18,12 +16,6 @@ use Rattle.line_plan.specs.declared.frame.Lever.{Lever}
 use Rattle.line_plan.specs.declared.signal.To.{To}
 use Rattle.line_plan.specs.declared.signal.To.TheVariants as ends
 use Rattle.line_plan.specs.Frames.{BoxFields, lever_of, is_working}
-
--- Faults come first: want of memory is told only of a line that has none.
-abbrev pub FaultsFirst : {X Y : Type 0} → Result X LineFault → Result Y Cause → Type 0
-FaultsFirst (Ok x) read = Unit {0}
-FaultsFirst (Err (faults.Cause cause)) read = Unit {0}
-FaultsFirst (Err faults.NoMemory) read = IsOk read
 
 -- the line has so many words, its first among them
 abbrev pub counted : ℕ → ℕ → List (List ℕ) → Result (Unit {0}) Cause
@@ -85,7 +77,8 @@ end_in names text = if bytes_eq text (codes "away") then Ok ends.Away
 
 -- a lever of the box
 unfoldable pub lever_in : BoxFields → List ℕ → Result Lever Cause
-lever_in box_plan text = number_in 1 most_levers text >>= (λ number. known causes.UnknownLever (lever_of box_plan number))
+lever_in box_plan text =
+    number_in 1 most_levers text >>= (λ number. known causes.UnknownLever (lever_of box_plan number))
 
 -- a lever of the box that is no spare one
 unfoldable pub working_in : BoxFields → List ℕ → Result ℕ Cause

@@ -202,10 +202,9 @@ fn put_away(stage: Stage, boxes: &mut Vec<BoxPlan>, here: BoxPlan)
 impl PlanDraft {
     ghost use Rattle.std.specs.Prelude.{◌≡◌, ◌<◌, nat_le, length, true, false, bytes_eq, OnErr, OnOk, IfOk, IsTrue};
     ghost use Rattle.std.specs.List.{list_any};
-    ghost use Rattle.rail_text.specs.Gives.{GivesLine};
+    ghost use Rattle.rail_text.specs.Gives.{FaultsFirst, GivesLine};
     ghost use Rattle.line_plan.specs.Plans.{IsPlan, names_of, names_of_classes, names_of_trains, no_box};
     ghost use Rattle.plan_draft.specs.Drafts.{all_boxes, in_box, start};
-    ghost use Rattle.plan_draft.specs.LineWords.{FaultsFirst};
     ghost use Rattle.plan_draft.specs.Reading.{closed, has_ended, is_full, with_class, with_train};
 
     /// Nothing is read.

@@ -1,11 +1,11 @@
 //! What a line of each kind makes of the plan so far.
 
-ghost use Rattle.std.specs.Prelude.{◌≡◌, ◌≢◌, OnErr, false, true};
-ghost use Rattle.rail_text.specs.Gives.{GivesLine, TakesNoMemory};
-ghost use Rattle.plan_draft.specs.LineWords.{FaultsFirst};
+ghost use Rattle.std.specs.Prelude.{◌≡◌, OnErr, false, true};
+ghost use Rattle.rail_text.specs.Gives.{FaultsFirst, GivesLine, TakesNoMemory};
 ghost use Rattle.plan_draft.specs.Drafts.{behind_box, in_box};
 ghost use Rattle.line_plan.specs.Plans.{box_at};
-ghost use Rattle.plan_draft.specs.Reading.{box_onto, box_with, boxes_onto, brought_in, class_onto, delay_onto, end_onto};
+ghost use Rattle.plan_draft.specs.Reading.{box_onto, box_with, boxes_onto, brought_in, class_onto, delay_onto};
+ghost use Rattle.plan_draft.specs.Reading.{end_onto};
 ghost use Rattle.plan_draft.specs.Reading.{here_onto, kind_onto, may_follow, looks_onto, plan_onto, train_in};
 ghost use Rattle.plan_draft.specs.Reading.{train_onto};
 
@@ -182,7 +182,7 @@ fn box_with(
     ensures gives { GivesLine (λ _. here.new) result
         (box_with kind boxes box_no here.old words.now) }
     ensures name { here.new.name ≡ here.old.name }
-    ensures memory { kind ≢ Stage.Row → FaultsFirst result (box_with kind boxes box_no here.old words.now) }
+    ensures memory { FaultsFirst result (box_with kind boxes box_no here.old words.now) }
     ensures same { OnErr result (here.new ≡ here.old) }
 {
     match kind {
@@ -205,7 +205,7 @@ fn here_line(kind: Stage, draft: &mut PlanDraft, words: &LineWords<'_>) -> Resul
     requires here { in_box draft.old.stage ≡ true }
     requires kind { in_box kind ≡ true }
     ensures gives { GivesLine (λ _. draft.new) result (here_onto kind draft.old words.now) }
-    ensures memory { kind ≢ Stage.Row → FaultsFirst result (here_onto kind draft.old words.now) }
+    ensures memory { FaultsFirst result (here_onto kind draft.old words.now) }
 {
     let box_no = (draft.box_names.len() - 1) as u32;
     match box_with(
@@ -234,7 +234,7 @@ fn following_line(
     requires kind { behind_box kind ≡ true }
     requires follows { may_follow kind draft.old.stage ≡ true }
     ensures gives { GivesLine (λ _. draft.new) result (here_onto kind draft.old words.now) }
-    ensures memory { kind ≢ Stage.Row → FaultsFirst result (here_onto kind draft.old words.now) }
+    ensures memory { FaultsFirst result (here_onto kind draft.old words.now) }
 {
     here_line(kind, draft, words)
 }
@@ -244,7 +244,7 @@ fn following_line(
 pub fn kind_line(kind: Stage, draft: &mut PlanDraft, words: &LineWords<'_>) -> Result<(), LineFault>
     requires { may_follow kind draft.old.stage ≡ true }
     ensures gives { GivesLine (λ _. draft.new) result (kind_onto kind draft.old words.now) }
-    ensures memory { kind ≢ Stage.Row → FaultsFirst result (kind_onto kind draft.old words.now) }
+    ensures memory { FaultsFirst result (kind_onto kind draft.old words.now) }
 {
     match kind {
         Stage::Plan => plan_line(draft, words),

@@ -1,4 +1,5 @@
-//! The plan of a line as it is read: each line of its text, with its words and its conditions, onto what is read before.
+//! The plan of a line as it is read: each line of its text, with its words and its conditions, onto what is read
+//! before.
 #![tactic(auto)]
 
 mod box_lines;

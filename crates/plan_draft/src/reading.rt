@@ -88,19 +88,14 @@ fn may_follow(kind: Stage, last: Stage) -> bool
 }
 
 impl PlanDraft {
-    ghost use Rattle.std.specs.Prelude.{◌≢◌, Some};
-    ghost use Rattle.rail_text.specs.Gives.{GivesLine};
-    ghost use Rattle.rail_text.specs.Words.{keyword};
-    ghost use Rattle.plan_draft.specs.LineWords.{FaultsFirst};
+    ghost use Rattle.rail_text.specs.Gives.{FaultsFirst, GivesLine};
     ghost use Rattle.plan_draft.specs.Reading.{words_onto};
 
-    // The words of a line. Want of memory is told only of a line that has no fault, but for a row, whose reading takes
-    // memory.
+    // The words of a line. Want of memory is told only of a line that has no fault.
     #[tactic(auto, unfolding(crate::specs::Reading::words_onto))]
     fn words_line(&mut self, words: &LineWords<'_>) -> Result<(), LineFault>
         ensures gives { GivesLine (λ _. self.new) result (words_onto self.old words.now) }
-        ensures memory { line_kind (keyword words.now) ≢ Some Stage.Row
-            → FaultsFirst result (words_onto self.old words.now) }
+        ensures memory { FaultsFirst result (words_onto self.old words.now) }
     {
         if self.stage == Stage::Ended {
             return Err(LineFault::Cause(Cause::AfterEnd));
@@ -118,6 +113,8 @@ impl Draft for PlanDraft {
     ghost onto = { words_onto };
 
     ghost ended = { λ draft. has_ended draft.stage };
+
+    ghost left = { λ _ _. Unit {0} };
 
     fn read_words(&mut self, words: &LineWords<'_>) -> Result<(), LineFault> {
         self.words_line(words)

@@ -15,7 +15,7 @@ use Rattle.block_words.specs.declared.Way.TheVariants.{Up, Down}
 use Rattle.locking_table.specs.Sound.{IsRow, all_differ, levers_of}
 use Rattle.locking_table.specs.Reading.{row_of}
 use Rattle.locking_table.specs.Printing.{row_words, kind_words, when_words}
-use Rattle.locking_table.specs.declared.reading.RowError.{RowError}
+use Rattle.locking_table.specs.declared.fault.RowFault.{RowFault}
 use Rattle.locking_table.specs.declared.row.RowKind.{RowKind}
 use Rattle.locking_table.specs.declared.row.RowKind.TheVariants.{LocksNormal, ReleasedBy, LocksBoth}
 use Rattle.locking_table.specs.declared.row.Row.{Row}
@@ -399,7 +399,7 @@ kind_long LocksBoth object rest = omega arith
 row_long : (row : Row) → 2 ≤ length (row_words row)
 row_long row = omega (arith, kind_long row.kind row.object (when_words row.when))
 
-row_spelled : (r : Result Row RowError) → OfOk (λ row. r ≡ Ok row) (spelled_row r)
+row_spelled : (r : Result Row RowFault) → OfOk (λ row. r ≡ Ok row) (spelled_row r)
 row_spelled (Ok row) = refl
 row_spelled (Err e) = tt
 

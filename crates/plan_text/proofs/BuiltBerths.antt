@@ -12,7 +12,7 @@ use Rattle.block_words.specs.declared.Way.{Way}
 use Rattle.block_words.specs.declared.Way.TheVariants.{Up, Down}
 use Rattle.locking_table.specs.Reading.{row_of}
 use Rattle.locking_table.specs.Sound.{IsRow, all_differ, levers_of}
-use Rattle.locking_table.specs.declared.reading.RowError.{RowError}
+use Rattle.locking_table.specs.declared.fault.RowFault.{RowFault}
 use Rattle.locking_table.specs.declared.row.Row.{Row}
 use Rattle.locking_table.proofs.Spelling.{read_is_spelled}
 use Rattle.line_plan.specs.declared.frame.Kind.{Kind}
@@ -339,7 +339,7 @@ track_keeps boxes b k own box_plan words low h =
       name = h.name;
     }) (λ _. tt))))
 
-spelled_is : (r : Result Row RowError) → ((row : Row) → r ≡ Ok row → IsRow row) → OfOk IsRow (spelled_row r)
+spelled_is : (r : Result Row RowFault) → ((row : Row) → r ≡ Ok row → IsRow row) → OfOk IsRow (spelled_row r)
 spelled_is (Ok row) h = h row refl
 spelled_is (Err e) h = tt
 

@@ -1,7 +1,7 @@
 //! The plan that a text spells.
 
-ghost use Rattle.std.specs.Prelude.{◌≡◌};
-ghost use Rattle.std.specs.Prelude.{ℕ, List, Ok, IfOk, IsErrOf, MatchResult, true};
+ghost use Rattle.std.specs.Prelude.{◌≡◌, ◌≤◌};
+ghost use Rattle.std.specs.Prelude.{ℕ, List, Ok, IfOk, IsErrOf, MatchResult, length, true};
 ghost use Rattle.rail_text.specs.Gives.{GivesText};
 ghost use Rattle.rail_text.specs.Texts.{text_onto};
 ghost use Rattle.rail_text.specs.declared.cause.Cause.{Cause};
@@ -14,16 +14,21 @@ ghost use Rattle.plan_text.specs.Spelled.{Spells};
 
 use line_plan::{PLAN_LIMIT, Plan};
 use plan_draft::PlanDraft;
-use rail_text::{ReadError, read_text};
+use rail_text::{Cause, ReadError, read_text, text_error};
 use std::alloc::Global;
 
-// What the lines of a text make of the draft of a plan.
-#[tactic(auto, using(crate::proofs::Drafted::reading_rules))]
+// What the lines of a text make of the draft of a plan. Its length is tested before the tables with which every plan
+// begins take memory.
+#[tactic(auto, using(crate::proofs::Drafted::reading_rules), unfolding(rail_text::specs::Texts::text_onto))]
 fn draft_in(alloc: Global, bytes: &[u8]) -> Result<PlanDraft, ReadError>
     ensures reads { GivesText (λ draft. draft) result
         (text_onto words_onto (λ draft. has_ended draft.stage) most_bytes start bytes.now) }
     ensures ended { IfOk result (λ draft. has_ended draft.stage ≡ true) }
+    ensures memory { IsErrOf result ReadError.NoMemory → length bytes.now ≤ most_bytes }
 {
+    if bytes.len() > PLAN_LIMIT {
+        return Err(text_error(0, Cause::TooLong));
+    }
     let mut draft = PlanDraft::new(alloc)?;
     match read_text(&mut draft, PLAN_LIMIT, bytes) {
         Ok(()) => Ok(draft),
@@ -39,6 +44,7 @@ fn draft_in(alloc: Global, bytes: &[u8]) -> Result<PlanDraft, ReadError>
 fn plan_in(alloc: Global, bytes: &[u8]) -> Result<Plan, ReadError>
     ensures exact { GivesText (λ plan. plan) result (plan_of bytes.now) }
     ensures plan { IfOk result (λ plan. IsPlan plan) }
+    ensures memory { IsErrOf result ReadError.NoMemory → length bytes.now ≤ most_bytes }
 {
     match draft_in(alloc, bytes) {
         Ok(draft) => Ok(draft.into_plan()),
@@ -58,7 +64,7 @@ fn plan_in(alloc: Global, bytes: &[u8]) -> Result<Plan, ReadError>
 ///
 /// A text above `PLAN_LIMIT` bytes is `TooLong` at line 0, and one that has no line `end` is `NoEnd` behind its last
 /// line. What is read meets every condition of a plan, and is read back where it is printed. A text is refused where it
-/// spells no plan; one that spells a plan fails for want of memory alone.
+/// spells no plan; one that spells a plan fails for want of memory alone, and one that is too long never does.
 #[tactic(auto, using(crate::proofs::SpellLaws::reader_laws))]
 pub fn read_plan(alloc: Global, bytes: &[u8]) -> Result<Plan, ReadError>
     ensures exact { GivesText (λ plan. plan) result (plan_of bytes.now) }
@@ -69,6 +75,7 @@ pub fn read_plan(alloc: Global, bytes: &[u8]) -> Result<Plan, ReadError>
     ensures refused { (line : ℕ) (cause : Cause) → IsErrOf result (ReadError.Refused line cause) → (plan : PlanFields)
         → IsPlan plan → ¬ Spells bytes.now plan }
     ensures printed { IfOk result (λ plan. plan_of (plan_text plan) ≡ Ok plan) }
+    ensures memory { IsErrOf result ReadError.NoMemory → length bytes.now ≤ most_bytes }
 {
     plan_in(alloc, bytes)
 }

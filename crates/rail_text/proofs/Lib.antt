@@ -13,6 +13,8 @@ pub mod Keeps
 pub mod PrintedWords
 pub mod Limits
 pub mod KeptLines
-pub mod CutWords
+pub mod WordEnds
 pub mod FirstByte
 pub mod Texts
+pub mod GoodLines
+pub mod NeverTold

@@ -1,5 +1,5 @@
 -- What a reader answers, and what reading gives.
-use Rattle.std.specs.Prelude.{◌≡◌, ◌≢◌, ℕ, Result, Ok, Err}
+use Rattle.std.specs.Prelude.{◌≡◌, ◌≢◌, ℕ, Result, Ok, Err, IsOk}
 use Rattle.rail_text.specs.declared.cause.Cause.{Cause}
 use Rattle.rail_text.specs.declared.cause.ReadError.{ReadError}
 use Rattle.rail_text.specs.declared.cause.ReadError.TheVariants as errors
@@ -21,6 +21,12 @@ FailsLine faults.NoMemory read = Unit {0}
 abbrev pub GivesLine : {X Y : Type 0} → (X → Y) → Result X LineFault → Result Y Cause → Type 0
 GivesLine view (Ok x) read = read ≡ Ok (view x)
 GivesLine view (Err e) read = FailsLine e read
+
+-- Faults come first: want of memory is told only of a line that has none.
+abbrev pub FaultsFirst : {X Y : Type 0} → Result X LineFault → Result Y Cause → Type 0
+FaultsFirst (Ok x) read = Unit {0}
+FaultsFirst (Err (faults.Cause cause)) read = Unit {0}
+FaultsFirst (Err faults.NoMemory) read = IsOk read
 
 -- The reader gives what reading gives, or its cause.
 abbrev pub GivesCause : {X Y : Type 0} → (X → Y) → Result X Cause → Result Y Cause → Type 0

@@ -17,6 +17,7 @@ mod out_sink;
 mod reading;
 mod shelf;
 mod sink;
+mod word_ends;
 mod words;
 
 pub use cause::{Cause, ReadError, cause_text, text_error};

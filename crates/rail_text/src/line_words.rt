@@ -1,151 +1,85 @@
 //! The words of a line, cut once.
 
-ghost use Rattle.std.specs.Prelude.{◌≡◌, ◌+◌, ◌&&◌, ◌||◌, ◌∷◌, drop, length, slice_get, option_map};
+ghost use Rattle.std.specs.Prelude.{◌≡◌, ◌+◌, ◌-◌, ◌≤◌, drop, length, take, slice_get, option_map, position, bytes_eq};
 ghost use Rattle.std.specs.List.{list_all, list_any};
 ghost use Rattle.rail_text.specs.Forms.{is_printable, is_empty_word};
 ghost use Rattle.rail_text.specs.Gives.{GivesCause};
-ghost use Rattle.rail_text.specs.LineWords.{text_after};
-ghost use Rattle.rail_text.specs.Lines.{cut_of, words_of, words_after};
+ghost use Rattle.rail_text.specs.Lines.{words_of, words_after};
 ghost use Rattle.rail_text.specs.Words.{keyword, no_word, one_word};
 
-use crate::lines::{behind, count_words, word_at};
+use crate::word_ends::{WordEnds, cut};
 use crate::{Cause, TextLine};
 use std::marker::Model;
 
-/// How many words are kept; any behind them are cut when they are asked for.
-const KEPT: usize = 8;
-
-/// The words of a line, of which the first are cut once and then at hand. Contracts see the list of
-/// all of them.
+/// The words of a line, or some of them in a row, which are cut once. Contracts see the list of these
+/// words.
 #[derive(Drop)]
 pub struct LineWords<'a> {
     text: &'a [u8],
-    first: [&'a [u8]; KEPT],
+    ends: WordEnds,
+    from: usize,
     count: usize,
-    rest: Option<&'a [u8]>,
 }
 
 impl<'a> Model for LineWords<'a> {
-    ghost use Rattle.std.specs.Prelude.{List, ℕ, map, option_map, take};
+    ghost use Rattle.std.specs.Prelude.{List, ℕ, drop, take};
     ghost use Rattle.rail_text.specs.Lines.{words_of};
     ghost use Rattle.rail_text.specs.LineWords.{AreCut};
 
     ghost Value = { List (List ℕ) };
 
-    ghost view = { λ w. words_of w.text.now };
+    ghost view = { λ w. take w.count (drop w.from (words_of w.text.now)) };
 
-    ghost invariant = { λ w. AreCut w.text.now w.count (map (λ s. s.now) w.first) (option_map (λ s. s.now) w.rest) };
+    ghost invariant = { λ w. AreCut w.text.now w.ends.at w.ends.kept w.from w.count };
 }
 
-/// What is seen of the bytes of a line while its words are cut: whether each may stand in a line,
-/// and whether some word is empty.
+/// What is seen of the bytes of a line: whether each may stand in a line, and whether some word is
+/// empty.
 #[derive(Clone, Copy)]
 pub(crate) struct Seen {
     pub printable: bool,
     pub gap: bool,
 }
 
-// Nothing is seen yet.
-const NOTHING: Seen = Seen {
-    printable: true,
-    gap: false,
-};
-
-// What stands before the first space, what after it, if there is one, and whether all was printable
-// so far and up to there.
-fn see_bytes(bytes: &[u8], printable: bool) -> (&[u8], Option<&[u8]>, bool)
-    ensures front { result.0.now ≡ (cut_of 32 bytes.now).0 }
-    ensures rest { option_map (λ s. s.now) result.1 ≡ (cut_of 32 bytes.now).1 }
-    ensures printable { (result.2 && list_all is_printable (text_after (cut_of 32 bytes.now).1))
-        ≡ (printable && list_all is_printable bytes.now) }
+// Whether each byte may stand in a line. All are read, whatever the first are, which is faster.
+fn are_printable(text: &[u8]) -> bool
+    ensures { result ≡ list_all is_printable text.now }
 {
-    let mut printable = printable;
-    for (i, b) in bytes.iter().enumerate() {
-        if *b == b' ' {
-            return (&bytes[..i], Some(&bytes[i + 1..]), printable);
-        }
-        printable = printable && (b' '..=b'~').contains(b);
-    }
-    (bytes, None, printable)
-}
-
-// The first word, what is after the space behind it, if there is one, and what is seen up to there.
-#[tactic(auto, using(crate::proofs::LineRules::word_rules))]
-fn see_word(bytes: &[u8], seen: Seen) -> (&[u8], Option<&[u8]>, Seen)
-    ensures words { words_of bytes.now ≡ result.0.now ∷ words_after (option_map (λ s. s.now) result.1) }
-    ensures printable { (result.2.printable && list_all is_printable (text_after (option_map (λ s. s.now) result.1)))
-        ≡ (seen.printable && list_all is_printable bytes.now) }
-    ensures gap { (result.2.gap || list_any is_empty_word (words_after (option_map (λ s. s.now) result.1)))
-        ≡ (seen.gap || list_any is_empty_word (words_of bytes.now)) }
-{
-    let (word, rest, printable) = see_bytes(bytes, seen.printable);
-    let gap = seen.gap || word.is_empty();
-    (word, rest, Seen { printable, gap })
-}
-
-// What is seen of a text behind what was seen before.
-#[tactic(auto, using(crate::proofs::Gaps::gap_any))]
-fn see_rest(text: &[u8], seen: Seen) -> Seen
-    ensures printable { result.printable ≡ (seen.printable && list_all is_printable text.now) }
-    ensures gap { result.gap ≡ (seen.gap || list_any is_empty_word (words_of text.now)) }
-{
-    let mut printable = seen.printable;
-    let mut gap = seen.gap;
-    let mut empty = true;
+    let mut printable = true;
     for b in text {
-        let space = *b == b' ';
-        printable = printable && (b' '..=b'~').contains(b);
-        gap = gap || (space && empty);
-        empty = space;
+        printable &= (b' '..=b'~').contains(b);
     }
-    Seen {
-        printable,
-        gap: gap || empty,
-    }
+    printable
 }
 
-// What is seen of a line.
-pub(crate) fn seen_of(text: &[u8]) -> Seen
-    ensures printable { result.printable ≡ list_all is_printable text.now }
-    ensures gap { result.gap ≡ list_any is_empty_word (words_of text.now) }
-{
-    see_rest(text, NOTHING)
-}
-
-// The words of a text, and what is seen of it.
+/// The words of a text, and what is seen of it.
+#[tactic(auto, using(crate::proofs::WordEnds::all_rules))]
 pub(crate) fn seen_words(text: &[u8]) -> (LineWords<'_>, Seen)
     ensures words { result.0 ≡ words_of text.now }
     ensures printable { result.1.printable ≡ list_all is_printable text.now }
     ensures gap { result.1.gap ≡ list_any is_empty_word (words_of text.now) }
 {
-    let none: &[u8] = &[];
-    let mut first = [none; KEPT];
-    let mut left = text;
-    let mut seen = NOTHING;
-    for at in 0..KEPT {
-        let (word, after, up_to_here) = see_word(left, seen);
-        first[at] = word;
-        seen = up_to_here;
-        match after {
-            Some(after) => left = after,
-            None => {
-                let words = LineWords {
-                    text,
-                    first,
-                    count: at + 1,
-                    rest: None,
-                };
-                return (words, seen);
-            }
-        }
-    }
+    let cut = cut(text);
     let words = LineWords {
         text,
-        first,
-        count: KEPT,
-        rest: Some(left),
+        ends: cut.ends,
+        from: 0,
+        count: cut.words,
     };
-    (words, see_rest(left, seen))
+    let seen = Seen {
+        printable: are_printable(text),
+        gap: cut.gap,
+    };
+    (words, seen)
+}
+
+/// What is seen of a line.
+pub(crate) fn seen_of(text: &[u8]) -> Seen
+    ensures printable { result.printable ≡ list_all is_printable text.now }
+    ensures gap { result.gap ≡ list_any is_empty_word (words_of text.now) }
+{
+    let (_, seen) = seen_words(text);
+    seen
 }
 
 impl<'a> LineWords<'a> {
@@ -159,44 +93,76 @@ impl<'a> LineWords<'a> {
     }
 
     /// The word with this number, from 0; `None` exactly where there is no such word.
-    #[tactic(auto, using(crate::proofs::CutWords::word_rules))]
+    #[tactic(auto, using(crate::proofs::WordEnds::word_rules))]
     pub fn word(&self, i: usize) -> Option<&'a [u8]>
         ensures { option_map (λ s. s.now) result ≡ slice_get self.now i }
     {
         if i < self.count {
-            return Some(self.first[i]);
-        }
-        match self.rest {
-            Some(rest) => word_at(rest, i - self.count),
-            None => None,
+            Some(self.ends.span(self.text, self.from + i, self.from + i))
+        } else {
+            None
         }
     }
 
-    /// The first word.
-    #[tactic(auto, using(crate::proofs::CutWords::word_rules))]
+    /// The first word, or nothing where there is no word.
     pub fn keyword(&self) -> &'a [u8]
         ensures { result.now ≡ keyword self.now }
     {
-        self.first[0]
+        match self.word(0) {
+            Some(word) => word,
+            None => &[],
+        }
     }
 
     /// How many words there are.
-    #[tactic(auto, using(crate::proofs::CutWords::count_rules))]
+    #[tactic(auto, using(crate::proofs::WordEnds::count_rules))]
     pub fn word_count(&self) -> usize
         ensures { result ≡ length self.now }
     {
-        match self.rest {
-            Some(_) => count_words(self.text),
-            None => self.count,
-        }
+        self.count
     }
 
     /// What stands behind the word with this number and the space after it; `None` exactly where
     /// that word is the last or there is none.
+    #[tactic(auto, using(crate::proofs::WordEnds::behind_rules))]
     pub fn behind(&self, i: usize) -> Option<&'a [u8]>
         ensures { words_after (option_map (λ s. s.now) result) ≡ drop (i + 1) self.now }
     {
-        behind(self.text, i)
+        if i < self.count && i + 1 < self.count {
+            let last = self.from + self.count - 1;
+            Some(self.ends.span(self.text, self.from + i + 1, last))
+        } else {
+            None
+        }
+    }
+
+    /// The number of the first word that is this one, from 0; `None` exactly where none is.
+    pub fn number_of(&self, word: &[u8]) -> Option<usize>
+        ensures { result ≡ position (bytes_eq word.now) self.now }
+    {
+        for i in 0..self.count {
+            if let Some(found) = self.word(i) {
+                if word == found {
+                    return Some(i);
+                }
+            }
+        }
+        None
+    }
+
+    /// The words from one number up to another, which isn't among them.
+    #[tactic(auto, using(crate::proofs::WordEnds::between_rules))]
+    pub fn between(&self, from: usize, to: usize) -> LineWords<'a>
+        requires order { from ≤ to }
+        requires there { to ≤ length self.now }
+        ensures { result ≡ take (to - from) (drop from self.now) }
+    {
+        LineWords {
+            text: self.text,
+            ends: self.ends,
+            from: self.from + from,
+            count: to - from,
+        }
     }
 
     /// The one word behind the keyword.

@@ -1,5 +1,5 @@
 -- The token script as far as its text is read.
-use Rattle.std.specs.Prelude.{ℕ, List, []}
+use Rattle.std.specs.Prelude.{◌≡◌, ℕ, List, []}
 use Rattle.token_law.specs.declared.calls.TokenCall.{TokenCall}
 use Rattle.token_text.specs.declared.draft.Stage.{Stage}
 use Rattle.token_text.specs.declared.draft.Stage.TheVariants as stages
@@ -14,3 +14,7 @@ pub record TokenDraftFields : Type 0 where
 -- nothing is read yet
 abbrev pub start : TokenDraftFields
 start = record { stage = stages.Version; at_0 = 0; at_1 = 0; calls = [] }
+
+-- want of memory comes only among the calls, and leaves what was read as it was
+abbrev pub IsLeft : TokenDraftFields → TokenDraftFields → Type 0
+IsLeft old new = (old.stage ≡ stages.Calls) × (new ≡ old)

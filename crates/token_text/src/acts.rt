@@ -1,7 +1,7 @@
 //! A call's line: the box, then what is done there.
 
 ghost use Rattle.std.specs.Prelude.{◌≡◌, ◌≤◌, IfOk, slice_get};
-ghost use Rattle.rail_text.specs.Gives.{GivesLine};
+ghost use Rattle.rail_text.specs.Gives.{GivesLine, TakesNoMemory};
 ghost use Rattle.rail_text.specs.Words.{number_in};
 ghost use Rattle.token_law.specs.Law.{IsTokenCall, NamesTrain};
 ghost use Rattle.token_text.specs.Acts.{act_by, act_of, alone, call_of, draw_of};
@@ -96,6 +96,7 @@ fn read_act(words: &LineWords<'_>) -> Result<TokenAct, Cause>
 pub fn read_call(words: &LineWords<'_>) -> Result<TokenCall, LineFault>
     ensures exact { GivesLine (λ call. call) result (call_of words.now) }
     ensures call { IfOk result (λ call. IsTokenCall call) }
+    ensures memory { TakesNoMemory result }
 {
     let box_no = number_in(words.keyword(), 0, 1)?;
     let act = read_act(words)?;

@@ -37,8 +37,8 @@ impl Model for TokenDraft {
 }
 
 impl TokenDraft {
-    ghost use Rattle.std.specs.Prelude.{◌≡◌};
-    ghost use Rattle.rail_text.specs.Gives.{GivesLine};
+    ghost use Rattle.std.specs.Prelude.{◌≡◌, IsErrOf};
+    ghost use Rattle.rail_text.specs.Gives.{FaultsFirst, GivesLine, TakesNoMemory};
     ghost use Rattle.token_text.specs.Drafts.{start};
     ghost use Rattle.token_text.specs.Scripts.{call_onto, end_onto, script_from, tokens_onto, version_onto};
 
@@ -57,7 +57,8 @@ impl TokenDraft {
     // `token 1`: the version.
     #[tactic(auto, unfolding(crate::specs::Scripts::version_onto))]
     fn version_line(&mut self, words: &LineWords<'_>) -> Result<(), LineFault>
-        ensures { GivesLine (λ _. self.new) result (version_onto self.old words.now) }
+        ensures gives { GivesLine (λ _. self.new) result (version_onto self.old words.now) }
+        ensures memory { TakesNoMemory result }
     {
         let word = words.one_word()?;
         number_in(word, 1, 1)?;
@@ -68,7 +69,8 @@ impl TokenDraft {
     // `tokens A B`: the tokens at each box.
     #[tactic(auto, unfolding(crate::specs::Scripts::tokens_onto))]
     fn tokens_line(&mut self, words: &LineWords<'_>) -> Result<(), LineFault>
-        ensures { GivesLine (λ _. self.new) result (tokens_onto self.old words.now) }
+        ensures gives { GivesLine (λ _. self.new) result (tokens_onto self.old words.now) }
+        ensures memory { TakesNoMemory result }
     {
         let (first, second) = match (words.word(1), words.word(2), words.word(3)) {
             (Some(first), Some(second), None) => (first, second),
@@ -85,7 +87,9 @@ impl TokenDraft {
     // A call more.
     #[tactic(auto, using(crate::proofs::Calls::more_calls), unfolding(crate::specs::Scripts::call_onto))]
     fn call_line(&mut self, words: &LineWords<'_>) -> Result<(), LineFault>
-        ensures { GivesLine (λ _. self.new) result (call_onto self.old words.now) }
+        ensures gives { GivesLine (λ _. self.new) result (call_onto self.old words.now) }
+        ensures memory { FaultsFirst result (call_onto self.old words.now) }
+        ensures left { IsErrOf result LineFault.NoMemory → self.new ≡ self.old }
     {
         let call = read_call(words)?;
         if self.calls.len() >= MOST_TOKEN_CALLS {
@@ -98,7 +102,8 @@ impl TokenDraft {
     // `end`: the script ends.
     #[tactic(auto, unfolding(crate::specs::Scripts::end_onto))]
     fn end_line(&mut self, words: &LineWords<'_>) -> Result<(), LineFault>
-        ensures { GivesLine (λ _. self.new) result (end_onto self.old words.now) }
+        ensures gives { GivesLine (λ _. self.new) result (end_onto self.old words.now) }
+        ensures memory { TakesNoMemory result }
     {
         words.no_word()?;
         self.stage = Stage::Ended;
@@ -114,13 +119,16 @@ impl TokenDraft {
 }
 
 impl Draft for TokenDraft {
+    ghost use Rattle.token_text.specs.Drafts.{IsLeft};
     ghost use Rattle.token_text.specs.Scripts.{has_ended, words_onto};
 
     ghost onto = { words_onto };
 
     ghost ended = { λ draft. has_ended draft.stage };
 
-    #[tactic(auto, unfolding(crate::specs::Scripts::stage_onto))]
+    ghost left = { IsLeft };
+
+    #[tactic(auto, using(rail_text::proofs::NeverTold::memory_rules), unfolding(crate::specs::Scripts::stage_onto))]
     fn read_words(&mut self, words: &LineWords<'_>) -> Result<(), LineFault> {
         match self.stage {
             Stage::Version if words.keyword() == b"token".as_slice() => self.version_line(words),

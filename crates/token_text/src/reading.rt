@@ -1,8 +1,12 @@
 //! The token script that a text spells.
 
-ghost use Rattle.std.specs.Prelude.{IfOk};
+ghost use Rattle.std.specs.Prelude.{◌≡◌, IfOk};
 ghost use Rattle.rail_text.specs.Gives.{GivesText};
-ghost use Rattle.token_text.specs.Scripts.{IsTokenScript, token_script_of};
+ghost use Rattle.rail_text.specs.Texts.{TextRunsOut};
+ghost use Rattle.token_text.specs.Drafts.{start};
+ghost use Rattle.token_text.specs.Limits.{most_script_bytes};
+ghost use Rattle.token_text.specs.Scripts.{IsTokenScript, token_script_of, words_onto};
+ghost use Rattle.token_text.specs.declared.draft.Stage.TheVariants as stages;
 
 use crate::draft::TokenDraft;
 use crate::script::{TOKEN_SCRIPT_LIMIT, TokenScript};
@@ -11,11 +15,14 @@ use std::alloc::Global;
 
 /// The token script that the bytes spell, or the line and the cause of the first fault: a text longer than
 /// `TOKEN_SCRIPT_LIMIT` is `TooLong` at line 0. A script that is read has at most 50 tokens at each box, at most
-/// `MOST_TOKEN_CALLS` calls, and only calls that may be made.
+/// `MOST_TOKEN_CALLS` calls, and only calls that may be made. Want of memory is told only of a text within the limit
+/// that has no fault up to the line where memory ran out, behind the line `tokens`.
 #[tactic(auto, unfolding(crate::specs::Scripts::token_script_of))]
 pub fn read_tokens(alloc: Global, bytes: &[u8]) -> Result<TokenScript, ReadError>
     ensures exact { GivesText (λ script. script) result (token_script_of bytes.now) }
     ensures script { IfOk result (λ script. IsTokenScript script) }
+    ensures memory { TextRunsOut words_onto (λ before. before.stage ≡ stages.Calls) most_script_bytes start bytes.now
+        result }
 {
     let mut draft = TokenDraft::new(alloc);
     read_text(&mut draft, TOKEN_SCRIPT_LIMIT, bytes)?;

@@ -3,4 +3,6 @@ use Rattle.plan_draft.proofs.Brought.{brought_none}
 use Rattle.plan_draft.proofs.kinds.brought_at.Goals as goal
 
 pub returns-in-None-clause-gives : goal.returns-in-None-clause-gives
-returns-in-None-clause-gives c = brought_none c.args.boxes.now c.args.box_no c.args.word.now (slice_get_past c.args.boxes.now c.args.box_no c.in-None.ensures.lookup.3)
+returns-in-None-clause-gives c =
+    brought_none c.args.boxes.now c.args.box_no c.args.word.now
+    (slice_get_past c.args.boxes.now c.args.box_no c.in-None.ensures.lookup.3)

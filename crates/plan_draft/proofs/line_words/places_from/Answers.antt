@@ -8,6 +8,8 @@ push-requires c = omega (arith, c.loop-i.invariant.1, c.loop-i-test.true, c.word
 pub loop-i-preserved : goal.loop-i-preserved
 loop-i-preserved c =
     let lt : c.loop-i.i < length c.args.words.now = omega (arith, c.loop-i-test.true, c.word_count-i-end.ensures) in (
-      places_next c.args.names.now c.args.words.now c.loop-i.places.items c.push.new.self.items c.word.result.now c.loop-i.i c.in_ok-place.place _ lt c.loop-i.invariant.0 c.push.ensures.items c.word.ensures c.in_ok-place.ensures.gives,
+      places_next c.args.names.now c.args.words.now c.loop-i.places.items c.push.new.self.items c.word.result.now
+          c.loop-i.i c.in_ok-place.place _ lt c.loop-i.invariant.0 c.push.ensures.items c.word.ensures
+          c.in_ok-place.ensures.gives,
       omega (arith, c.loop-i.invariant.1, c.push.ensures.len),
     )

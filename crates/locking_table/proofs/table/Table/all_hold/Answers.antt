@@ -7,4 +7,5 @@ use Rattle.locking_table.proofs.table.Table.all_hold.Goals as goal
 
 pub returns : goal.returns
 returns c =
-    subst (λ (rows : List Row). IsTrue c.rows_hold.result ↔ All (RowHolds (at_ends c.args.positions.now)) rows) (c.deref.ensures.value ∙ c.self.view_is) c.rows_hold.ensures
+    subst (λ (rows : List Row). IsTrue c.rows_hold.result ↔ All (RowHolds (at_ends c.args.positions.now)) rows)
+    (c.deref.ensures.value ∙ c.self.view_is) c.rows_hold.ensures
