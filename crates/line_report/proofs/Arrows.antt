@@ -1,165 +1,216 @@
--- The first word `->` of a text, and what stands before and behind it.
-use Rattle.std.proofs.Common.{◌≡◌, ℕ, ◌+◌, ◌-◌, ◌<◌, ◌≤◌, Bool, true, false, cond, List, [], ◌∷◌, ◌++◌, length, take, drop, Option, Some, None, option_map, min, suc, refl, sym, ap, subst, ◌∙◌, arith, codes, bytes_eq}
-use Rattle.std.specs.List.{join_with_byte}
-use Rattle.std.proofs.lemmas.List.{length-append, take_at, take_rest, drop_min}
+-- The first word `->` among words, and what stands before and behind it.
+use Rattle.std.proofs.Common.{◌≡◌, ℕ, zero, suc, ◌+◌, ◌-◌, ◌<◌, ◌≤◌, Bool, true, false, not, ltb, cond, List, [], ◌∷◌, length}
+use Rattle.std.proofs.Common.{take, drop, Option, Some, None, option_map, Result, Ok, Err, min, refl, sym, ap, ◌∙◌}
+use Rattle.std.proofs.Common.{arith, codes, bytes_eq, position, ◌&&◌}
+use Rattle.std.specs.List.{join_with_byte, list_all, prefix_len}
+use Rattle.std.proofs.lemmas.Bool.{le-ltb, lt-ltb, ltb-false, ltb-true}
+use Rattle.std.proofs.lemmas.List.{take_rest}
+use Rattle.std.proofs.lemmas.List.Quantifiers.{position-Some}
 use Rattle.std.proofs.lemmas.Slice.Eq.{bytes_eq-Decides}
-use Rattle.rail_text.specs.Lines.{words_of}
-use Rattle.rail_text.proofs.PrintedLines.{joined-words_of, some_words}
-use Rattle.line_report.specs.Arrows.{arrow_place, before_arrow, behind_arrow}
+use Rattle.rail_text.specs.Lines.{lacks, words_of}
+use Rattle.rail_text.specs.declared.cause.Cause.{Cause}
+use Rattle.rail_text.proofs.PrintedLines.{both, words_are, words_of-joined}
+use Rattle.line_plan.specs.Plans.{PlanFields}
+use Rattle.line_law.specs.declared.call.Act.{Act}
+use Rattle.script_text.specs.Acts.{act_of}
+use Rattle.script_text.specs.Answers.{lone_reply, reply_in, reply_of, shaped_reply}
+use Rattle.script_text.specs.Calls.{call_in, call_of, moment_in}
+use Rattle.line_report.specs.Arrows.{before_arrow, behind_arrow}
+use Rattle.line_report.specs.Reading.{call_after, call_told, later_call_in, reply_behind, reply_told, told_reply_in}
 
--- ---- going through the words of a text
+-- ---- the number of the first
 
-length_joined : (word : List ℕ) (words : List (List ℕ)) → 0 < length words → length (join_with_byte 32 (word ∷ words)) ≡ length word + 1 + length (join_with_byte 32 words)
-length_joined word [] some = absurd (omega arith)
-length_joined word (next ∷ words) some = omega (arith, length-append word (32 ∷ join_with_byte 32 (next ∷ words)))
+eq_turned : (a b : List ℕ) → bytes_eq a b ≡ bytes_eq b a
+eq_turned a b = go (bytes_eq a b) (bytes_eq b a) refl refl where
+  go : (s t : Bool) → bytes_eq a b ≡ s → bytes_eq b a ≡ t → s ≡ t
+  go true true e f = refl
+  go false false e f = refl
+  go true false e f = sym ((bytes_eq-Decides b a).1 (sym ((bytes_eq-Decides a b).0 e))) ∙ f
+  go false true e f = sym e ∙ (bytes_eq-Decides a b).1 (sym ((bytes_eq-Decides b a).0 f))
 
--- the bytes of a text with words behind the first
-pub length_then : (text rest word : List ℕ) → words_of text ≡ word ∷ words_of rest
-    → length text ≡ length word + 1 + length rest
-length_then text rest word e =
-    sym (ap length (joined-words_of text))
-    ∙ ap (λ (ws : List (List ℕ)). length (join_with_byte 32 ws)) e
-    ∙ length_joined word (words_of rest) (some_words rest)
-    ∙ ap (λ (bs : List ℕ). length word + 1 + length bs) (joined-words_of rest)
+first_or_later : (there : Bool) (n m : ℕ) → ltb n m ≡ there → cond (ltb (1 + n) (suc m)) (Some (1 + n)) None ≡ option_map suc (cond there (Some n) None)
+first_or_later true n m e =
+    let lt : n < m = ltb-true n m e in
+    let more : ltb (1 + n) (suc m) ≡ true = lt-ltb (1 + n) (suc m) (omega (arith, lt)) in
+    rw more (ap (λ (k : ℕ). Some k) (omega arith))
+first_or_later false n m e =
+    let ge : m ≤ n = ltb-false n m e in
+    let none : ltb (1 + n) (suc m) ≡ false = le-ltb (1 + n) (suc m) (omega (arith, ge)) in
+    rw none refl
 
-moved : (at n : ℕ) (o : Option ℕ) → option_map (λ k. at + k) (option_map (λ k. n + k) o) ≡ option_map (λ k. at + n + k) o
-moved at n None = refl
-moved at n (Some k) = ap (λ (m : ℕ). Some m) (omega arith)
+-- the number of the first word that passes, by the words behind one
+place_on : (passes : List ℕ → Bool) (word : List ℕ) (words : List (List ℕ)) (t : Bool) → passes word ≡ t
+    → position passes (word ∷ words) ≡ cond t (Some 0) (option_map suc (position passes words))
+place_on passes word words true e =
+    let some : ltb 0 (suc (length words)) ≡ true = lt-ltb 0 (suc (length words)) (omega arith) in
+    rw (e, some) refl
+place_on passes word words false e =
+    rw e (first_or_later (ltb (prefix_len (λ w. not (passes w)) words) (length words))
+    (prefix_len (λ w. not (passes w)) words) (length words) refl)
 
--- the place of the `->` in the whole by that in what is left
-abbrev pub Goes : List ℕ → ℕ → List ℕ → Type 0
-Goes text at rest = arrow_place (words_of text) ≡ option_map (λ n. at + n) (arrow_place (words_of rest))
+abbrev arrow_number : List (List ℕ) → Option ℕ
+arrow_number words = position (bytes_eq (codes "->")) words
 
-pub place_here : (text rest word : List ℕ) {later : List (List ℕ)} (at : ℕ) → Goes text at rest
-    → words_of rest ≡ word ∷ later → true ≡ bytes_eq word (codes "->") → Some at ≡ arrow_place (words_of text)
-place_here text rest word {later} at h is same =
-    let here : arrow_place (word ∷ later) ≡ Some 0 = rw (← same) refl in
-    let at_is : at ≡ at + 0 = omega arith in
-    sym
-    (h
-    ∙ ap (λ (ws : List (List ℕ)). option_map (λ n. at + n) (arrow_place ws)) is
-    ∙ ap (λ (o : Option ℕ). option_map (λ n. at + n) o) here
-    ∙ ap (λ (n : ℕ). Some n) (sym at_is))
+-- ---- the words before and behind it
 
-pub place_nowhere : (text rest word : List ℕ) (at : ℕ) → Goes text at rest → words_of rest ≡ word ∷ []
-    → false ≡ bytes_eq word (codes "->") → None ≡ arrow_place (words_of text)
-place_nowhere text rest word at h is none =
-    let nowhere : arrow_place (word ∷ []) ≡ None = rw (← none) refl in
-    sym
-    (h
-    ∙ ap (λ (ws : List (List ℕ)). option_map (λ n. at + n) (arrow_place ws)) is
-    ∙ ap (λ (o : Option ℕ). option_map (λ n. at + n) o) nowhere)
+record AreParted (words : List (List ℕ)) (at : ℕ) : Type 0 where
+  before : take at words ≡ before_arrow words
+  behind : Some (drop (at + 1) words) ≡ behind_arrow words
 
-pub place_more : (text rest next word : List ℕ) (at : ℕ) → Goes text at rest → words_of rest ≡ word ∷ words_of next
-    → false ≡ bytes_eq word (codes "->") → Goes text (at + (length word + 1)) next
-place_more text rest next word at h is none =
-    let step : arrow_place (word ∷ words_of next) ≡ option_map (λ n. length word + 1 + n) (arrow_place (words_of next)) =
-    rw (← none) refl in
-    h
-    ∙ ap (λ (ws : List (List ℕ)). option_map (λ n. at + n) (arrow_place ws)) is
-    ∙ ap (λ (o : Option ℕ). option_map (λ n. at + n) o) step
-    ∙ moved at (length word + 1) (arrow_place (words_of next))
+parted : (words : List (List ℕ)) (at : ℕ) → arrow_number words ≡ Some at → AreParted words at
+parted [] at e = absurd cc
+parted (word ∷ words) at e = go (λ k is. parted words k is) (bytes_eq word (codes "->")) refl where
+  later : (o : Option ℕ) → arrow_number words ≡ o → option_map suc o ≡ Some at
+      → ((k : ℕ) → arrow_number words ≡ Some k → AreParted words k) → bytes_eq word (codes "->") ≡ false
+      → AreParted (word ∷ words) at
+  later None is h ih none = absurd cc
+  later (Some k) is h ih none =
+      let p = ih k is in
+      let n : at ≡ suc k = cc in
+      let m : suc k + 1 ≡ suc (k + 1) = omega arith in
+      record {
+        before = rw (n, none) (ap (λ (ws : List (List ℕ)). word ∷ ws) p.before);
+        behind = rw (n, none, m) p.behind;
+      }
 
--- ---- cutting a text there
-
--- the place of the `->` in these words
-record IsPlace (words : List (List ℕ)) (at : ℕ) : Type 0 where
-  fits : at + 2 ≤ length (join_with_byte 32 words)
-  before : join_with_byte 32 (before_arrow words) ≡ take (at - 1) (join_with_byte 32 words)
-  behind : option_map (λ behind. join_with_byte 32 behind) (behind_arrow words) ≡ Some (drop (at + 3) (join_with_byte 32 words))
-
-drop_past : (word rest : List ℕ) (k : ℕ) → drop (length word + 1 + k) (word ++ 32 ∷ rest) ≡ drop k rest
-drop_past [] rest k = let e : 0 + 1 + k ≡ suc k = omega arith in ap (λ (n : ℕ). drop n (32 ∷ rest)) e
-drop_past (b ∷ word) rest k =
-    let e : length (b ∷ word) + 1 + k ≡ suc (length word + 1 + k) = omega arith in
-    ap (λ (n : ℕ). drop n (b ∷ (word ++ 32 ∷ rest))) e ∙ drop_past word rest k
-
-take_past : (word rest : List ℕ) (k : ℕ) → take (length word + 1 + k) (word ++ 32 ∷ rest) ≡ word ++ 32 ∷ take k rest
-take_past [] rest k = let e : 0 + 1 + k ≡ suc k = omega arith in ap (λ (n : ℕ). take n (32 ∷ rest)) e
-take_past (b ∷ word) rest k =
-    let e : length (b ∷ word) + 1 + k ≡ suc (length word + 1 + k) = omega arith in
-    ap (λ (n : ℕ). take n (b ∷ (word ++ 32 ∷ rest))) e ∙ ap (λ (bs : List ℕ). b ∷ bs) (take_past word rest k)
-
--- the `->` is the first of them
-first_place : (words : List (List ℕ)) → IsPlace (codes "->" ∷ words) 0
-first_place [] = record { fits = omega arith; before = refl; behind = refl }
-first_place (next ∷ words) = record { fits = omega arith; before = refl; behind = refl }
-
--- the text of a word and of words behind it, which begin with the `->`, or with another word
-before_next : (t : Bool) (word next : List ℕ) (rest : List (List ℕ)) (n : ℕ) → cond t (Some 0) (option_map (λ k. length next + 1 + k) (arrow_place rest)) ≡ Some n
-    → join_with_byte 32 (cond t [] (next ∷ before_arrow rest)) ≡ take (n - 1) (join_with_byte 32 (next ∷ rest))
-    → join_with_byte 32 (word ∷ cond t [] (next ∷ before_arrow rest)) ≡ take (length word + 1 + n - 1) (word ++ 32 ∷ join_with_byte 32 (next ∷ rest))
-before_next true word next rest n at h =
-    let zero_is : n ≡ 0 = cc in
-    let e : length word ≡ length word + 1 + n - 1 = omega (arith, zero_is) in
-    sym (take_at word (32 ∷ join_with_byte 32 (next ∷ rest)) (length word + 1 + n - 1) e)
-before_next false word next rest n at h =
-    let some : 0 < n = some_place (arrow_place rest) at in
-    let e : length word + 1 + (n - 1) ≡ length word + 1 + n - 1 = omega arith in
-    ap (λ (bs : List ℕ). word ++ 32 ∷ bs) h ∙ sym (take_past word (join_with_byte 32 (next ∷ rest)) (n - 1)) ∙ ap (λ (k : ℕ). take k (word ++ 32 ∷ join_with_byte 32 (next ∷ rest))) e where
-      some_place : (o : Option ℕ) → option_map (λ k. length next + 1 + k) o ≡ Some n → 0 < n
-      some_place None e = absurd cc
-      some_place (Some k) e = let is : length next + 1 + k ≡ n = cc in omega arith
-
-later_place : (word next : List ℕ) (rest : List (List ℕ)) (n : ℕ) → bytes_eq word (codes "->") ≡ false → arrow_place (next ∷ rest) ≡ Some n → IsPlace (next ∷ rest) n → IsPlace (word ∷ next ∷ rest) (length word + 1 + n)
-later_place word next rest n none at h =
-    let e : length word + 1 + n + 3 ≡ length word + 1 + (n + 3) = omega arith in
-    record {
-      fits = omega (arith, h.fits, length-append word (32 ∷ join_with_byte 32 (next ∷ rest)));
-      before = rw none (before_next (bytes_eq next (codes "->")) word next rest n at h.before);
-      behind = rw none (h.behind ∙ ap (λ (bs : List ℕ). Some bs) (sym (ap (λ (k : ℕ). drop k (word ++ 32 ∷ join_with_byte 32 (next ∷ rest))) e ∙ drop_past word (join_with_byte 32 (next ∷ rest)) (n + 3))));
-    }
-
-place_is : (words : List (List ℕ)) (at : ℕ) → arrow_place words ≡ Some at → IsPlace words at
-place_is [] at e = absurd cc
-place_is (word ∷ words) at e = go (λ n is. place_is words n is) (bytes_eq word (codes "->")) refl e where
-  later : (ws : List (List ℕ)) (o : Option ℕ) → bytes_eq word (codes "->") ≡ false → arrow_place ws ≡ o → ((n : ℕ) → arrow_place ws ≡ Some n → IsPlace ws n) → option_map (λ n. length word + 1 + n) o ≡ Some at → IsPlace (word ∷ ws) at
-  later ws None none is h f = absurd cc
-  later [] (Some n) none is h f = absurd cc
-  later (next ∷ rest) (Some n) none is h f =
-      let same : length word + 1 + n ≡ at = cc in
-      subst (IsPlace (word ∷ next ∷ rest)) same (later_place word next rest n none is (h n is))
-
-  go : ((n : ℕ) → arrow_place words ≡ Some n → IsPlace words n) → (t : Bool) → bytes_eq word (codes "->") ≡ t → cond t (Some 0) (option_map (λ n. length word + 1 + n) (arrow_place words)) ≡ Some at → IsPlace (word ∷ words) at
-  go behind true same h =
-      let zero_is : 0 ≡ at = cc in
-      let arrow : codes "->" ≡ word = sym ((bytes_eq-Decides word (codes "->")).0 same) in
-      subst (IsPlace (word ∷ words)) zero_is (subst (λ (w : List ℕ). IsPlace (w ∷ words) 0) arrow (first_place words))
-  go behind false none h = later words (arrow_place words) none refl behind h
+  go : ((k : ℕ) → arrow_number words ≡ Some k → AreParted words k) → (t : Bool) → bytes_eq word (codes "->") ≡ t
+      → AreParted (word ∷ words) at
+  go ih true same =
+      let first : Some 0 ≡ Some at =
+      sym (place_on (bytes_eq (codes "->")) word words true (eq_turned (codes "->") word ∙ same)) ∙ e in
+      let n : at ≡ 0 = cc in
+      record { before = rw (n, same) refl; behind = rw (n, same) refl }
+  go ih false none =
+      later (arrow_number words) refl
+      (sym (place_on (bytes_eq (codes "->")) word words false (eq_turned (codes "->") word ∙ none)) ∙ e) ih none
 
 -- no `->` stands
-no_place : (words : List (List ℕ)) → arrow_place words ≡ None → (before_arrow words ≡ words) × (behind_arrow words ≡ None)
-no_place [] e = (refl, refl)
-no_place (word ∷ words) e = go (λ is. no_place words is) (bytes_eq word (codes "->")) refl e where
-  later : (o : Option ℕ) → arrow_place words ≡ o → option_map (λ n. length word + 1 + n) o ≡ None → arrow_place words ≡ None
+record AreWhole (words : List (List ℕ)) : Type 0 where
+  before : words ≡ before_arrow words
+  behind : None ≡ behind_arrow words
+
+never : (o : Option ℕ) → o ≡ Some 0 → o ≡ None → ⊥
+never o e f = absurd cc
+
+whole : (words : List (List ℕ)) → arrow_number words ≡ None → AreWhole words
+whole [] e = record { before = refl; behind = refl }
+whole (word ∷ words) e = go (λ is. whole words is) (bytes_eq word (codes "->")) refl where
+  later : (o : Option ℕ) → arrow_number words ≡ o → option_map suc o ≡ None → arrow_number words ≡ None
   later None is h = is
-  later (Some n) is h = absurd cc
+  later (Some k) is h = absurd cc
 
-  go : (arrow_place words ≡ None → (before_arrow words ≡ words) × (behind_arrow words ≡ None)) → (t : Bool) → bytes_eq word (codes "->") ≡ t → cond t (Some 0) (option_map (λ n. length word + 1 + n) (arrow_place words)) ≡ None
-      → (before_arrow (word ∷ words) ≡ word ∷ words) × (behind_arrow (word ∷ words) ≡ None)
-  go behind true same h = absurd cc
-  go behind false none h =
-      let p = behind (later (arrow_place words) refl h) in
-      (rw none (ap (λ (ws : List (List ℕ)). word ∷ ws) p.0), rw none p.1)
+  go : (arrow_number words ≡ None → AreWhole words) → (t : Bool) → bytes_eq word (codes "->") ≡ t → AreWhole (word ∷ words)
+  go ih true same =
+      absurd (never (arrow_number (word ∷ words))
+      (place_on (bytes_eq (codes "->")) word words true (eq_turned (codes "->") word ∙ same)) e)
+  go ih false none =
+      let w = ih (later (arrow_number words) refl
+      (sym (place_on (bytes_eq (codes "->")) word words false (eq_turned (codes "->") word ∙ none)) ∙ e)) in
+      record { before = rw none (ap (λ (ws : List (List ℕ)). word ∷ ws) w.before); behind = rw none w.behind }
 
--- ---- the parts of a text
+-- the words from the third on
+from_third : (words : List (List ℕ)) (n : ℕ) → n ≡ min (length words) 2 → drop n words ≡ drop 2 words
+from_third [] n e = let z : n ≡ 0 = omega (arith, e) in rw z refl
+from_third (a ∷ []) n e = let z : n ≡ 1 = omega (arith, e) in rw z refl
+from_third (a ∷ b ∷ words) n e = let z : n ≡ 2 = omega (arith, e) in rw z refl
 
-pub uncut_call : (text : List ℕ) → None ≡ arrow_place (words_of text) → text ≡ join_with_byte 32 (before_arrow (words_of text))
-uncut_call text e = sym (joined-words_of text) ∙ ap (join_with_byte 32) (sym (no_place (words_of text) (sym e)).0)
+pub told_are : (words told : List (List ℕ)) (count least : ℕ) → count ≡ length words → least ≡ min count 2
+    → told ≡ take (count - least) (drop least words) → told ≡ drop 2 words
+told_are words told count least all n is =
+    let fits : least ≡ min (length words) 2 = omega (arith, n, all) in
+    is
+    ∙ ap (λ (k : ℕ). take (k - least) (drop least words)) all
+    ∙ take_rest words least
+    ∙ from_third words least fits
 
-pub uncut_reply : (text : List ℕ) → None ≡ arrow_place (words_of text) → None ≡ option_map (λ behind. join_with_byte 32 behind) (behind_arrow (words_of text))
-uncut_reply text e = ap (λ (o : Option (List (List ℕ))). option_map (λ behind. join_with_byte 32 behind) o) (sym (no_place (words_of text) (sym e)).1)
+pub told_whole : (words told : List (List ℕ)) → told ≡ drop 2 words → None ≡ arrow_number told
+    → (told ≡ before_arrow (drop 2 words)) × (None ≡ behind_arrow (drop 2 words))
+told_whole words told is none =
+    let w = whole told (sym none) in
+    (w.before ∙ ap before_arrow is, w.behind ∙ ap behind_arrow is)
 
-pub cut_fits : (text : List ℕ) (at : ℕ) → Some at ≡ arrow_place (words_of text) → at + 2 ≤ length text
-cut_fits text at e = rw (ap length (joined-words_of text)) at (place_is (words_of text) at (sym e)).fits
+pub told_before : (words told : List (List ℕ)) (at : ℕ) → told ≡ drop 2 words → Some at ≡ arrow_number told
+    → take (at - 0) (drop 0 told) ≡ before_arrow (drop 2 words)
+told_before words told at is e =
+    let n : at - 0 ≡ at = omega arith in
+    ap (λ (k : ℕ). take k told) n ∙ (parted told at (sym e)).before ∙ ap before_arrow is
 
-pub cut_call : (text : List ℕ) (at : ℕ) → Some at ≡ arrow_place (words_of text) → take (at - 1) text ≡ join_with_byte 32 (before_arrow (words_of text))
-cut_call text at e = sym (ap (take (at - 1)) (joined-words_of text)) ∙ sym (place_is (words_of text) at (sym e)).before
+pub told_behind : (words told : List (List ℕ)) (at count : ℕ) → told ≡ drop 2 words → count ≡ length told
+    → Some at ≡ arrow_number told → Some (take (count - (at + 1)) (drop (at + 1) told)) ≡ behind_arrow (drop 2 words)
+told_behind words told at count is all e =
+    ap (λ (k : ℕ). Some (take (k - (at + 1)) (drop (at + 1) told))) all
+    ∙ ap (λ (ws : List (List ℕ)). Some ws) (take_rest told (at + 1))
+    ∙ (parted told at (sym e)).behind
+    ∙ ap behind_arrow is
 
-pub cut_reply : (text : List ℕ) (at from : ℕ) → Some at ≡ arrow_place (words_of text) → from ≡ min (at + 3) (length text)
-    → Some (take (length text - from) (drop from text)) ≡ option_map (λ behind. join_with_byte 32 behind) (behind_arrow (words_of text))
-cut_reply text at from e is =
-    ap (λ (bs : List ℕ). Some bs) (take_rest text from ∙ ap (λ (n : ℕ). drop n text) is ∙ drop_min (at + 3) text ∙ sym (ap (drop (at + 3)) (joined-words_of text)))
-    ∙ sym (place_is (words_of text) at (sym e)).behind
+pub told_there : (told : List (List ℕ)) (at : ℕ) → Some at ≡ arrow_number told → at < length told
+told_there told at e = (position-Some (bytes_eq (codes "->")) told at [] (sym e)).0
 
-pub ruleset cut_rules = (uncut_call, uncut_reply, cut_fits, cut_call)
+-- ---- words without a space
+
+abbrev single : List (List ℕ) → Type 0
+single words = list_all (lacks 32) words ≡ true
+
+pub single_words : (text : List ℕ) → list_all (lacks 32) (words_of text) ≡ true
+single_words text = (words_are text).single
+
+single_drop : (words : List (List ℕ)) (n : ℕ) → single words → single (drop n words)
+single_drop words zero h = h
+single_drop [] (suc n) h = h
+single_drop (word ∷ words) (suc n) h = single_drop words n (both (lacks 32 word) (list_all (lacks 32) words) h).1
+
+single_before : (words : List (List ℕ)) → single words → single (before_arrow words)
+single_before [] h = refl
+single_before (word ∷ words) h =
+    let p = both (lacks 32 word) (list_all (lacks 32) words) h in
+    go (bytes_eq word (codes "->")) p.0 (single_before words p.1) where
+      go : (t : Bool) → lacks 32 word ≡ true → single (before_arrow words) → single (cond t [] (word ∷ before_arrow words))
+      go true here later = refl
+      go false here later = rw (here, later) refl
+
+single_behind : (words behind : List (List ℕ)) → single words → behind_arrow words ≡ Some behind → single behind
+single_behind [] behind h e = absurd cc
+single_behind (word ∷ words) behind h e =
+    let p = both (lacks 32 word) (list_all (lacks 32) words) h in
+    go (bytes_eq word (codes "->")) e p.1 (λ is. single_behind words behind p.1 is) where
+      go : (t : Bool) → cond t (Some words) (behind_arrow words) ≡ Some behind → single words
+          → (behind_arrow words ≡ Some behind → single behind) → single behind
+      go true is here later = let same : words ≡ behind = cc in rw (← same) here
+      go false is here later = later is
+
+-- ---- read by their words or by their text
+
+call_told_alike : (plan : PlanFields) (b last : ℕ) (words : List (List ℕ)) → single words
+    → later_call_in plan b last words ≡ call_after plan b last (join_with_byte 32 words)
+unfolding later_call_in call_after call_of call_in moment_in act_of
+call_told_alike plan b last [] h = refl
+call_told_alike plan b last (word ∷ words) h = rw (words_of-joined (word ∷ words) (omega arith) h) refl
+
+pub told_call : (plan : PlanFields) (b last : ℕ) (words : List (List ℕ)) → single words
+    → later_call_in plan b last (before_arrow (drop 2 words)) ≡ call_after plan b last (call_told words)
+unfolding call_told
+told_call plan b last words h =
+    call_told_alike plan b last (before_arrow (drop 2 words)) (single_before (drop 2 words) (single_drop words 2 h))
+
+no_reply_words : (plan : PlanFields) (b : ℕ) (act : Act) → reply_in plan b act [] ≡ reply_in plan b act ([] ∷ [])
+unfolding reply_in shaped_reply lone_reply
+no_reply_words plan b act = refl
+
+reply_told_alike : (plan : PlanFields) (b : ℕ) (act : Act) (words : List (List ℕ)) → single words
+    → reply_in plan b act words ≡ reply_of plan b act (join_with_byte 32 words)
+unfolding reply_of
+reply_told_alike plan b act [] h = no_reply_words plan b act
+reply_told_alike plan b act (word ∷ words) h = rw (words_of-joined (word ∷ words) (omega arith) h) refl
+
+pub told_reply : (plan : PlanFields) (b : ℕ) (act : Act) (words : List (List ℕ)) → single words
+    → told_reply_in plan b act (behind_arrow (drop 2 words)) ≡ reply_behind plan b act (reply_told words)
+unfolding reply_told told_reply_in reply_behind
+told_reply plan b act words h = go (behind_arrow (drop 2 words)) refl where
+  go : (o : Option (List (List ℕ))) → behind_arrow (drop 2 words) ≡ o
+      → told_reply_in plan b act o ≡ reply_behind plan b act (option_map (λ behind. join_with_byte 32 behind) o)
+  go None e = refl
+  go (Some behind) e = reply_told_alike plan b act behind (single_behind (drop 2 words) behind (single_drop words 2 h) e)
+
+pub ruleset told_rules = (told_call, told_reply)
+
+pub ruleset cut_rules = (told_there)

@@ -25,7 +25,7 @@ use Rattle.line_law.specs.declared.call.Entry.{Entry}
 use Rattle.line_law.specs.declared.call.Reply.{Reply}
 use Rattle.line_law.specs.Known.{KnowsCall}
 use Rattle.script_text.specs.Acts.{act_of, act_words}
-use Rattle.script_text.specs.Answers.{lone_reply, shaped_reply, reply_of}
+use Rattle.script_text.specs.Answers.{lone_reply, shaped_reply, reply_in, reply_of}
 use Rattle.script_text.specs.Calls.{moment_in, call_in, call_of, call_words, call_text}
 use Rattle.script_text.specs.Moments.{moment_text}
 use Rattle.script_text.specs.Replies.{reply_words, reply_text, is_spelled_reply}
@@ -144,7 +144,7 @@ call_is plan b last text at =
 
 -- a text without a byte is no reply
 no_reply : (plan : PlanFields) (b : ℕ) (act : Act) (reply : Reply) → reply_of plan b act [] ≡ Ok reply → ⊥
-unfolding reply_of shaped_reply lone_reply
+unfolding reply_of reply_in shaped_reply lone_reply
 no_reply plan b act reply e = cc
 
 -- the text behind the `->` spells the reply

@@ -18,3 +18,4 @@ pub mod PairTexts
 pub mod Verdicts
 pub mod NoneSkipped
 pub mod PrintedJournals
+mod GoodLines

@@ -18,8 +18,8 @@ use Rattle.line_law.specs.declared.call.Act.{Act}
 use Rattle.line_law.specs.declared.call.Call.{Call}
 use Rattle.line_law.specs.declared.call.Entry.{Entry}
 use Rattle.line_law.specs.declared.call.Reply.{Reply}
-use Rattle.script_text.specs.Answers.{reply_of}
-use Rattle.script_text.specs.Calls.{call_of, moment_in}
+use Rattle.script_text.specs.Answers.{reply_in, reply_of}
+use Rattle.script_text.specs.Calls.{call_in, call_of, moment_in}
 use Rattle.script_text.specs.Scripts.{not_falling}
 use Rattle.line_report.specs.declared.journal_draft.Stage.{Stage}
 use Rattle.line_report.specs.declared.journal_draft.Stage.TheVariants as stages
@@ -74,6 +74,18 @@ call_after plan b last text = do
 unfoldable pub reply_behind : PlanFields → ℕ → Act → Option (List ℕ) → Result Reply Cause
 reply_behind plan b act None = Err causes.WordCount
 reply_behind plan b act (Some text) = reply_of plan b act text
+
+-- the same by the words of such a call
+unfoldable pub later_call_in : PlanFields → ℕ → ℕ → List (List ℕ) → Result Call Cause
+later_call_in plan b last words = do
+  read ← moment_in plan.version words
+  moment ← not_falling last read
+  call_in plan b words
+
+-- and by the words of such a reply
+unfoldable pub told_reply_in : PlanFields → ℕ → Act → Option (List (List ℕ)) → Result Reply Cause
+told_reply_in plan b act None = Err causes.WordCount
+told_reply_in plan b act (Some words) = reply_in plan b act words
 
 -- ---- what a line of each kind makes of the journal so far
 
@@ -134,12 +146,22 @@ lines_onto n draft (line ∷ lines) =
     at_line n (line_onto draft line) >>=
     (λ next. if has_ended next.stage then Ok next else lines_onto (n + 1) next lines)
 
--- these lines, of which some are read, go on with one that has no fault
+-- what lines make of the journal so far, as far as none has a fault
+unfoldable pub more_onto : DraftFields → List Line → Result DraftFields Cause
+more_onto draft [] = Ok draft
+more_onto draft (line ∷ lines) = line_onto draft line >>= (λ next. more_onto next lines)
+
+-- the first of these lines make that of the journal, and these are left
+pub record AreReadTo (old new : DraftFields) (lines left : List Line) : Type 0 where
+  pub front : List Line
+  pub whole : lines ≡ front ++ left
+  pub read : more_onto old front ≡ Ok new
+
+-- the first of these lines make that of the journal, and the next one has no fault
 pub record GoesOn (old new : DraftFields) (lines : List Line) : Type 0 where
-  pub number : ℕ
   pub line : Line
   pub later : List Line
-  pub read : lines_onto 1 old lines ≡ lines_onto number new (line ∷ later)
+  pub before : AreReadTo old new lines (line ∷ later)
   pub good : IsOk (line_onto new line)
 
 -- Want of memory is told only of a line that has no fault: the lines before it are read.

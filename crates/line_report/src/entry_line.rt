@@ -1,16 +1,15 @@
 //! The words of an entry's line: its number, its box, its call, `->` and its reply.
 
-ghost use Rattle.std.specs.Prelude.{◌≡◌, ◌<◌, IfOk, length, position, bytes_eq, option_map, true};
-ghost use Rattle.std.specs.List.{join_with_byte, list_all};
-ghost use Rattle.rail_text.specs.Lines.{words_of};
+ghost use Rattle.std.specs.Prelude.{◌≡◌, ◌<◌, IfOk, length, position, bytes_eq, drop, true};
+ghost use Rattle.std.specs.List.{list_all};
 ghost use Rattle.rail_text.specs.Words.{is_name};
-ghost use Rattle.line_report.specs.Arrows.{arrow_place, before_arrow, behind_arrow};
-ghost use Rattle.line_report.specs.Reading.{box_in, call_after, call_told, entry_number, reply_behind, reply_told};
+ghost use Rattle.line_report.specs.Arrows.{before_arrow, behind_arrow};
+ghost use Rattle.line_report.specs.Reading.{box_in, entry_number, later_call_in, told_reply_in};
 
 use line_law::{Call, Reply};
 use line_plan::Plan;
-use rail_text::{Cause, LineWords, Names, first_word, name_in, read_number};
-use script_text::{moment_in, read_act, read_reply};
+use rail_text::{Cause, LineWords, Names, name_in, read_number};
+use script_text::{moment_in, read_act, reply_in};
 
 /// The number of an entry, which begins its line: it is the next one.
 #[tactic(auto, unfolding(crate::specs::Reading::entry_number))]
@@ -51,80 +50,56 @@ pub fn box_in(plan: &Plan, words: &LineWords<'_>) -> Result<u32, Cause>
     }
 }
 
-// Where the first word `->` begins, if it stands.
-fn arrow_at(text: &[u8]) -> Option<usize>
-    ensures { result ≡ arrow_place (words_of text.now) }
-{
-    let mut at = 0;
-    let mut rest = text;
-    loop {
-        let (word, after) = first_word(rest);
-        if word == b"->".as_slice() {
-            return Some(at);
-        }
-        rest = after?;
-        at += word.len() + 1;
-    }
-}
-
-// What stands before the first word `->`, and what behind it, if it stands; the spaces beside it are of neither.
-#[tactic(auto, using(crate::proofs::Arrows::cut_rules))]
-fn cut_at_arrow(text: &[u8]) -> (&[u8], Option<&[u8]>)
-    ensures call { result.0.now ≡ join_with_byte 32 (before_arrow (words_of text.now)) }
-    ensures reply { option_map (λ s. s.now) result.1
-        ≡ option_map (λ behind. join_with_byte 32 behind) (behind_arrow (words_of text.now)) }
-{
-    match arrow_at(text) {
-        None => (text, None),
-        Some(at) => {
-            let call = &text[..at.saturating_sub(1)];
-            let reply = &text[text.len().min(at + 3)..];
-            (call, Some(reply))
-        }
-    }
-}
-
-/// The text of the entry's call, between the box and the first word `->`, and that of its reply behind it, if it
+/// The words of the entry's call, between the box and the first word `->`, and those of its reply behind it, if it
 /// stands.
-#[tactic(auto, unfolding(crate::specs::Reading::call_told, crate::specs::Reading::reply_told))]
-pub fn told_texts<'a>(words: &LineWords<'a>) -> (&'a [u8], Option<&'a [u8]>)
-    ensures call { result.0.now ≡ call_told words.now }
-    ensures reply { option_map (λ s. s.now) result.1 ≡ reply_told words.now }
+#[tactic(auto, using(crate::proofs::Arrows::cut_rules))]
+pub fn told_words<'a>(words: &LineWords<'a>) -> (LineWords<'a>, Option<LineWords<'a>>)
+    ensures call { result.0 ≡ before_arrow (drop 2 words.now) }
+    ensures reply { result.1 ≡ behind_arrow (drop 2 words.now) }
 {
-    match words.behind(1) {
-        None => (&[], None),
-        Some(rest) => cut_at_arrow(rest),
+    let count = words.word_count();
+    let told = words.between(count.min(2), count);
+    match told.number_of(b"->") {
+        None => (told, None),
+        Some(at) => {
+            let behind = told.between(at + 1, told.word_count());
+            (told.between(0, at), Some(behind))
+        }
     }
 }
 
-/// The call of a box, whose moment isn't below the last one of the box.
-#[tactic(auto, unfolding(crate::specs::Reading::call_after, script_text::specs::Calls::call_of, script_text::specs::Calls::call_in))]
-pub fn call_after(plan: &Plan, box_no: u32, last: u32, text: &[u8]) -> Result<Call, Cause>
+/// The call of a box by its words, whose moment isn't below the last one of the box.
+#[tactic(auto, unfolding(crate::specs::Reading::later_call_in, script_text::specs::Calls::call_in))]
+pub fn later_call_in(
+    plan: &Plan,
+    box_no: u32,
+    last: u32,
+    words: &LineWords<'_>,
+) -> Result<Call, Cause>
     requires { box_no < length plan.now.boxes }
-    ensures { result ≡ call_after plan.now box_no last text.now }
+    ensures { result ≡ later_call_in plan.now box_no last words.now }
 {
-    let words = LineWords::new(text);
-    let moment = moment_in(plan.version, &words)?;
+    let moment = moment_in(plan.version, words)?;
     if moment < last {
         return Err(Cause::MomentFalls);
     }
-    let act = read_act(plan, box_no, &words)?;
+    let act = read_act(plan, box_no, words)?;
     Ok(Call { moment, act })
 }
 
-/// The reply for a call of a box, where a word `->` stands before it.
-#[tactic(auto, unfolding(crate::specs::Reading::reply_behind))]
-pub fn reply_behind(
+/// The reply for a call of a box by its words, where a word `->` stands before them.
+#[tactic(auto, unfolding(crate::specs::Reading::told_reply_in))]
+pub fn told_reply_in(
     plan: &Plan,
     box_no: u32,
     call: &Call,
-    text: Option<&[u8]>,
+    words: &Option<LineWords<'_>>,
 ) -> Result<Reply, Cause>
     requires { box_no < length plan.now.boxes }
-    ensures { result ≡ reply_behind plan.now box_no call.now.act (option_map (λ s. s.now) text.entry) }
+    ensures { result ≡ told_reply_in plan.now box_no call.now.act words.now }
 {
-    match text {
+    match words {
         None => Err(Cause::WordCount),
-        Some(text) => read_reply(plan, box_no, call, text),
+        Some(words) => reply_in(plan, box_no, call.act, words),
     }
 }

@@ -7,9 +7,8 @@ ghost use Rattle.line_report.specs.Journals.{entry_text, entries_text, journal_t
 use line_law::{Entry, Journal};
 use line_plan::Plan;
 use rail_text::NoMemory;
-use script_text::{put_text, put_told};
+use script_text::{put_number, put_text, put_told};
 use std::alloc::{AllocError, Global};
-use std::fmt::Write;
 
 // Puts an entry's line behind a text that is being made. Where memory runs out a part of the line may stand behind it.
 #[tactic(auto, unfolding(crate::specs::Journals::entry_text))]
@@ -22,11 +21,12 @@ pub(crate) fn put_line(
     requires { IsSpelled plan.now entry.now }
     ensures { OnOk result (string_bytes out.new ≡ string_bytes out.old ++ entry_text plan.now number entry.now) }
 {
-    write!(out, "{number} ")?;
+    put_number(out, number as u64)?;
+    out.push(' ')?;
     out.push_str(plan.box_name(entry.box_no))?;
-    out.push_str(" ")?;
+    out.push(' ')?;
     put_told(out, plan, entry)?;
-    out.push_str("\n")
+    out.push('\n')
 }
 
 /// Puts an entry's line behind a text: its number, its box, the moment and the call, `->` and the reply, as in
@@ -63,8 +63,9 @@ fn put_lines(out: &mut String, plan: &Plan, journal: &Journal) -> Result<(), All
     requires { All (IsSpelled plan.now) journal.now.entries }
     ensures { OnOk result (string_bytes out.new ≡ string_bytes out.old ++ journal_text plan.now journal.now.entries) }
 {
-    let version = plan.version;
-    write!(out, "journal {version}\n")?;
+    out.push_str("journal ")?;
+    put_number(out, u64::from(plan.version))?;
+    out.push('\n')?;
     put_entries(out, plan, journal.entries.as_slice())?;
     out.push_str("end\n")
 }

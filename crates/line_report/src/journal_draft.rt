@@ -1,6 +1,6 @@
 //! The journal as far as its text is read, and which line may come next.
 
-use crate::entry_line::{box_in, call_after, entry_number, reply_behind, told_texts};
+use crate::entry_line::{box_in, entry_number, later_call_in, told_reply_in, told_words};
 use line_law::{Entry, Journal};
 use line_plan::{Items, Plan};
 use rail_text::{Cause, LineFault, LineWords, NoMemory, TextLine, number_in};
@@ -41,7 +41,9 @@ impl<'a> Model for JournalDraft<'a> {
 }
 
 impl<'a> JournalDraft<'a> {
-    ghost use Rattle.std.specs.Prelude.{◌≡◌, ◌<◌, IfOk, length};
+    ghost use Rattle.std.specs.Prelude.{◌≡◌, ◌<◌, IfOk, length, true};
+    ghost use Rattle.std.specs.List.{list_all};
+    ghost use Rattle.rail_text.specs.Lines.{lacks};
     ghost use Rattle.rail_text.specs.Gives.{GivesLine, TakesNoMemory};
     ghost use Rattle.line_report.specs.Drafts.{start};
     ghost use Rattle.line_report.specs.Reading.{end_onto, entry_in, entry_onto, has_ended, heading_onto, line_onto};
@@ -75,17 +77,18 @@ impl<'a> JournalDraft<'a> {
     }
 
     // The entry of a line: its number, its box, its call and its reply.
-    #[tactic(auto, unfolding(crate::specs::Reading::entry_in))]
+    #[tactic(auto, using(crate::proofs::Arrows::told_rules), unfolding(crate::specs::Reading::entry_in))]
     fn entry_in(&self, words: &LineWords<'_>) -> Result<Entry, Cause>
+        requires { list_all (lacks 32) words.now ≡ true }
         ensures exact { result ≡ entry_in self.now words.now }
         ensures below { IfOk result (λ e. e.box_no < length self.now.moments) }
     {
         let plan = self.plan;
         entry_number(self.entries.len() as u64 + 1, words)?;
         let box_no = box_in(plan, words)?;
-        let (call, reply) = told_texts(words);
-        let call = call_after(plan, box_no, self.moments[box_no as usize], call)?;
-        let reply = reply_behind(plan, box_no, &call, reply)?;
+        let (call, reply) = told_words(words);
+        let call = later_call_in(plan, box_no, self.moments[box_no as usize], &call)?;
+        let reply = told_reply_in(plan, box_no, &call, &reply)?;
         Ok(Entry {
             box_no,
             call,
@@ -96,6 +99,7 @@ impl<'a> JournalDraft<'a> {
     // An entry more, whose moment is the last one of its box.
     #[tactic(auto, unfolding(crate::specs::Reading::entry_onto))]
     fn entry_line(&mut self, words: &LineWords<'_>) -> Result<(), LineFault>
+        requires { list_all (lacks 32) words.now ≡ true }
         ensures gives { GivesLine (λ _. self.new) result (entry_onto self.old words.now) }
         ensures memory { RunsOut self.old self.new result (entry_onto self.old words.now) }
     {
@@ -119,6 +123,7 @@ impl<'a> JournalDraft<'a> {
     // The words of a line.
     #[tactic(auto, using(script_text::proofs::Memory::memory_rules), unfolding(crate::specs::Reading::stage_onto))]
     fn words_line(&mut self, words: &LineWords<'_>) -> Result<(), LineFault>
+        requires { list_all (lacks 32) words.now ≡ true }
         ensures gives { GivesLine (λ _. self.new) result (stage_onto self.old.stage self.old words.now) }
         ensures memory { RunsOut self.old self.new result (stage_onto self.old.stage self.old words.now) }
     {
@@ -133,7 +138,7 @@ impl<'a> JournalDraft<'a> {
 
     /// A line: its form first, by which none is skipped, then its words. Want of memory is told only of a line that has
     /// no fault, and leaves what is read as it was.
-    #[tactic(auto, using(crate::proofs::NoneSkipped::none_skipped), unfolding(crate::specs::Reading::line_onto, rail_text::specs::Forms::formed_words))]
+    #[tactic(auto, using(crate::proofs::NoneSkipped::none_skipped, crate::proofs::Arrows::single_words), unfolding(crate::specs::Reading::line_onto, rail_text::specs::Forms::formed_words))]
     pub fn read_line(&mut self, line: &TextLine<'_>) -> Result<(), LineFault>
         ensures gives { GivesLine (λ _. self.new) result
             (line_onto self.old (record { text = line.now.text.now; ended = line.now.ended })) }

@@ -14,7 +14,7 @@ use Rattle.rail_text.proofs.PrintedWords.{words_of-words}
 use Rattle.line_plan.specs.Plans.{PlanFields, IsPlan}
 use Rattle.line_law.specs.declared.call.Act.{Act}
 use Rattle.line_law.specs.declared.call.Reply.{Reply}
-use Rattle.script_text.specs.Answers.{◌and_then◌, small, small_number, state_named, spent_named, row_named, lone_rows, count_rows, code_rows, stand_rows, train_rows, lone_reply, count_reply, pair_reply, code_reply, stand_reply, train_reply, tells_a_train, bell_shown, shown_reply, triple_reply, lever_reply, instrument_reply, shaped_reply, accepted, reply_of}
+use Rattle.script_text.specs.Answers.{reply_in, ◌and_then◌, small, small_number, state_named, spent_named, row_named, lone_rows, count_rows, code_rows, stand_rows, train_rows, lone_reply, count_reply, pair_reply, code_reply, stand_reply, train_reply, tells_a_train, bell_shown, shown_reply, triple_reply, lever_reply, instrument_reply, shaped_reply, accepted, reply_of}
 use Rattle.script_text.specs.Moments.{ready_of, moment_text}
 use Rattle.script_text.specs.Names.{way_text, position_text, code_no_text, place_text, train_text, way_named, position_named, code_named, place_named, train_named}
 use Rattle.script_text.specs.Replies.{shown_text, state_text, spent_text, reply_words, reply_text, is_spelled_reply}
@@ -207,7 +207,7 @@ shaped_is plan b (w ∷ x ∷ y ∷ z ∷ v ∷ u ∷ words) = tt
 
 -- a text that is read as a reply is its one spelling
 pub spelled_reply : (plan : PlanFields) (b : ℕ) (act : Act) (text : List ℕ) (reply : Reply) → reply_of plan b act text ≡ Ok reply → SpellsReply plan b act text reply
-unfolding reply_of reply_text
+unfolding reply_of reply_in reply_text
 spelled_reply plan b act text reply e = subst (OfOk (SpellsReply plan b act text)) e (go (shaped_reply plan b (words_of text)) (shaped_is plan b (words_of text))) where
   go : (o : Option Reply) → OfSome (Says plan b (words_of text)) o → OfOk (SpellsReply plan b act text) (accepted plan b act o)
   go None says = tt
@@ -231,7 +231,7 @@ shape_of-printed plan b reply p at s = ap (shaped_reply plan b) (words_of-reply 
 
 -- a reply that a text can spell is read as it is printed
 pub printed_reply : (plan : PlanFields) (b : ℕ) (act : Act) (reply : Reply) → IsPlan plan → b < length plan.boxes → IsTrue (may_answer act reply) → IsTrue (is_spelled_reply plan b reply) → reply_of plan b act (reply_text plan b reply) ≡ Ok reply
-unfolding reply_of
+unfolding reply_of reply_in
 printed_reply plan b act reply p at a s = rw (shape_of-printed plan b reply p at s, a, s) refl
 
 -- different replies are printed differently

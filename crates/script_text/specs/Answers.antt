@@ -213,6 +213,10 @@ accepted plan b act None = Err causes.BadReply
 accepted plan b act (Some reply) =
     if may_answer act reply && is_spelled_reply plan b reply then Ok reply else Err causes.BadReply
 
+-- the reply that words spell for such a call of box b
+unfoldable pub reply_in : PlanFields → ℕ → Act → List (List ℕ) → Result Reply Cause
+reply_in plan b act words = accepted plan b act (shaped_reply plan b words)
+
 -- the reply that a text spells for such a call of box b
 unfoldable pub reply_of : PlanFields → ℕ → Act → List ℕ → Result Reply Cause
-reply_of plan b act text = accepted plan b act (shaped_reply plan b (words_of text))
+reply_of plan b act text = reply_in plan b act (words_of text)

@@ -1,5 +1,5 @@
 -- The script as far as its text is read.
-use Rattle.std.specs.Prelude.{◌<◌, ℕ, List, [], length}
+use Rattle.std.specs.Prelude.{◌≡◌, ◌<◌, ℕ, List, [], length}
 use Rattle.line_plan.specs.Plans.{PlanFields}
 use Rattle.line_law.specs.declared.call.Call.{Call}
 use Rattle.script_text.specs.declared.draft.Stage.{Stage}
@@ -21,3 +21,7 @@ start plan b = record { plan = plan; box_no = b; stage = stages.Script; moment =
 -- the box for which the script is read is one of the plan's
 pub record IsDraft (draft : DraftFields) : Type 0 where
   pub box : draft.box_no < length draft.plan.boxes
+
+-- want of memory comes only among the calls, and leaves what was read as it was
+abbrev pub IsLeft : DraftFields → DraftFields → Type 0
+IsLeft old new = (old.stage ≡ stages.Calls) × (new ≡ old)

@@ -24,7 +24,7 @@ fn put_position(
         ≡ string_bytes out.old ++ (word.now ++ 32 ∷ way_text way ++ 32 ∷ position_text position)) }
 {
     put_way(out, word, way)?;
-    out.push_str(" ")?;
+    out.push(' ')?;
     out.push_str(position_word(position))
 }
 
@@ -41,7 +41,7 @@ fn put_side_and_code(
         ≡ string_bytes out.old ++ (word.now ++ 32 ∷ way_text side ++ 32 ∷ code_no_text plan.now.codes code)) }
 {
     put_way(out, word, side)?;
-    out.push_str(" ")?;
+    out.push(' ')?;
     put_code(out, plan, code)
 }
 

@@ -6,7 +6,7 @@ ghost use Rattle.line_plan.specs.Plans.{IsPlan};
 ghost use Rattle.script_text.specs.Answers.{small_number, state_named, spent_named, lone_reply, count_reply};
 ghost use Rattle.script_text.specs.Answers.{pair_reply, code_reply, stand_reply, train_reply, tells_a_train};
 ghost use Rattle.script_text.specs.Answers.{bell_shown, shown_reply, triple_reply, lever_reply, instrument_reply};
-ghost use Rattle.script_text.specs.Answers.{shaped_reply, reply_of};
+ghost use Rattle.script_text.specs.Answers.{shaped_reply, reply_in, reply_of};
 ghost use Rattle.script_text.specs.Names.{position_named};
 ghost use Rattle.script_text.specs.Spelled.{SpellsReply};
 
@@ -328,6 +328,21 @@ fn shaped_reply(plan: &Plan, box_no: u32, words: &LineWords<'_>) -> Option<Reply
     }
 }
 
+/// The reply that words spell for such a call of a box, as [`read_reply`] reads it of a text.
+#[tactic(auto, unfolding(crate::specs::Answers::reply_in))]
+pub fn reply_in(plan: &Plan, box_no: u32, act: Act, words: &LineWords<'_>) -> Result<Reply, Cause>
+    requires { box_no < length plan.now.boxes }
+    ensures exact { result ≡ reply_in plan.now box_no act words.now }
+    ensures cause { IfErr result (λ cause. cause ≡ Cause.BadReply) }
+{
+    match shaped_reply(plan, box_no, words) {
+        Some(reply) if may_answer(act, &reply) && is_spelled_reply(plan, box_no, &reply) => {
+            Ok(reply)
+        }
+        _ => Err(Cause::BadReply),
+    }
+}
+
 // The reply that a text spells for such a call of a box. The plan's version is read for what a plan's type keeps.
 #[tactic(auto, unfolding(crate::specs::Answers::reply_of))]
 fn reply_of(plan: &Plan, box_no: u32, act: Act, text: &[u8]) -> Result<Reply, Cause>
@@ -337,13 +352,7 @@ fn reply_of(plan: &Plan, box_no: u32, act: Act, text: &[u8]) -> Result<Reply, Ca
     ensures plan { IsPlan plan.now }
 {
     let _version = plan.version;
-    let words = LineWords::new(text);
-    match shaped_reply(plan, box_no, &words) {
-        Some(reply) if may_answer(act, &reply) && is_spelled_reply(plan, box_no, &reply) => {
-            Ok(reply)
-        }
-        _ => Err(Cause::BadReply),
-    }
+    reply_in(plan, box_no, act, &LineWords::new(text))
 }
 
 /// The reply that a text spells for a call of a box. Each reply has one spelling; any other text is `BadReply`, and so

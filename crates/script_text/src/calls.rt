@@ -61,7 +61,7 @@ pub fn put_call(out: &mut String, plan: &Plan, box_no: u32, call: &Call) -> Resu
     ensures { OnOk result (string_bytes out.new ≡ string_bytes out.old ++ call_text plan.now call.now) }
 {
     put_moment(out, plan.version, call.moment)?;
-    out.push_str(" ")?;
+    out.push(' ')?;
     put_act(out, plan, box_no, call.act)
 }
 

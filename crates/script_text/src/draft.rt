@@ -46,9 +46,9 @@ impl<'a> Model for ScriptDraft<'a> {
 }
 
 impl<'a> ScriptDraft<'a> {
-    ghost use Rattle.std.specs.Prelude.{◌≡◌, ◌<◌, length};
+    ghost use Rattle.std.specs.Prelude.{◌≡◌, ◌<◌, IsErrOf, length};
     ghost use Rattle.rail_text.specs.Gives.{GivesLine, TakesNoMemory};
-    ghost use Rattle.script_text.specs.Drafts.{start};
+    ghost use Rattle.script_text.specs.Drafts.{IsLeft, start};
     ghost use Rattle.script_text.specs.Memory.{RunsOut};
     ghost use Rattle.script_text.specs.Scripts.{script_onto, call_onto, end_onto, stage_onto};
 
@@ -117,6 +117,7 @@ impl<'a> ScriptDraft<'a> {
     fn words_line(&mut self, words: &LineWords<'_>) -> Result<(), LineFault>
         ensures gives { GivesLine (λ _. self.new) result (stage_onto self.old.stage self.old words.now) }
         ensures memory { RunsOut self.old self.new result (stage_onto self.old.stage self.old words.now) }
+        ensures left { IsErrOf result LineFault.NoMemory → IsLeft self.old self.new }
     {
         match self.stage {
             Stage::Script if words.keyword() == b"script".as_slice() => self.script_line(words),
@@ -139,12 +140,16 @@ impl<'a> ScriptDraft<'a> {
 }
 
 impl<'a> Draft for ScriptDraft<'a> {
+    ghost use Rattle.script_text.specs.Drafts.{IsLeft};
     ghost use Rattle.script_text.specs.Scripts.{words_onto, has_ended};
 
     ghost onto = { words_onto };
 
     ghost ended = { λ draft. has_ended draft.stage };
 
+    ghost left = { IsLeft };
+
+    #[tactic(auto, using(crate::proofs::Memory::faults_first))]
     fn read_words(&mut self, words: &LineWords<'_>) -> Result<(), LineFault> {
         self.words_line(words)
     }

@@ -3,6 +3,7 @@
 ghost use Rattle.std.specs.Prelude.{◌≡◌, ◌<◌, ◌++◌, ◌∷◌, decimal, length, position, bytes_eq, true, string_bytes};
 ghost use Rattle.std.specs.Prelude.{IsTrue, OnOk};
 ghost use Rattle.std.specs.List.{list_all};
+ghost use Rattle.bell_codes.specs.Codes.{code_text};
 ghost use Rattle.rail_text.specs.Words.{is_name};
 ghost use Rattle.line_law.specs.Known.{is_code_no};
 ghost use Rattle.line_plan.specs.Plans.{is_train};
@@ -10,12 +11,12 @@ ghost use Rattle.script_text.specs.Names.{code_named, code_no_text, place_named,
 ghost use Rattle.script_text.specs.Names.{position_text, train_named, train_text, way_named, way_text};
 ghost use Rattle.script_text.specs.Replies.{is_place};
 
+use crate::numbers::put_number;
 use bell_codes::{CodeNo, read_code};
 use block_words::{Position, Way};
 use line_plan::Plan;
 use rail_text::{Names, name_in};
 use std::alloc::AllocError;
-use std::fmt::Write;
 
 /// The way that a word names.
 pub fn way_named(word: &[u8]) -> Option<Way>
@@ -125,13 +126,28 @@ pub fn train_word(plan: &Plan, train: u32) -> &str
     plan.train(train).name.as_str()
 }
 
+// The groups of a code, each in decimal, with `-` between each two.
+#[tactic(auto, unfolding(bell_codes::specs::Codes::code_text))]
+fn put_groups(out: &mut String, groups: &[u8]) -> Result<(), AllocError>
+    ensures { OnOk result (string_bytes out.new ≡ string_bytes out.old ++ code_text groups.now) }
+{
+    if let [first, rest @ ..] = groups {
+        put_number(out, u64::from(*first))?;
+        for beats in rest {
+            out.push('-')?;
+            put_number(out, u64::from(*beats))?;
+        }
+    }
+    Ok(())
+}
+
 /// Puts a code of the plan's code table behind a text.
 pub fn put_code(out: &mut String, plan: &Plan, code: CodeNo) -> Result<(), AllocError>
     requires { IsTrue (is_code_no plan.now code) }
     ensures { OnOk result (string_bytes out.new ≡ string_bytes out.old ++ code_no_text plan.now.codes code) }
 {
     let code = plan.codes.code(code);
-    write!(out, "{code}")
+    put_groups(out, code.groups())
 }
 
 /// Puts a word and a number behind a text.
@@ -139,7 +155,8 @@ pub fn put_small(out: &mut String, word: &str, number: u32) -> Result<(), AllocE
     ensures { OnOk result (string_bytes out.new ≡ string_bytes out.old ++ (word.now ++ 32 ∷ decimal number)) }
 {
     out.push_str(word)?;
-    write!(out, " {number}")
+    out.push(' ')?;
+    put_number(out, u64::from(number))
 }
 
 /// Puts a word and a way behind a text.
@@ -147,7 +164,7 @@ pub fn put_way(out: &mut String, word: &str, way: Way) -> Result<(), AllocError>
     ensures { OnOk result (string_bytes out.new ≡ string_bytes out.old ++ (word.now ++ 32 ∷ way_text way)) }
 {
     out.push_str(word)?;
-    out.push_str(" ")?;
+    out.push(' ')?;
     out.push_str(way_word(way))
 }
 
@@ -158,6 +175,6 @@ pub fn put_train(out: &mut String, plan: &Plan, word: &str, train: u32) -> Resul
         ≡ string_bytes out.old ++ (word.now ++ 32 ∷ train_text plan.now train)) }
 {
     out.push_str(word)?;
-    out.push_str(" ")?;
+    out.push(' ')?;
     out.push_str(train_word(plan, train))
 }

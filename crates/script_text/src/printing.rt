@@ -21,7 +21,7 @@ fn put_calls(out: &mut String, plan: &Plan, box_no: u32, calls: &[Call]) -> Resu
 {
     for call in calls {
         put_call(out, plan, box_no, call)?;
-        out.push_str("\n")?;
+        out.push('\n')?;
     }
     Ok(())
 }
@@ -36,7 +36,7 @@ pub fn print_script(alloc: Global, plan: &Plan, script: &Script) -> Result<Vec<u
     let mut out = String::new(alloc);
     out.push_str("script ")?;
     out.push_str(plan.box_name(script.box_no))?;
-    out.push_str("\n")?;
+    out.push('\n')?;
     put_calls(&mut out, plan, script.box_no, script.calls.as_slice())?;
     out.push_str("end\n")?;
     Ok(out.into_bytes())

@@ -12,13 +12,13 @@ use crate::moments::put_moment;
 use crate::names::{
     place_word, position_word, put_code, put_small, put_train, put_way, train_word,
 };
+use crate::numbers::put_number;
 use bell_codes::CodeNo;
 use block_words::{Position, Way, WelwynState};
 use line_law::Reply;
 use line_plan::Plan;
 use rail_text::NoMemory;
 use std::alloc::{AllocError, Global};
-use std::fmt::Write;
 
 fn state_word(state: WelwynState) -> &'static str
     ensures { result.now ≡ state_text state }
@@ -48,7 +48,8 @@ fn put_count(out: &mut String, word: &str, number: u64) -> Result<(), AllocError
     ensures { OnOk result (string_bytes out.new ≡ string_bytes out.old ++ (word.now ++ 32 ∷ decimal number)) }
 {
     out.push_str(word)?;
-    write!(out, " {number}")
+    out.push(' ')?;
+    put_number(out, number)
 }
 
 // A word, a number and a train.
@@ -64,7 +65,7 @@ fn put_counted_train(
         ≡ string_bytes out.old ++ (word.now ++ 32 ∷ decimal number ++ 32 ∷ train_text plan.now train)) }
 {
     put_count(out, word, number)?;
-    out.push_str(" ")?;
+    out.push(' ')?;
     out.push_str(train_word(plan, train))
 }
 
@@ -73,7 +74,7 @@ fn put_state(out: &mut String, word: &str, state: WelwynState) -> Result<(), All
     ensures { OnOk result (string_bytes out.new ≡ string_bytes out.old ++ (word.now ++ 32 ∷ state_text state)) }
 {
     out.push_str(word)?;
-    out.push_str(" ")?;
+    out.push(' ')?;
     out.push_str(state_word(state))
 }
 
@@ -90,7 +91,7 @@ fn put_code_told(
         ≡ string_bytes out.old ++ (word.now ++ 32 ∷ decimal k ++ 32 ∷ code_no_text plan.now.codes code)) }
 {
     put_count(out, word, k)?;
-    out.push_str(" ")?;
+    out.push(' ')?;
     put_code(out, plan, code)
 }
 
@@ -99,7 +100,8 @@ fn put_position(out: &mut String, v: u64, shown: Position) -> Result<(), AllocEr
     ensures { OnOk result (string_bytes out.new
         ≡ string_bytes out.old ++ (codes "not_yet" ++ 32 ∷ decimal v ++ 32 ∷ position_text shown)) }
 {
-    write!(out, "not_yet {v} ")?;
+    put_count(out, "not_yet", v)?;
+    out.push(' ')?;
     out.push_str(position_word(shown))
 }
 
@@ -111,7 +113,10 @@ fn put_shown(out: &mut String, plan: &Plan, k: u64, shown: Option<CodeNo>) -> Re
 {
     match shown {
         Some(code) => put_code_told(out, plan, "not_yet", k, code),
-        None => write!(out, "not_yet {k} none"),
+        None => {
+            put_count(out, "not_yet", k)?;
+            out.push_str(" none")
+        }
     }
 }
 
@@ -131,7 +136,7 @@ fn put_stand(
         ++ 32 ∷ train_text plan.now train)) }
 {
     out.push_str(word)?;
-    out.push_str(" ")?;
+    out.push(' ')?;
     put_train(out, plan, place_word(plan, box_no, place), train)
 }
 
@@ -140,8 +145,8 @@ fn put_row(out: &mut String, word: &str, lever: u32, row: u32) -> Result<(), All
     ensures { OnOk result (string_bytes out.new
         ≡ string_bytes out.old ++ (word.now ++ 32 ∷ (decimal lever ++ 32 ∷ (codes "row" ++ 32 ∷ decimal row)))) }
 {
-    out.push_str(word)?;
-    write!(out, " {lever} row {row}")
+    put_small(out, word, lever)?;
+    put_small(out, " row", row)
 }
 
 // A position and whether the instrument is spent.
@@ -150,7 +155,7 @@ fn put_sight(out: &mut String, shown: Position, spent: bool) -> Result<(), Alloc
         ≡ string_bytes out.old ++ (position_text shown ++ 32 ∷ spent_text spent)) }
 {
     out.push_str(position_word(shown))?;
-    out.push_str(" ")?;
+    out.push(' ')?;
     out.push_str(spent_word(spent))
 }
 
@@ -168,7 +173,9 @@ fn put_instrument(
         ++ 32 ∷ (way_text way ++ 32 ∷ (decimal v ++ 32 ∷ (position_text shown ++ 32 ∷ spent_text spent))))) }
 {
     put_way(out, word, way)?;
-    write!(out, " {v} ")?;
+    out.push(' ')?;
+    put_number(out, v)?;
+    out.push(' ')?;
     put_sight(out, shown, spent)
 }
 
@@ -179,7 +186,7 @@ fn put_ready(out: &mut String, version: u8, word: &str, ready_at: u32) -> Result
         ≡ string_bytes out.old ++ (word.now ++ 32 ∷ moment_text version ready_at)) }
 {
     out.push_str(word)?;
-    out.push_str(" ")?;
+    out.push(' ')?;
     put_moment(out, version, ready_at)
 }
 

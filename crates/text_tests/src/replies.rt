@@ -6,10 +6,10 @@ use block_words::{Way, WelwynState};
 use line_law::{Act, Call, Entry, Reply};
 use line_plan::Plan;
 use plan_text::read_plan;
-use rail_text::{Cause, NoMemory};
+use rail_text::{Cause, LineWords, NoMemory};
 use script_text::{
-    is_spelled, is_spelled_reply, may_answer, print_reply, put_told, read_call, read_reply,
-    way_word,
+    is_spelled, is_spelled_reply, may_answer, print_reply, put_number, put_told, read_call,
+    read_reply, reply_in, way_word,
 };
 use std::alloc::{AllocError, Global};
 use std::process::Abort;
@@ -83,7 +83,12 @@ fn told_of(plan: &Plan, call: &str, text: &str) -> Result<(Act, Reply), Cause> {
     }
     let call = read_call(plan, 1, call.as_bytes())?;
     let reply = read_reply(plan, 1, &call, text.as_bytes())?;
-    Ok((call.act, reply))
+    let by_words = reply_in(plan, 1, call.act, &LineWords::new(text.as_bytes()))?;
+    if by_words == reply {
+        Ok((call.act, reply))
+    } else {
+        Err(Cause::BadReply)
+    }
 }
 
 // Whether a reply of Beech shows itself so, and is printed as this text.
@@ -308,5 +313,20 @@ fn entries_on_a_line_of_names(rt: HostRuntime) -> Result<(), Fail> {
     all_hold(&rt, &calls);
     all_hold(&rt, &codes);
     assert!(rt; stands_behind?);
+    Ok(())
+}
+
+#[test]
+fn numbers_are_put(rt: HostRuntime) -> Result<(), Fail> {
+    let mut text = String::new(rt.alloc());
+    put_number(&mut text, 7)?;
+    text.push(' ')?;
+    put_number(&mut text, 10)?;
+    text.push(' ')?;
+    put_number(&mut text, u64::MAX)?;
+    all_hold(
+        &rt,
+        &[("three numbers", text.as_str() == "7 10 18446744073709551615")],
+    );
     Ok(())
 }

@@ -12,9 +12,8 @@ use crate::register::Register;
 use line_law::Entry;
 use line_plan::Plan;
 use rail_text::NoMemory;
-use script_text::{put_text, put_told};
+use script_text::{put_number, put_text, put_told};
 use std::alloc::{AllocError, Global};
-use std::fmt::Write;
 
 // Puts an entry's line behind a text: its number, the moment and the call, `->` and the reply.
 #[tactic(auto, unfolding(crate::specs::Registers::told_line))]
@@ -22,9 +21,10 @@ fn put_line(out: &mut String, plan: &Plan, number: usize, entry: &Entry) -> Resu
     requires { IsSpelled plan.now entry.now }
     ensures { OnOk result (string_bytes out.new ≡ string_bytes out.old ++ told_line plan.now number entry.now) }
 {
-    write!(out, "{number} ")?;
+    put_number(out, number as u64)?;
+    out.push(' ')?;
     put_told(out, plan, entry)?;
-    out.push_str("\n")
+    out.push('\n')
 }
 
 // The lines of all entries, numbered from 1.
@@ -50,7 +50,9 @@ fn put_register(out: &mut String, plan: &Plan, register: &Register) -> Result<()
     let count = entries.len();
     out.push_str("register ")?;
     out.push_str(plan.box_name(register.box_no()))?;
-    write!(out, " {count}\n")?;
+    out.push(' ')?;
+    put_number(out, count as u64)?;
+    out.push('\n')?;
     put_lines(out, plan, entries)
 }
 
