@@ -19,3 +19,4 @@ pub mod Firsts
 pub mod InOrder
 pub mod Answering
 pub mod Tallies
+pub mod Levers

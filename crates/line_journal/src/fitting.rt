@@ -4,8 +4,6 @@ ghost use Rattle.std.specs.Prelude.{◌≡◌, ◌+◌, ◌<◌, length, slice_i
 ghost use Rattle.word_laws.specs.Footprint.{way_at};
 ghost use Rattle.line_law.specs.Instruments.{same_position};
 ghost use Rattle.word_laws.specs.TellsWord.{kind_told};
-ghost use Rattle.line_law.specs.Law.{box_plan_of, link_of};
-ghost use Rattle.line_law.specs.Levers.{lever_link};
 ghost use Rattle.line_law.specs.Ways.{of_way};
 ghost use Rattle.line_journal.specs.Fits.{bell_made, block_made, code_of, plain_line_made, position_of, word_made};
 ghost use Rattle.line_journal.specs.Halves.{found_at, made, pair_for};
@@ -24,8 +22,8 @@ ghost use Rattle.line_journal.specs.FitTests.{
 
 use bell_codes::CodeNo;
 use block_words::{Position, Way};
-use line_law::{Act, Bell, Block, Entry, Link, PairState, Passage, PlainLine, Reply, starter_way};
-use line_plan::{BoxPlan, Plan};
+use line_law::{Act, Bell, Block, Entry, PairState, Passage, PlainLine, Reply};
+use line_plan::Plan;
 
 // Whether one number is the next after another.
 fn is_next(number: u64, next: u64) -> bool
@@ -295,64 +293,24 @@ fn make_word(pair: &mut PairState, way: Way, entry: &Entry)
     }
 }
 
-// The line of a lever: a starter's outgoing line, and another's some line all the same.
-fn lever_line(plan: &BoxPlan, lever: u32) -> Link
-    ensures { result ≡ lever_link plan.now lever }
-{
-    match starter_way(plan.signal(lever)) {
-        Some(way) => Link::Out(way),
-        None => Link::In(Way::Down),
-    }
-}
-
-/// The line on which an entry's call may be decided, as the law tells it of the call. The entry is read where it
-/// stands.
-pub fn line_of(plan: &Plan, entry: &Entry) -> Link
-    requires { entry.now.box_no < length plan.now.boxes }
-    ensures { result ≡ link_of (box_plan_of plan.now entry.now.box_no) entry.now.call.act }
-{
-    match entry.call.act {
-        Act::Ring { side, code: _ } => Link::Out(side),
-        Act::Hear { side } | Act::AwaitBell { side, code: _ } => Link::In(side.opposite()),
-        Act::AwaitBlock { way, position: _ } => Link::Out(way),
-        Act::Pull { lever } | Act::Pass { lever } | Act::Overrun { lever } => {
-            lever_line(&plan.boxes.as_slice()[entry.box_no as usize], lever)
-        }
-        Act::Put { lever: _ } | Act::Bring { train: _ } => Link::In(Way::Down),
-        Act::Turn { way, position: _ }
-        | Act::AwaitTrain { way }
-        | Act::Berth { way }
-        | Act::BerthPart { way }
-        | Act::ClearPortion { way }
-        | Act::Wind { way }
-        | Act::Release { way } => Link::In(way),
-    }
-}
-
-/// Whether an entry fits its word in the pairs of a line.
-pub fn fits(plan: &Plan, pairs: &[PairState], line: Link, entry: &Entry) -> bool
-    requires line { line ≡ link_of (box_plan_of plan.now entry.now.box_no) entry.now.call.act }
-    requires pair { pair_for plan.now entry.now < length pairs.now }
+/// Whether an entry fits its word in the pairs of a line: that of this pair and way.
+pub fn fits(plan: &Plan, pairs: &[PairState], pair: usize, way: Way, entry: &Entry) -> bool
+    requires pair { pair ≡ pair_for plan.now entry.now }
+    requires way { way ≡ way_at plan.now entry.now.box_no entry.now.call }
+    requires within { pair < length pairs.now }
     ensures { result ≡ fits_here plan.now pairs.now entry.now }
 {
-    fits_word(
-        &pairs[line.pair_no(entry.box_no as usize)],
-        line.way(),
-        entry,
-    )
+    fits_word(&pairs[pair], way, entry)
 }
 
-/// Makes of an entry's word what its reply says.
-pub fn make(plan: &Plan, pairs: &mut [PairState], line: Link, entry: &Entry)
-    requires line { line ≡ link_of (box_plan_of plan.now entry.now.box_no) entry.now.call.act }
-    requires pair { pair_for plan.now entry.now < length pairs.old }
+/// Makes of an entry's word, that of this pair and way, what its reply says.
+pub fn make(plan: &Plan, pairs: &mut [PairState], pair: usize, way: Way, entry: &Entry)
+    requires pair { pair ≡ pair_for plan.now entry.now }
+    requires way { way ≡ way_at plan.now entry.now.box_no entry.now.call }
+    requires within { pair < length pairs.old }
     requires space { HasSpace entry.now.reply (of_way (found_at pairs.old (pair_for plan.now entry.now)).lines
         (way_at plan.now entry.now.box_no entry.now.call)) }
     ensures { pairs.new ≡ made plan.now pairs.old entry.now }
 {
-    make_word(
-        &mut pairs[line.pair_no(entry.box_no as usize)],
-        line.way(),
-        entry,
-    );
+    make_word(&mut pairs[pair], way, entry);
 }

@@ -5,8 +5,6 @@ ghost use Rattle.std.specs.Prelude.{IsTrue, All, false, length, option_copied, s
 ghost use Rattle.std.specs.Prelude.{slice_set, take};
 ghost use Rattle.std.specs.List.{find};
 ghost use Rattle.word_laws.specs.Footprint.{way_at};
-ghost use Rattle.line_law.specs.Law.{link_of, box_plan_of};
-ghost use Rattle.line_law.specs.Links.{pair_no, way_of as line_way};
 ghost use Rattle.line_law.specs.Replies.{way_number};
 ghost use Rattle.line_journal.specs.Keepers.{
   AreFirsts,
@@ -18,6 +16,7 @@ ghost use Rattle.line_journal.specs.Keepers.{
   keeper_no,
   keeper_slot,
   kept_by,
+  kept_slot,
   other_box,
   slots,
 };
@@ -27,8 +26,9 @@ ghost use Rattle.line_journal.specs.Order.{Each, list_at};
 
 use crate::keeping::keeps_back;
 use crate::left::{Left, behind};
+use crate::lines::word_of;
 use block_words::Way;
-use line_law::{Entry, Link, Reply, link_of};
+use line_law::{Entry, Reply};
 use line_plan::Plan;
 
 // How many numbers of keepers there are.
@@ -80,8 +80,7 @@ fn way_of(plan: &Plan, entry: &Entry) -> usize
     requires { entry.now.box_no < length plan.now.boxes }
     ensures { result ≡ way_number (way_at plan.now entry.now.box_no entry.now.call) }
 {
-    let box_plan = &plan.boxes.as_slice()[entry.box_no as usize];
-    way_number(link_of(box_plan, entry.call.act).way())
+    way_number(word_of(plan, entry).1)
 }
 
 // The number of an entry as one that may keep others back.
@@ -93,12 +92,12 @@ fn keeper_slot(plan: &Plan, entry: &Entry) -> usize
     2 * keeper_no(entry) + way_of(plan, entry)
 }
 
-// The number of the entries that may keep back one that is on this line.
-fn kept_slot(entry: &Entry, line: Link) -> usize
-    ensures value { result ≡ 2 * kept_by entry.now.reply + way_number (line_way line) }
+// The number of the entries that may keep back one that is on a word of this way.
+fn kept_slot(entry: &Entry, way: Way) -> usize
+    ensures value { result ≡ 2 * kept_by entry.now.reply + way_number way }
     ensures few { result < slots }
 {
-    2 * kept_by(entry) + way_number(line.way())
+    2 * kept_by(entry) + way_number(way)
 }
 
 // Whether an entry has the number. The kind of its reply is asked first, since few replies are of a kind that does.
@@ -134,7 +133,7 @@ fn entry_at(entries: &[Entry], at: usize) -> Option<&Entry>
 }
 
 // The first of these entries that has the number. It is sought from where so many are left, and then told how many are
-// left there: where none is, none has the number.
+// left there.
 #[tactic(auto, using(crate::proofs::Found::find_skip, crate::proofs::Found::skips_on))]
 fn first_of<'a>(
     plan: &Plan,
@@ -147,9 +146,6 @@ fn first_of<'a>(
     ensures skips { Skips plan.now slot entries.now rest.new }
     ensures found { option_copied result ≡ find (λ x. keeper_slot plan.now x == slot) entries.now }
 {
-    if *rest == 0 {
-        return None;
-    }
     let left = behind(entries, entries.len().saturating_sub(*rest));
     let at = seek(plan, left, slot);
     *rest = left.len() - at;
@@ -180,17 +176,18 @@ fn first_in<'a>(
     )
 }
 
-// Whether the first of a box's remaining entries that may keep an entry back lets it pass.
+// Whether the first of a box's remaining entries that may keep an entry back, those of this number, lets it pass.
 fn lets_pass(
     plan: &Plan,
     left: &Left<'_>,
     rests: &mut [usize],
     other: usize,
-    line: Link,
+    slot: usize,
     entry: &Entry,
 ) -> bool
     requires other { other < length left.now }
-    requires line { line ≡ link_of (box_plan_of plan.now entry.now.box_no) entry.now.call.act }
+    requires slot { slot ≡ kept_slot plan.now entry.now }
+    requires few { slot < slots }
     requires entry { entry.now.box_no < length plan.now.boxes }
     requires boxes { AreOfBoxes plan.now left.now }
     requires rests { AreRests plan.now left.now rests.old }
@@ -198,7 +195,6 @@ fn lets_pass(
     ensures passes { IsTrue result
         ↔ LetsPass plan.now entry.now (first_keeper plan.now entry.now (list_at left.now other)) }
 {
-    let slot = kept_slot(entry, line);
     match first_in(plan, left, rests, other, slot) {
         Some(keeper) => !keeps_back(plan, entry, keeper),
         None => true,
@@ -224,28 +220,30 @@ pub fn firsts_of(plan: &Plan, entries: &[Entry]) -> [usize; SLOTS]
     firsts
 }
 
-// The other box of the pair of a line.
-fn other_box(here: usize, line: Link) -> usize
+// The other box of a pair.
+fn other_box(here: usize, pair: usize) -> usize
     requires { here < 2 ^ 32 }
-    ensures { result ≡ other_box here (pair_no here line) }
+    ensures { result ≡ other_box here pair }
 {
-    let pair = line.pair_no(here);
     if pair < here { pair } else { here + 1 }
 }
 
-/// Whether the first keepers of both neighbours of a box let its entry pass. Most replies are kept back by none, and
-/// the others by entries of the one neighbour alone that shares their word.
+/// Whether the first keepers of both neighbours of a box let its entry pass, whose word is that of this pair and way.
+/// Most replies are kept back by none, and the others by entries of the one neighbour alone that shares their word; and
+/// most often none of these is left.
 pub fn is_passed(
     plan: &Plan,
     left: &Left<'_>,
     rests: &mut [usize],
     box_no: usize,
-    line: Link,
+    pair: usize,
+    way: Way,
     entry: &Entry,
 ) -> bool
     requires box_no { box_no < length left.now }
     requires own { entry.now.box_no ≡ box_no }
-    requires line { line ≡ link_of (box_plan_of plan.now entry.now.box_no) entry.now.call.act }
+    requires pair { pair ≡ pair_for plan.now entry.now }
+    requires way { way ≡ way_at plan.now entry.now.box_no entry.now.call }
     requires entry { entry.now.box_no < length plan.now.boxes }
     requires boxes { AreOfBoxes plan.now left.now }
     requires rests { AreRests plan.now left.now rests.old }
@@ -255,9 +253,13 @@ pub fn is_passed(
     if kept_by(entry) == 0 {
         return true;
     }
-    let other = other_box(entry.box_no as usize, line);
+    let other = other_box(entry.box_no as usize, pair);
     if other >= left.boxes() {
         return true;
     }
-    lets_pass(plan, left, rests, other, line, entry)
+    let slot = kept_slot(entry, way);
+    if rests[SLOTS * other + slot] == 0 {
+        return true;
+    }
+    lets_pass(plan, left, rests, other, slot, entry)
 }

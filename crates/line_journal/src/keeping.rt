@@ -6,8 +6,9 @@ ghost use Rattle.line_plan.specs.Frames.{same_way};
 ghost use Rattle.line_journal.specs.Order.{kept_back, keeps_back};
 ghost use Rattle.line_journal.specs.Halves.{pair_for};
 
+use crate::lines::word_of;
 use block_words::Way;
-use line_law::{Entry, Reply, link_of};
+use line_law::{Entry, Reply};
 use line_plan::Plan;
 
 // Whether an entry with the first reply is kept back by one of the other box on its word with the second.
@@ -53,11 +54,9 @@ fn is_on_one_line(plan: &Plan, entry: &Entry, other: &Entry) -> bool
         && same_way (way_at plan.now entry.now.box_no entry.now.call)
         (way_at plan.now other.now.box_no other.now.call) }
 {
-    let here = entry.box_no as usize;
-    let there = other.box_no as usize;
-    let link = link_of(&plan.boxes.as_slice()[here], entry.call.act);
-    let other_link = link_of(&plan.boxes.as_slice()[there], other.call.act);
-    link.pair_no(here) == other_link.pair_no(there) && same_way(link.way(), other_link.way())
+    let (pair, way) = word_of(plan, entry);
+    let (other_pair, other_way) = word_of(plan, other);
+    pair == other_pair && same_way(way, other_way)
 }
 
 /// Whether an entry is kept back by one of another box that remains. The replies are asked first, which seldom do.

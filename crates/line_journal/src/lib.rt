@@ -6,6 +6,7 @@ mod keepers;
 mod keeping;
 mod laws;
 mod left;
+mod lines;
 mod merging;
 
 pub use laws::{exchange_law, order_law, parts_law, reply_law};

@@ -5,21 +5,22 @@ ghost use Rattle.std.specs.Prelude.{List, IfOk, IsTrue, All, true, false, drop, 
 ghost use Rattle.std.specs.Prelude.{option_copied};
 ghost use Rattle.line_law.specs.declared.call.Entry.{Entry};
 ghost use Rattle.line_law.specs.History.{IsLegal};
-ghost use Rattle.line_law.specs.Law.{box_plan_of, link_of};
-ghost use Rattle.line_law.specs.Links.{pair_no};
 ghost use Rattle.line_law.specs.States.{opening_pair};
 ghost use Rattle.train_register.specs.Registers.{AreParts};
+ghost use Rattle.word_laws.specs.Footprint.{way_at};
 ghost use Rattle.line_journal.specs.Keepers.{AreRests, IsFirstAwake, IsOpen, IsPlaced, NoneAsleepOpen, NoneOpenBelow};
 ghost use Rattle.line_journal.specs.Keepers.{opens_from, pair_woken, woken};
 ghost use Rattle.line_journal.specs.Lists.{AreOfBoxes, HasSpaceFor, HaveEnded};
 ghost use Rattle.line_journal.specs.Merging.{KeepsMerging};
 ghost use Rattle.line_journal.specs.Order.{IsInOrder, IsOrder, list_at};
-ghost use Rattle.line_journal.specs.Halves.{made};
+ghost use Rattle.line_journal.specs.Halves.{made, pair_for};
 
-use crate::fitting::{fits, is_on_word, line_of, make};
+use crate::fitting::{fits, is_on_word, make};
 use crate::keepers::{firsts_of, is_passed};
 use crate::left::Left;
-use line_law::{Entry, Journal, Link, PairState};
+use crate::lines::word_of;
+use block_words::Way;
+use line_law::{Entry, Journal, PairState};
 use line_plan::{Items, Plan};
 use rail_text::NoMemory;
 use std::alloc::Global;
@@ -37,40 +38,39 @@ fn next_awake(awake: &[bool], from: usize) -> Option<usize>
     None
 }
 
-// Whether the next entry of a box, which was decided on a word, fits that, and the first keepers of both neighbours let
-// it pass.
+// Whether the next entry of a box, which was decided on the word of this pair and way, fits that, and the first keepers
+// of both neighbours let it pass.
 fn is_open(
     plan: &Plan,
     pairs: &[PairState],
     left: &Left<'_>,
     rests: &mut [usize],
     box_no: usize,
-    line: Link,
+    pair: usize,
+    way: Way,
     entry: &Entry,
 ) -> bool
     requires box_no { box_no < length left.now }
     requires own { entry.now.box_no ≡ box_no }
     requires next { list_at left.now box_no ≡ entry.now ∷ drop 1 (list_at left.now box_no) }
-    requires line { line ≡ link_of (box_plan_of plan.now entry.now.box_no) entry.now.call.act }
+    requires pair { pair ≡ pair_for plan.now entry.now }
+    requires way { way ≡ way_at plan.now entry.now.box_no entry.now.call }
     requires pairs { length pairs.now ≡ length plan.now.boxes - 1 }
     requires boxes { AreOfBoxes plan.now left.now }
     requires rests { AreRests plan.now left.now rests.old }
     ensures rests { AreRests plan.now left.now rests.new }
     ensures opens { IsTrue result ↔ IsOpen plan.now pairs.now left.now box_no }
 {
-    fits(plan, pairs, line, entry) && is_passed(plan, left, rests, box_no, line, entry)
+    fits(plan, pairs, pair, way, entry) && is_passed(plan, left, rests, box_no, pair, way, entry)
 }
 
-// Wakes both boxes of the pair of a line on which an entry is placed: it may have opened them. Tells the lower one.
-fn wake(awake: &mut [bool], box_no: usize, line: Link) -> usize
-    requires { pair_no box_no line + 1 < length awake.old }
-    ensures pair { result ≡ pair_no box_no line }
-    ensures awake { awake.new ≡ pair_woken (pair_no box_no line) awake.old }
+// Wakes both boxes of a pair on which an entry is placed: it may have opened them.
+fn wake(awake: &mut [bool], pair: usize)
+    requires { pair + 1 < length awake.old }
+    ensures { awake.new ≡ pair_woken pair awake.old }
 {
-    let pair = line.pair_no(box_no);
     awake[pair] = true;
     awake[pair + 1] = true;
-    pair
 }
 
 // Whether the next entry of a box is open. If it is, makes of its word what it says, wakes the boxes that it may open,
@@ -103,12 +103,13 @@ fn answer(
         *from = box_no;
         return true;
     }
-    let line = line_of(plan, entry);
-    if !is_open(plan, pairs, left, rests, box_no, line, entry) {
+    let (pair, way) = word_of(plan, entry);
+    if !is_open(plan, pairs, left, rests, box_no, pair, way, entry) {
         return false;
     }
-    make(plan, pairs, line, entry);
-    *from = wake(awake, box_no, line);
+    make(plan, pairs, pair, way, entry);
+    wake(awake, pair);
+    *from = pair;
     true
 }
 

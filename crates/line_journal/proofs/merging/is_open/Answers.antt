@@ -2,11 +2,11 @@ use Rattle.std.proofs.Common.{arith}
 use Rattle.line_journal.proofs.Looping.{own_box}
 use Rattle.line_journal.proofs.merging.is_open.Goals as goal
 
-pub fits-requires-clause-pair : goal.fits-requires-clause-pair
-fits-requires-clause-pair c =
+pub fits-requires-clause-within : goal.fits-requires-clause-within
+fits-requires-clause-within c =
     let own =
     own_box c.args.plan.now c.args.left.now c.args.box_no c.args.entry.now _ c.requires.boxes c.requires.next in
-    omega (arith, own.pair, c.requires.pairs)
+    omega (arith, own.pair, c.requires.pairs, c.requires.pair)
 
 pub is_passed-requires-clause-entry : goal.is_passed-requires-clause-entry
 is_passed-requires-clause-entry c =
