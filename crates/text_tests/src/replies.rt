@@ -326,7 +326,10 @@ fn numbers_are_put(rt: HostRuntime) -> Result<(), Fail> {
     put_number(&mut text, u64::MAX)?;
     all_hold(
         &rt,
-        &[("three numbers", text.as_str() == "7 10 18446744073709551615")],
+        &[(
+            "three numbers",
+            text.as_str() == "7 10 18446744073709551615",
+        )],
     );
     Ok(())
 }
