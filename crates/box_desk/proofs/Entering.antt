@@ -45,7 +45,7 @@ module _ (here left : BoxState) (way : Way) (train : ℕ) (line : List Passage)
 
   -- an empty lane: the train enters
   pub entered_told : lane (plain_line_number line) (of_way here.sent way + 1) ≡ 0
-      → IsTold (List Passage) (enter here left way train line) (Entered (of_way here.sent way + 1) train)
+      → IsTold (List Passage) (enter here left way train line) (Entered train (of_way here.sent way + 1))
       (record left { sent = with_way left.sent way (of_way here.sent way + 1) })
   entered_told none = told_is _ _ (if_false (holds line (of_way here.sent way + 1)) _ _ (free none))
 
@@ -71,14 +71,14 @@ pub entered_by_word : (here left : BoxState) (way : Way) (train : ℕ) (line : L
     (after : BoxState) (sent : ByWay ℕ) (stands : Option ℕ) → PlainLineAgrees (Out way) here line
     → plain_line_number line ≡ word → k ≡ of_way here.sent way → taken ≡ lane word (k + 1) → taken ≡ 0
     → stands ≡ Some train → stands ≡ Some gone → after ≡ left → sent ≡ with_way after.sent way (k + 1)
-    → IsTold (List Passage) (enter here left way train line) (Entered (k + 1) gone) (record after { sent = sent })
+    → IsTold (List Passage) (enter here left way train line) (Entered gone (k + 1)) (record after { sent = sent })
 entered_by_word here left way train line k word taken gone after sent stands agrees packs is read none one other went
     made =
     let same : train ≡ gone = some_same train gone (sym one ∙ other) in
     let told = entered_told here left way train line agrees (found k word here way line taken packs is read ∙ none) in
     record {
-      reply_is = told.reply_is ∙ ap (λ (n : ℕ). Entered (n + 1) train) (sym is)
-          ∙ ap (λ (t : ℕ). Entered (k + 1) t) same;
+      reply_is = told.reply_is ∙ ap (λ (n : ℕ). Entered train (n + 1)) (sym is)
+          ∙ ap (λ (t : ℕ). Entered t (k + 1)) same;
       here_is = told.here_is
           ∙ ap (λ (n : ℕ). record left { sent = with_way left.sent way (n + 1) }) (sym is)
           ∙ ap (λ (b : BoxState). record b { sent = with_way b.sent way (k + 1) }) (sym went)

@@ -12,8 +12,8 @@ ShowsPosition act word = Unit {0}
 
 -- a reply that tells that a call didn't find what it looked for, or a train no room
 abbrev pub fell_short : Reply → Bool
-fell_short (BellNotYet k shown) = true
-fell_short (BlockNotYet v shown) = true
+fell_short (BellNotYet shown k) = true
+fell_short (BlockNotYet shown v) = true
 fell_short (TrainNotYet j) = true
 fell_short (SectionFull k) = true
 fell_short reply = false

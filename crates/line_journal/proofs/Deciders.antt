@@ -51,11 +51,11 @@ use Rattle.line_journal.proofs.Settled.{keeping, one_kind}
 -- an entry is kept back by one of its kind that tells such a count
 abbrev Test : Reply → ℕ → Type 0
 Test (Rung k) n = n + 1 ≡ k
-Test (Heard k code) n = n ≡ k
+Test (Heard code k) n = n ≡ k
 Test (Turned v) n = n < v
-Test (Entered k train) n = n + 1 ≡ k
-Test (Berthed j train) n = n ≡ j + 3
-Test (Cleared j train) n = n ≡ j + 3
+Test (Entered train k) n = n + 1 ≡ k
+Test (Berthed train j) n = n ≡ j + 3
+Test (Cleared train j) n = n ≡ j + 3
 Test reply n = ⊥
 
 -- trains are numbered from 1
@@ -67,37 +67,37 @@ IsCounted reply = Unit {0}
 rung_told : (k : ℕ) (q : Reply) → IsCounted q → kept_back (Rung k) q ≡ true
     → (keeper_no q ≡ kept_by (Rung k)) × Test (Rung k) (count_before q)
 rung_told k (Silent n) at kept = (refl, omega (arith, eqb-true (n + 1) k kept))
-rung_told k (BellNotYet n shown) at kept = (refl, omega (arith, eqb-true (n + 1) k kept))
+rung_told k (BellNotYet shown n) at kept = (refl, omega (arith, eqb-true (n + 1) k kept))
 rung_told k q at kept = absurd cc
 
 rung_kept : (k : ℕ) (q : Reply) → IsCounted q → keeper_no q ≡ kept_by (Rung k) → Test (Rung k) (count_before q)
     → kept_back (Rung k) q ≡ true
 rung_kept k (Silent n) at is test = eq-eqb (n + 1) k test
-rung_kept k (BellNotYet n shown) at is test = eq-eqb (n + 1) k test
-rung_kept k (BellBusy n held) at is test = absurd (omega (arith, is))
+rung_kept k (BellNotYet shown n) at is test = eq-eqb (n + 1) k test
+rung_kept k (BellBusy held n) at is test = absurd (omega (arith, is))
 rung_kept k (PulledUnder n) at is test = absurd (omega (arith, is))
-rung_kept k (HeldByInstrument way n shown spent) at is test = absurd (omega (arith, is))
+rung_kept k (HeldByInstrument way shown spent n) at is test = absurd (omega (arith, is))
 rung_kept k (Seen n) at is test = absurd (omega (arith, is))
-rung_kept k (BlockNotYet n shown) at is test = absurd (omega (arith, is))
+rung_kept k (BlockNotYet shown n) at is test = absurd (omega (arith, is))
 rung_kept k (SectionFull n) at is test = absurd (omega (arith, is))
 rung_kept k (NoTrainAt n) at is test = absurd (omega (arith, is))
 rung_kept k (TrainNotYet n) at is test = absurd (omega (arith, is))
 rung_kept k q at is test = absurd (omega (arith, is))
 
-heard_told : (k : ℕ) (code : ℕ) (q : Reply) → IsCounted q → kept_back (Heard k code) q ≡ true
-    → (keeper_no q ≡ kept_by (Heard k code)) × Test (Heard k code) (count_before q)
-heard_told k code (BellBusy n held) at kept = (refl, eqb-true n k kept)
+heard_told : (k : ℕ) (code : ℕ) (q : Reply) → IsCounted q → kept_back (Heard code k) q ≡ true
+    → (keeper_no q ≡ kept_by (Heard code k)) × Test (Heard code k) (count_before q)
+heard_told k code (BellBusy held n) at kept = (refl, eqb-true n k kept)
 heard_told k code q at kept = absurd cc
 
-heard_kept : (k : ℕ) (code : ℕ) (q : Reply) → IsCounted q → keeper_no q ≡ kept_by (Heard k code)
-    → Test (Heard k code) (count_before q) → kept_back (Heard k code) q ≡ true
-heard_kept k code (BellBusy n held) at is test = eq-eqb n k test
+heard_kept : (k : ℕ) (code : ℕ) (q : Reply) → IsCounted q → keeper_no q ≡ kept_by (Heard code k)
+    → Test (Heard code k) (count_before q) → kept_back (Heard code k) q ≡ true
+heard_kept k code (BellBusy held n) at is test = eq-eqb n k test
 heard_kept k code (Silent n) at is test = absurd (omega (arith, is))
-heard_kept k code (BellNotYet n shown) at is test = absurd (omega (arith, is))
+heard_kept k code (BellNotYet shown n) at is test = absurd (omega (arith, is))
 heard_kept k code (PulledUnder n) at is test = absurd (omega (arith, is))
-heard_kept k code (HeldByInstrument way n shown spent) at is test = absurd (omega (arith, is))
+heard_kept k code (HeldByInstrument way shown spent n) at is test = absurd (omega (arith, is))
 heard_kept k code (Seen n) at is test = absurd (omega (arith, is))
-heard_kept k code (BlockNotYet n shown) at is test = absurd (omega (arith, is))
+heard_kept k code (BlockNotYet shown n) at is test = absurd (omega (arith, is))
 heard_kept k code (SectionFull n) at is test = absurd (omega (arith, is))
 heard_kept k code (NoTrainAt n) at is test = absurd (omega (arith, is))
 heard_kept k code (TrainNotYet n) at is test = absurd (omega (arith, is))
@@ -106,117 +106,117 @@ heard_kept k code q at is test = absurd (omega (arith, is))
 turned_told : (v : ℕ) (q : Reply) → IsCounted q → kept_back (Turned v) q ≡ true
     → (keeper_no q ≡ kept_by (Turned v)) × Test (Turned v) (count_before q)
 turned_told v (PulledUnder n) at kept = (refl, ltb-true n v kept)
-turned_told v (HeldByInstrument way n shown spent) at kept = (refl, ltb-true n v kept)
+turned_told v (HeldByInstrument way shown spent n) at kept = (refl, ltb-true n v kept)
 turned_told v (Seen n) at kept = (refl, ltb-true n v kept)
-turned_told v (BlockNotYet n shown) at kept = (refl, ltb-true n v kept)
+turned_told v (BlockNotYet shown n) at kept = (refl, ltb-true n v kept)
 turned_told v q at kept = absurd cc
 
 turned_kept : (v : ℕ) (q : Reply) → IsCounted q → keeper_no q ≡ kept_by (Turned v) → Test (Turned v) (count_before q)
     → kept_back (Turned v) q ≡ true
 turned_kept v (PulledUnder n) at is test = lt-ltb n v test
-turned_kept v (HeldByInstrument way n shown spent) at is test = lt-ltb n v test
+turned_kept v (HeldByInstrument way shown spent n) at is test = lt-ltb n v test
 turned_kept v (Seen n) at is test = lt-ltb n v test
-turned_kept v (BlockNotYet n shown) at is test = lt-ltb n v test
-turned_kept v (BellBusy n held) at is test = absurd (omega (arith, is))
+turned_kept v (BlockNotYet shown n) at is test = lt-ltb n v test
+turned_kept v (BellBusy held n) at is test = absurd (omega (arith, is))
 turned_kept v (Silent n) at is test = absurd (omega (arith, is))
-turned_kept v (BellNotYet n shown) at is test = absurd (omega (arith, is))
+turned_kept v (BellNotYet shown n) at is test = absurd (omega (arith, is))
 turned_kept v (SectionFull n) at is test = absurd (omega (arith, is))
 turned_kept v (NoTrainAt n) at is test = absurd (omega (arith, is))
 turned_kept v (TrainNotYet n) at is test = absurd (omega (arith, is))
 turned_kept v q at is test = absurd (omega (arith, is))
 
-entered_told : (k : ℕ) (train : ℕ) (q : Reply) → IsCounted q → kept_back (Entered k train) q ≡ true
-    → (keeper_no q ≡ kept_by (Entered k train)) × Test (Entered k train) (count_before q)
+entered_told : (k : ℕ) (train : ℕ) (q : Reply) → IsCounted q → kept_back (Entered train k) q ≡ true
+    → (keeper_no q ≡ kept_by (Entered train k)) × Test (Entered train k) (count_before q)
 entered_told k train (NoTrainAt j) at kept = (refl, let e = eqb-true j k kept in omega (arith, e, at))
 entered_told k train (TrainNotYet j) at kept = (refl, let e = eqb-true j k kept in omega (arith, e, at))
 entered_told k train q at kept = absurd cc
 
-entered_kept : (k : ℕ) (train : ℕ) (q : Reply) → IsCounted q → keeper_no q ≡ kept_by (Entered k train)
-    → Test (Entered k train) (count_before q) → kept_back (Entered k train) q ≡ true
+entered_kept : (k : ℕ) (train : ℕ) (q : Reply) → IsCounted q → keeper_no q ≡ kept_by (Entered train k)
+    → Test (Entered train k) (count_before q) → kept_back (Entered train k) q ≡ true
 entered_kept k train (NoTrainAt j) at is test = eq-eqb j k (omega (arith, test, at))
 entered_kept k train (TrainNotYet j) at is test = eq-eqb j k (omega (arith, test, at))
-entered_kept k train (BellBusy n held) at is test = absurd (omega (arith, is))
+entered_kept k train (BellBusy held n) at is test = absurd (omega (arith, is))
 entered_kept k train (Silent n) at is test = absurd (omega (arith, is))
-entered_kept k train (BellNotYet n shown) at is test = absurd (omega (arith, is))
+entered_kept k train (BellNotYet shown n) at is test = absurd (omega (arith, is))
 entered_kept k train (PulledUnder n) at is test = absurd (omega (arith, is))
-entered_kept k train (HeldByInstrument way n shown spent) at is test = absurd (omega (arith, is))
+entered_kept k train (HeldByInstrument way shown spent n) at is test = absurd (omega (arith, is))
 entered_kept k train (Seen n) at is test = absurd (omega (arith, is))
-entered_kept k train (BlockNotYet n shown) at is test = absurd (omega (arith, is))
+entered_kept k train (BlockNotYet shown n) at is test = absurd (omega (arith, is))
 entered_kept k train (SectionFull n) at is test = absurd (omega (arith, is))
 entered_kept k train q at is test = absurd (omega (arith, is))
 
-berthed_told : (j : ℕ) (train : ℕ) (q : Reply) → IsCounted q → kept_back (Berthed j train) q ≡ true
-    → (keeper_no q ≡ kept_by (Berthed j train)) × Test (Berthed j train) (count_before q)
+berthed_told : (j : ℕ) (train : ℕ) (q : Reply) → IsCounted q → kept_back (Berthed train j) q ≡ true
+    → (keeper_no q ≡ kept_by (Berthed train j)) × Test (Berthed train j) (count_before q)
 berthed_told j train (SectionFull k) at kept = (refl, let e = eqb-true k (j + 4) kept in omega (arith, e))
 berthed_told j train q at kept = absurd cc
 
-berthed_kept : (j : ℕ) (train : ℕ) (q : Reply) → IsCounted q → keeper_no q ≡ kept_by (Berthed j train)
-    → Test (Berthed j train) (count_before q) → kept_back (Berthed j train) q ≡ true
+berthed_kept : (j : ℕ) (train : ℕ) (q : Reply) → IsCounted q → keeper_no q ≡ kept_by (Berthed train j)
+    → Test (Berthed train j) (count_before q) → kept_back (Berthed train j) q ≡ true
 berthed_kept j train (SectionFull k) at is test = eq-eqb k (j + 4) (omega (arith, test))
-berthed_kept j train (BellBusy n held) at is test = absurd (omega (arith, is))
+berthed_kept j train (BellBusy held n) at is test = absurd (omega (arith, is))
 berthed_kept j train (Silent n) at is test = absurd (omega (arith, is))
-berthed_kept j train (BellNotYet n shown) at is test = absurd (omega (arith, is))
+berthed_kept j train (BellNotYet shown n) at is test = absurd (omega (arith, is))
 berthed_kept j train (PulledUnder n) at is test = absurd (omega (arith, is))
-berthed_kept j train (HeldByInstrument way n shown spent) at is test = absurd (omega (arith, is))
+berthed_kept j train (HeldByInstrument way shown spent n) at is test = absurd (omega (arith, is))
 berthed_kept j train (Seen n) at is test = absurd (omega (arith, is))
-berthed_kept j train (BlockNotYet n shown) at is test = absurd (omega (arith, is))
+berthed_kept j train (BlockNotYet shown n) at is test = absurd (omega (arith, is))
 berthed_kept j train (NoTrainAt n) at is test = absurd (omega (arith, is))
 berthed_kept j train (TrainNotYet n) at is test = absurd (omega (arith, is))
 berthed_kept j train q at is test = absurd (omega (arith, is))
 
-cleared_told : (j : ℕ) (train : ℕ) (q : Reply) → IsCounted q → kept_back (Cleared j train) q ≡ true
-    → (keeper_no q ≡ kept_by (Cleared j train)) × Test (Cleared j train) (count_before q)
+cleared_told : (j : ℕ) (train : ℕ) (q : Reply) → IsCounted q → kept_back (Cleared train j) q ≡ true
+    → (keeper_no q ≡ kept_by (Cleared train j)) × Test (Cleared train j) (count_before q)
 cleared_told j train (SectionFull k) at kept = (refl, let e = eqb-true k (j + 4) kept in omega (arith, e))
 cleared_told j train q at kept = absurd cc
 
-cleared_kept : (j : ℕ) (train : ℕ) (q : Reply) → IsCounted q → keeper_no q ≡ kept_by (Cleared j train)
-    → Test (Cleared j train) (count_before q) → kept_back (Cleared j train) q ≡ true
+cleared_kept : (j : ℕ) (train : ℕ) (q : Reply) → IsCounted q → keeper_no q ≡ kept_by (Cleared train j)
+    → Test (Cleared train j) (count_before q) → kept_back (Cleared train j) q ≡ true
 cleared_kept j train (SectionFull k) at is test = eq-eqb k (j + 4) (omega (arith, test))
-cleared_kept j train (BellBusy n held) at is test = absurd (omega (arith, is))
+cleared_kept j train (BellBusy held n) at is test = absurd (omega (arith, is))
 cleared_kept j train (Silent n) at is test = absurd (omega (arith, is))
-cleared_kept j train (BellNotYet n shown) at is test = absurd (omega (arith, is))
+cleared_kept j train (BellNotYet shown n) at is test = absurd (omega (arith, is))
 cleared_kept j train (PulledUnder n) at is test = absurd (omega (arith, is))
-cleared_kept j train (HeldByInstrument way n shown spent) at is test = absurd (omega (arith, is))
+cleared_kept j train (HeldByInstrument way shown spent n) at is test = absurd (omega (arith, is))
 cleared_kept j train (Seen n) at is test = absurd (omega (arith, is))
-cleared_kept j train (BlockNotYet n shown) at is test = absurd (omega (arith, is))
+cleared_kept j train (BlockNotYet shown n) at is test = absurd (omega (arith, is))
 cleared_kept j train (NoTrainAt n) at is test = absurd (omega (arith, is))
 cleared_kept j train (TrainNotYet n) at is test = absurd (omega (arith, is))
 cleared_kept j train q at is test = absurd (omega (arith, is))
 
 kept_told : (r q : Reply) → IsCounted q → kept_back r q ≡ true → (keeper_no q ≡ kept_by r) × Test r (count_before q)
 kept_told (Rung k) q at kept = rung_told k q at kept
-kept_told (Heard k code) q at kept = heard_told k code q at kept
+kept_told (Heard code k) q at kept = heard_told k code q at kept
 kept_told (Turned v) q at kept = turned_told v q at kept
-kept_told (Entered k train) q at kept = entered_told k train q at kept
-kept_told (Berthed j train) q at kept = berthed_told j train q at kept
-kept_told (Cleared j train) q at kept = cleared_told j train q at kept
+kept_told (Entered train k) q at kept = entered_told k train q at kept
+kept_told (Berthed train j) q at kept = berthed_told j train q at kept
+kept_told (Cleared train j) q at kept = cleared_told j train q at kept
 kept_told r q at kept = absurd cc
 
 test_kept : (r q : Reply) → IsCounted q → keeper_no q ≡ kept_by r → Test r (count_before q) → kept_back r q ≡ true
 test_kept (Rung k) q at is test = rung_kept k q at is test
-test_kept (Heard k code) q at is test = heard_kept k code q at is test
+test_kept (Heard code k) q at is test = heard_kept k code q at is test
 test_kept (Turned v) q at is test = turned_kept v q at is test
-test_kept (Entered k train) q at is test = entered_kept k train q at is test
-test_kept (Berthed j train) q at is test = berthed_kept j train q at is test
-test_kept (Cleared j train) q at is test = cleared_kept j train q at is test
+test_kept (Entered train k) q at is test = entered_kept k train q at is test
+test_kept (Berthed train j) q at is test = berthed_kept j train q at is test
+test_kept (Cleared train j) q at is test = cleared_kept j train q at is test
 test_kept r q at is test = absurd test
 
 -- where the law gives the first reply, a later one of the kind tells so much at least
 abbrev Enough : Reply → ℕ → Type 0
 Enough (Rung k) n = k ≤ n + 1
-Enough (Heard k code) n = k ≤ n
-Enough (Entered k train) n = k ≤ n + 1
-Enough (Berthed j train) n = j + 3 ≤ n
-Enough (Cleared j train) n = j + 3 ≤ n
+Enough (Heard code k) n = k ≤ n
+Enough (Entered train k) n = k ≤ n + 1
+Enough (Berthed train j) n = j + 3 ≤ n
+Enough (Cleared train j) n = j + 3 ≤ n
 Enough reply n = Unit {0}
 
 lower_test : (r : Reply) (low high : ℕ) → Test r high → low ≤ high → Enough r low → Test r low
 lower_test (Rung k) low high test le enough = omega (arith, test, le, enough)
-lower_test (Heard k code) low high test le enough = omega (arith, test, le, enough)
+lower_test (Heard code k) low high test le enough = omega (arith, test, le, enough)
 lower_test (Turned v) low high test le enough = omega (arith, test, le)
-lower_test (Entered k train) low high test le enough = omega (arith, test, le, enough)
-lower_test (Berthed j train) low high test le enough = omega (arith, test, le, enough)
-lower_test (Cleared j train) low high test le enough = omega (arith, test, le, enough)
+lower_test (Entered train k) low high test le enough = omega (arith, test, le, enough)
+lower_test (Berthed train j) low high test le enough = omega (arith, test, le, enough)
+lower_test (Cleared train j) low high test le enough = omega (arith, test, le, enough)
 lower_test r low high test le enough = absurd test
 
 -- ---- what a keeper's number tells of it
@@ -230,58 +230,58 @@ is_counted l q at = tt
 
 kind_1 : (r : Reply) → 1 ≡ kept_by r → BellWord ≡ kind_told r
 kind_1 (Rung k) is = absurd (omega (arith, is))
-kind_1 (Heard k code) is = refl
+kind_1 (Heard code k) is = refl
 kind_1 (Turned v) is = absurd (omega (arith, is))
-kind_1 (Entered k train) is = absurd (omega (arith, is))
-kind_1 (Berthed j train) is = absurd (omega (arith, is))
-kind_1 (Cleared j train) is = absurd (omega (arith, is))
+kind_1 (Entered train k) is = absurd (omega (arith, is))
+kind_1 (Berthed train j) is = absurd (omega (arith, is))
+kind_1 (Cleared train j) is = absurd (omega (arith, is))
 kind_1 r is = absurd (omega (arith, is))
 
 kind_2 : (r : Reply) → 2 ≡ kept_by r → BellWord ≡ kind_told r
 kind_2 (Rung k) is = refl
-kind_2 (Heard k code) is = absurd (omega (arith, is))
+kind_2 (Heard code k) is = absurd (omega (arith, is))
 kind_2 (Turned v) is = absurd (omega (arith, is))
-kind_2 (Entered k train) is = absurd (omega (arith, is))
-kind_2 (Berthed j train) is = absurd (omega (arith, is))
-kind_2 (Cleared j train) is = absurd (omega (arith, is))
+kind_2 (Entered train k) is = absurd (omega (arith, is))
+kind_2 (Berthed train j) is = absurd (omega (arith, is))
+kind_2 (Cleared train j) is = absurd (omega (arith, is))
 kind_2 r is = absurd (omega (arith, is))
 
 kind_3 : (r : Reply) → 3 ≡ kept_by r → BlockWord ≡ kind_told r
 kind_3 (Rung k) is = absurd (omega (arith, is))
-kind_3 (Heard k code) is = absurd (omega (arith, is))
+kind_3 (Heard code k) is = absurd (omega (arith, is))
 kind_3 (Turned v) is = refl
-kind_3 (Entered k train) is = absurd (omega (arith, is))
-kind_3 (Berthed j train) is = absurd (omega (arith, is))
-kind_3 (Cleared j train) is = absurd (omega (arith, is))
+kind_3 (Entered train k) is = absurd (omega (arith, is))
+kind_3 (Berthed train j) is = absurd (omega (arith, is))
+kind_3 (Cleared train j) is = absurd (omega (arith, is))
 kind_3 r is = absurd (omega (arith, is))
 
 kind_4 : (r : Reply) → 4 ≡ kept_by r → PlainLineWord ≡ kind_told r
 kind_4 (Rung k) is = absurd (omega (arith, is))
-kind_4 (Heard k code) is = absurd (omega (arith, is))
+kind_4 (Heard code k) is = absurd (omega (arith, is))
 kind_4 (Turned v) is = absurd (omega (arith, is))
-kind_4 (Entered k train) is = absurd (omega (arith, is))
-kind_4 (Berthed j train) is = refl
-kind_4 (Cleared j train) is = refl
+kind_4 (Entered train k) is = absurd (omega (arith, is))
+kind_4 (Berthed train j) is = refl
+kind_4 (Cleared train j) is = refl
 kind_4 r is = absurd (omega (arith, is))
 
 kind_5 : (r : Reply) → 5 ≡ kept_by r → PlainLineWord ≡ kind_told r
 kind_5 (Rung k) is = absurd (omega (arith, is))
-kind_5 (Heard k code) is = absurd (omega (arith, is))
+kind_5 (Heard code k) is = absurd (omega (arith, is))
 kind_5 (Turned v) is = absurd (omega (arith, is))
-kind_5 (Entered k train) is = refl
-kind_5 (Berthed j train) is = absurd (omega (arith, is))
-kind_5 (Cleared j train) is = absurd (omega (arith, is))
+kind_5 (Entered train k) is = refl
+kind_5 (Berthed train j) is = absurd (omega (arith, is))
+kind_5 (Cleared train j) is = absurd (omega (arith, is))
 kind_5 r is = absurd (omega (arith, is))
 
 -- a keeper is of the kind of word of what it may keep back
 keeper_kind : (q r : Reply) → keeper_no q ≡ kept_by r → 0 < keeper_no q → kind_told q ≡ kind_told r
-keeper_kind (BellBusy n held) r is some = kind_1 r is
+keeper_kind (BellBusy held n) r is some = kind_1 r is
 keeper_kind (Silent n) r is some = kind_2 r is
-keeper_kind (BellNotYet n shown) r is some = kind_2 r is
+keeper_kind (BellNotYet shown n) r is some = kind_2 r is
 keeper_kind (PulledUnder n) r is some = kind_3 r is
-keeper_kind (HeldByInstrument way n shown spent) r is some = kind_3 r is
+keeper_kind (HeldByInstrument way shown spent n) r is some = kind_3 r is
 keeper_kind (Seen n) r is some = kind_3 r is
-keeper_kind (BlockNotYet n shown) r is some = kind_3 r is
+keeper_kind (BlockNotYet shown n) r is some = kind_3 r is
 keeper_kind (SectionFull n) r is some = kind_4 r is
 keeper_kind (NoTrainAt n) r is some = kind_5 r is
 keeper_kind (TrainNotYet n) r is some = kind_5 r is
@@ -289,47 +289,47 @@ keeper_kind q r is some = absurd (omega (arith, some))
 
 tests_some : (r : Reply) (n : ℕ) → Test r n → 0 < kept_by r
 tests_some (Rung k) n test = omega arith
-tests_some (Heard k code) n test = omega arith
+tests_some (Heard code k) n test = omega arith
 tests_some (Turned v) n test = omega arith
-tests_some (Entered k train) n test = omega arith
-tests_some (Berthed j train) n test = omega arith
-tests_some (Cleared j train) n test = omega arith
+tests_some (Entered train k) n test = omega arith
+tests_some (Berthed train j) n test = omega arith
+tests_some (Cleared train j) n test = omega arith
 tests_some r n test = absurd test
 
 in_not_1 : (q : Reply) → IsInReply q → 1 ≡ keeper_no q → ⊥
-in_not_1 (BellBusy n held) at is = at
+in_not_1 (BellBusy held n) at is = at
 in_not_1 (Silent n) at is = omega (arith, is)
-in_not_1 (BellNotYet n shown) at is = omega (arith, is)
+in_not_1 (BellNotYet shown n) at is = omega (arith, is)
 in_not_1 (PulledUnder n) at is = at
-in_not_1 (HeldByInstrument way n shown spent) at is = at
+in_not_1 (HeldByInstrument way shown spent n) at is = at
 in_not_1 (Seen n) at is = at
-in_not_1 (BlockNotYet n shown) at is = at
+in_not_1 (BlockNotYet shown n) at is = at
 in_not_1 (SectionFull n) at is = at
 in_not_1 (NoTrainAt n) at is = omega (arith, is)
 in_not_1 (TrainNotYet n) at is = omega (arith, is)
 in_not_1 q at is = omega (arith, is)
 
 in_not_3 : (q : Reply) → IsInReply q → 3 ≡ keeper_no q → ⊥
-in_not_3 (BellBusy n held) at is = at
+in_not_3 (BellBusy held n) at is = at
 in_not_3 (Silent n) at is = omega (arith, is)
-in_not_3 (BellNotYet n shown) at is = omega (arith, is)
+in_not_3 (BellNotYet shown n) at is = omega (arith, is)
 in_not_3 (PulledUnder n) at is = at
-in_not_3 (HeldByInstrument way n shown spent) at is = at
+in_not_3 (HeldByInstrument way shown spent n) at is = at
 in_not_3 (Seen n) at is = at
-in_not_3 (BlockNotYet n shown) at is = at
+in_not_3 (BlockNotYet shown n) at is = at
 in_not_3 (SectionFull n) at is = at
 in_not_3 (NoTrainAt n) at is = omega (arith, is)
 in_not_3 (TrainNotYet n) at is = omega (arith, is)
 in_not_3 q at is = omega (arith, is)
 
 in_not_4 : (q : Reply) → IsInReply q → 4 ≡ keeper_no q → ⊥
-in_not_4 (BellBusy n held) at is = at
+in_not_4 (BellBusy held n) at is = at
 in_not_4 (Silent n) at is = omega (arith, is)
-in_not_4 (BellNotYet n shown) at is = omega (arith, is)
+in_not_4 (BellNotYet shown n) at is = omega (arith, is)
 in_not_4 (PulledUnder n) at is = at
-in_not_4 (HeldByInstrument way n shown spent) at is = at
+in_not_4 (HeldByInstrument way shown spent n) at is = at
 in_not_4 (Seen n) at is = at
-in_not_4 (BlockNotYet n shown) at is = at
+in_not_4 (BlockNotYet shown n) at is = at
 in_not_4 (SectionFull n) at is = at
 in_not_4 (NoTrainAt n) at is = omega (arith, is)
 in_not_4 (TrainNotYet n) at is = omega (arith, is)
@@ -337,13 +337,13 @@ in_not_4 q at is = omega (arith, is)
 
 -- keepers of one kind are at one end
 one_end : (q p : Reply) → IsOutReply q → IsInReply p → keeper_no q ≡ keeper_no p → 0 < keeper_no q → ⊥
-one_end (BellBusy n held) p out at is some = in_not_1 p at is
+one_end (BellBusy held n) p out at is some = in_not_1 p at is
 one_end (Silent n) p out at is some = out
-one_end (BellNotYet n shown) p out at is some = out
+one_end (BellNotYet shown n) p out at is some = out
 one_end (PulledUnder n) p out at is some = in_not_3 p at is
-one_end (HeldByInstrument way n shown spent) p out at is some = in_not_3 p at is
+one_end (HeldByInstrument way shown spent n) p out at is some = in_not_3 p at is
 one_end (Seen n) p out at is some = in_not_3 p at is
-one_end (BlockNotYet n shown) p out at is some = in_not_3 p at is
+one_end (BlockNotYet shown n) p out at is some = in_not_3 p at is
 one_end (SectionFull n) p out at is some = in_not_4 p at is
 one_end (NoTrainAt n) p out at is some = out
 one_end (TrainNotYet n) p out at is some = out
@@ -410,26 +410,26 @@ falls_self s =
 
 enough_bell : (r : Reply) (n : ℕ) → kind_told r ≡ BellWord → count_before r ≤ n → Enough r n
 enough_bell (Rung k) n kind h = omega (arith, h)
-enough_bell (Heard k code) n kind h = h
-enough_bell (Entered k train) n kind h = cc
-enough_bell (Berthed j train) n kind h = cc
-enough_bell (Cleared j train) n kind h = cc
+enough_bell (Heard code k) n kind h = h
+enough_bell (Entered train k) n kind h = cc
+enough_bell (Berthed train j) n kind h = cc
+enough_bell (Cleared train j) n kind h = cc
 enough_bell r n kind h = tt
 
 enough_block : (r : Reply) (n : ℕ) → kind_told r ≡ BlockWord → Enough r n
 enough_block (Rung k) n kind = cc
-enough_block (Heard k code) n kind = cc
-enough_block (Entered k train) n kind = cc
-enough_block (Berthed j train) n kind = cc
-enough_block (Cleared j train) n kind = cc
+enough_block (Heard code k) n kind = cc
+enough_block (Entered train k) n kind = cc
+enough_block (Berthed train j) n kind = cc
+enough_block (Cleared train j) n kind = cc
 enough_block r n kind = tt
 
 enough_tally : (r : Reply) (n : ℕ) → kind_told r ≡ Tally → Enough r n
 enough_tally (Rung k) n kind = cc
-enough_tally (Heard k code) n kind = cc
-enough_tally (Entered k train) n kind = cc
-enough_tally (Berthed j train) n kind = cc
-enough_tally (Cleared j train) n kind = cc
+enough_tally (Heard code k) n kind = cc
+enough_tally (Entered train k) n kind = cc
+enough_tally (Berthed train j) n kind = cc
+enough_tally (Cleared train j) n kind = cc
 enough_tally r n kind = tt
 
 or_above : (a b : ℕ) (is : Bool) → nat_lt a b ≡ is → (a < b) ⊎ (b ≤ a)
@@ -450,13 +450,13 @@ entered_enough k (NoTrainAt j) taken sent line at is low told fits n =
     let all = empty_line taken sent j line n (omega (arith, told, at)) fits in omega (arith, all, low, told)
 entered_enough k (TrainNotYet j) taken sent line at is low told fits n =
     let all = empty_line taken sent j line n (omega (arith, told, at)) fits in omega (arith, all, low, told)
-entered_enough k (BellBusy m held) taken sent line at is low told fits n = absurd (omega (arith, is))
+entered_enough k (BellBusy held m) taken sent line at is low told fits n = absurd (omega (arith, is))
 entered_enough k (Silent m) taken sent line at is low told fits n = absurd (omega (arith, is))
-entered_enough k (BellNotYet m shown) taken sent line at is low told fits n = absurd (omega (arith, is))
+entered_enough k (BellNotYet shown m) taken sent line at is low told fits n = absurd (omega (arith, is))
 entered_enough k (PulledUnder m) taken sent line at is low told fits n = absurd (omega (arith, is))
-entered_enough k (HeldByInstrument way m shown spent) taken sent line at is low told fits n = absurd (omega (arith, is))
+entered_enough k (HeldByInstrument way shown spent m) taken sent line at is low told fits n = absurd (omega (arith, is))
 entered_enough k (Seen m) taken sent line at is low told fits n = absurd (omega (arith, is))
-entered_enough k (BlockNotYet m shown) taken sent line at is low told fits n = absurd (omega (arith, is))
+entered_enough k (BlockNotYet shown m) taken sent line at is low told fits n = absurd (omega (arith, is))
 entered_enough k (SectionFull m) taken sent line at is low told fits n = absurd (omega (arith, is))
 entered_enough k q taken sent line at is low told fits n = absurd (omega (arith, is))
 
@@ -464,13 +464,13 @@ full_enough : (j : ℕ) (q : Reply) (taken sent : ℕ) (line : List Passage) →
     → FitsPlainLine q line → AreNumbered taken sent line → j + 3 ≤ count_before q
 full_enough j (SectionFull k) taken sent line is low pos fits n =
     let above = held_above taken sent k line n fits in omega (arith, above, low, pos)
-full_enough j (BellBusy m held) taken sent line is low pos fits n = absurd (omega (arith, is))
+full_enough j (BellBusy held m) taken sent line is low pos fits n = absurd (omega (arith, is))
 full_enough j (Silent m) taken sent line is low pos fits n = absurd (omega (arith, is))
-full_enough j (BellNotYet m shown) taken sent line is low pos fits n = absurd (omega (arith, is))
+full_enough j (BellNotYet shown m) taken sent line is low pos fits n = absurd (omega (arith, is))
 full_enough j (PulledUnder m) taken sent line is low pos fits n = absurd (omega (arith, is))
-full_enough j (HeldByInstrument way m shown spent) taken sent line is low pos fits n = absurd (omega (arith, is))
+full_enough j (HeldByInstrument way shown spent m) taken sent line is low pos fits n = absurd (omega (arith, is))
 full_enough j (Seen m) taken sent line is low pos fits n = absurd (omega (arith, is))
-full_enough j (BlockNotYet m shown) taken sent line is low pos fits n = absurd (omega (arith, is))
+full_enough j (BlockNotYet shown m) taken sent line is low pos fits n = absurd (omega (arith, is))
 full_enough j (NoTrainAt m) taken sent line is low pos fits n = absurd (omega (arith, is))
 full_enough j (TrainNotYet m) taken sent line is low pos fits n = absurd (omega (arith, is))
 full_enough j q taken sent line is low pos fits n = absurd (omega (arith, is))
@@ -478,22 +478,22 @@ full_enough j q taken sent line is low pos fits n = absurd (omega (arith, is))
 out_enough : (r q : Reply) (taken sent : ℕ) (line : List Passage) → IsOutReply r → IsInReply q
     → kind_told r ≡ PlainLineWord → keeper_no q ≡ kept_by r → count_before r ≤ sent → count_before q ≡ taken
     → FitsPlainLine q line → AreNumbered taken sent line → Enough r (count_before q)
-out_enough (Entered k train) q taken sent line out at kind is low told fits n =
+out_enough (Entered train k) q taken sent line out at kind is low told fits n =
     entered_enough k q taken sent line at is low told fits n
-out_enough (Berthed j train) q taken sent line out at kind is low told fits n = absurd out
-out_enough (Cleared j train) q taken sent line out at kind is low told fits n = absurd out
+out_enough (Berthed train j) q taken sent line out at kind is low told fits n = absurd out
+out_enough (Cleared train j) q taken sent line out at kind is low told fits n = absurd out
 out_enough (Rung k) q taken sent line out at kind is low told fits n = cc
-out_enough (Heard k code) q taken sent line out at kind is low told fits n = cc
+out_enough (Heard code k) q taken sent line out at kind is low told fits n = cc
 out_enough r q taken sent line out at kind is low told fits n = tt
 
 in_enough : (r q : Reply) (taken sent : ℕ) (line : List Passage) → IsInReply r → kind_told r ≡ PlainLineWord
     → keeper_no q ≡ kept_by r → count_before r ≤ taken → FitsPlainLine q line → AreNumbered taken sent line
     → Enough r (count_before q)
-in_enough (Berthed j train) q taken sent line at kind is low fits n = full_enough j q taken sent line is low at fits n
-in_enough (Cleared j train) q taken sent line at kind is low fits n = full_enough j q taken sent line is low at fits n
-in_enough (Entered k train) q taken sent line at kind is low fits n = absurd at
+in_enough (Berthed train j) q taken sent line at kind is low fits n = full_enough j q taken sent line is low at fits n
+in_enough (Cleared train j) q taken sent line at kind is low fits n = full_enough j q taken sent line is low at fits n
+in_enough (Entered train k) q taken sent line at kind is low fits n = absurd at
 in_enough (Rung k) q taken sent line at kind is low fits n = cc
-in_enough (Heard k code) q taken sent line at kind is low fits n = cc
+in_enough (Heard code k) q taken sent line at kind is low fits n = cc
 in_enough r q taken sent line at kind is low fits n = tt
 
 line_enough : (plan : PlanFields) (t : LineState) (b c : ℕ) (l m : Link) (r q : Reply) → OppositeEnds l m

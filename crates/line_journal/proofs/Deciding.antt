@@ -41,45 +41,45 @@ use Rattle.line_journal.proofs.WordFits.{one_position}
 -- a reply is kept back by one of its own kind alone
 rung_kind : (k : ℕ) (q : Reply) → kept_back (Rung k) q ≡ true → same_kind (kind_told (Rung k)) (kind_told q) ≡ true
 rung_kind k (Silent n) kept = refl
-rung_kind k (BellNotYet n shown) kept = refl
+rung_kind k (BellNotYet shown n) kept = refl
 rung_kind k q kept = cc
 
-heard_kind : (k : ℕ) (code : ℕ) (q : Reply) → kept_back (Heard k code) q ≡ true
-    → same_kind (kind_told (Heard k code)) (kind_told q) ≡ true
-heard_kind k code (BellBusy n held) kept = refl
+heard_kind : (k : ℕ) (code : ℕ) (q : Reply) → kept_back (Heard code k) q ≡ true
+    → same_kind (kind_told (Heard code k)) (kind_told q) ≡ true
+heard_kind k code (BellBusy held n) kept = refl
 heard_kind k code q kept = cc
 
 turned_kind : (v : ℕ) (q : Reply) → kept_back (Turned v) q ≡ true
     → same_kind (kind_told (Turned v)) (kind_told q) ≡ true
 turned_kind v (PulledUnder n) kept = refl
-turned_kind v (HeldByInstrument way n shown spent) kept = refl
+turned_kind v (HeldByInstrument way shown spent n) kept = refl
 turned_kind v (Seen n) kept = refl
-turned_kind v (BlockNotYet n shown) kept = refl
+turned_kind v (BlockNotYet shown n) kept = refl
 turned_kind v q kept = cc
 
-entered_kind : (k : ℕ) (train : ℕ) (q : Reply) → kept_back (Entered k train) q ≡ true
-    → same_kind (kind_told (Entered k train)) (kind_told q) ≡ true
+entered_kind : (k : ℕ) (train : ℕ) (q : Reply) → kept_back (Entered train k) q ≡ true
+    → same_kind (kind_told (Entered train k)) (kind_told q) ≡ true
 entered_kind k train (NoTrainAt j) kept = refl
 entered_kind k train (TrainNotYet j) kept = refl
 entered_kind k train q kept = cc
 
-berthed_kind : (j : ℕ) (train : ℕ) (q : Reply) → kept_back (Berthed j train) q ≡ true
-    → same_kind (kind_told (Berthed j train)) (kind_told q) ≡ true
+berthed_kind : (j : ℕ) (train : ℕ) (q : Reply) → kept_back (Berthed train j) q ≡ true
+    → same_kind (kind_told (Berthed train j)) (kind_told q) ≡ true
 berthed_kind j train (SectionFull k) kept = refl
 berthed_kind j train q kept = cc
 
-cleared_kind : (j : ℕ) (train : ℕ) (q : Reply) → kept_back (Cleared j train) q ≡ true
-    → same_kind (kind_told (Cleared j train)) (kind_told q) ≡ true
+cleared_kind : (j : ℕ) (train : ℕ) (q : Reply) → kept_back (Cleared train j) q ≡ true
+    → same_kind (kind_told (Cleared train j)) (kind_told q) ≡ true
 cleared_kind j train (SectionFull k) kept = refl
 cleared_kind j train q kept = cc
 
 kept_kind : (r q : Reply) → kept_back r q ≡ true → same_kind (kind_told r) (kind_told q) ≡ true
 kept_kind (Rung k) q kept = rung_kind k q kept
-kept_kind (Heard k code) q kept = heard_kind k code q kept
+kept_kind (Heard code k) q kept = heard_kind k code q kept
 kept_kind (Turned v) q kept = turned_kind v q kept
-kept_kind (Entered k train) q kept = entered_kind k train q kept
-kept_kind (Berthed j train) q kept = berthed_kind j train q kept
-kept_kind (Cleared j train) q kept = cleared_kind j train q kept
+kept_kind (Entered train k) q kept = entered_kind k train q kept
+kept_kind (Berthed train j) q kept = berthed_kind j train q kept
+kept_kind (Cleared train j) q kept = cleared_kind j train q kept
 kept_kind r q kept = cc
 
 and_turned : (a b : Bool) → a && b ≡ b && a
@@ -170,11 +170,11 @@ bell_fits (Rung k) w h = (
   next_one w.count k (first (is_next w.count k) (same_number w.unheard None) h),
   one_number w.unheard None (second (is_next w.count k) (same_number w.unheard None) h),
 )
-bell_fits (BellBusy k code) w h = (
+bell_fits (BellBusy code k) w h = (
   eqb-true w.count k (first (w.count == k) (same_number w.unheard (Some code)) h),
   one_number w.unheard (Some code) (second (w.count == k) (same_number w.unheard (Some code)) h),
 )
-bell_fits (Heard k code) w h = (
+bell_fits (Heard code k) w h = (
   eqb-true w.count k (first (w.count == k) (same_number w.unheard (Some code)) h),
   one_number w.unheard (Some code) (second (w.count == k) (same_number w.unheard (Some code)) h),
 )
@@ -182,7 +182,7 @@ bell_fits (Silent k) w h = (
   eqb-true w.count k (first (w.count == k) (same_number w.unheard None) h),
   one_number w.unheard None (second (w.count == k) (same_number w.unheard None) h),
 )
-bell_fits (BellNotYet k shown) w h = (
+bell_fits (BellNotYet shown k) w h = (
   eqb-true w.count k (first (w.count == k) (same_number w.unheard shown) h),
   one_number w.unheard shown (second (w.count == k) (same_number w.unheard shown) h),
 )
@@ -191,15 +191,15 @@ bell_fits r w h = absurd cc
 fits_bell_so : (r : Reply) (w : Bell) → FitsBell r w → IsTrue (fits_bell r w)
 fits_bell_so (Rung k) w f =
     pair_up (is_next w.count k) (same_number w.unheard None) (one_next w.count k f.0) (same_numbers w.unheard None f.1)
-fits_bell_so (BellBusy k code) w f =
+fits_bell_so (BellBusy code k) w f =
     pair_up (w.count == k) (same_number w.unheard (Some code)) (eq-eqb w.count k f.0)
     (same_numbers w.unheard (Some code) f.1)
-fits_bell_so (Heard k code) w f =
+fits_bell_so (Heard code k) w f =
     pair_up (w.count == k) (same_number w.unheard (Some code)) (eq-eqb w.count k f.0)
     (same_numbers w.unheard (Some code) f.1)
 fits_bell_so (Silent k) w f =
     pair_up (w.count == k) (same_number w.unheard None) (eq-eqb w.count k f.0) (same_numbers w.unheard None f.1)
-fits_bell_so (BellNotYet k shown) w f =
+fits_bell_so (BellNotYet shown k) w f =
     pair_up (w.count == k) (same_number w.unheard shown) (eq-eqb w.count k f.0) (same_numbers w.unheard shown f.1)
 fits_bell_so r w f = absurd f
 
@@ -209,13 +209,13 @@ block_fits a (Seen v) w h = (
   eqb-true w.turns v (first (w.turns == v) (same_position w.position (position_of a)) h),
   one_position w.position (position_of a) (second (w.turns == v) (same_position w.position (position_of a)) h),
 )
-block_fits a (BlockNotYet v shown) w h = (
+block_fits a (BlockNotYet shown v) w h = (
   eqb-true w.turns v (first (w.turns == v) (same_position w.position shown) h),
   one_position w.position shown (second (w.turns == v) (same_position w.position shown) h),
 )
 block_fits a (PulledUnder v) w h =
     (eqb-true w.turns v (first (w.turns == v) (is_unspent_clear w) h), second (w.turns == v) (is_unspent_clear w) h)
-block_fits a (HeldByInstrument way v shown spent) w h =
+block_fits a (HeldByInstrument way shown spent v) w h =
     let rest = second (w.turns == v) (same_position w.position shown && same_mark w.spent spent) h in (
       eqb-true w.turns v (first (w.turns == v) (same_position w.position shown && same_mark w.spent spent) h),
       one_position w.position shown (first (same_position w.position shown) (same_mark w.spent spent) rest),
@@ -228,35 +228,35 @@ fits_block_so a (Turned v) w f = one_next w.turns v f
 fits_block_so a (Seen v) w f =
     pair_up (w.turns == v) (same_position w.position (position_of a)) (eq-eqb w.turns v f.0)
     (position_same w.position (position_of a) f.1)
-fits_block_so a (BlockNotYet v shown) w f =
+fits_block_so a (BlockNotYet shown v) w f =
     pair_up (w.turns == v) (same_position w.position shown) (eq-eqb w.turns v f.0) (position_same w.position shown f.1)
 fits_block_so a (PulledUnder v) w f = pair_up (w.turns == v) (is_unspent_clear w) (eq-eqb w.turns v f.0) f.1
-fits_block_so a (HeldByInstrument way v shown spent) w f =
+fits_block_so a (HeldByInstrument way shown spent v) w f =
     pair_up (w.turns == v) (same_position w.position shown && same_mark w.spent spent) (eq-eqb w.turns v f.0)
     (pair_up (same_position w.position shown) (same_mark w.spent spent) (position_same w.position shown f.1)
     (mark_one w.spent spent f.2))
 fits_block_so a r w f = absurd f
 
 line_fits : (r : Reply) (w : List Passage) → IsTrue (fits_plain_line r w) → FitsPlainLine r w
-line_fits (Entered k train) w h = not_true (holds w k) h
+line_fits (Entered train k) w h = not_true (holds w k) h
 line_fits (SectionFull k) w h = h
-line_fits (Approaching j train) w h = one_number (first_train j w) (Some train) h
+line_fits (Approaching train j) w h = one_number (first_train j w) (Some train) h
 line_fits (TrainNotYet j) w h = one_number (first_train j w) None h
-line_fits (Berthed j train) w h = one_number (first_train j w) (Some train) h
-line_fits (PartBerthed j train) w h = one_number (first_train j w) (Some train) h
+line_fits (Berthed train j) w h = one_number (first_train j w) (Some train) h
+line_fits (PartBerthed train j) w h = one_number (first_train j w) (Some train) h
 line_fits (NoTrainAt j) w h = one_number (first_train j w) None h
-line_fits (Cleared j train) w h = one_number (first_train j w) (Some train) h
+line_fits (Cleared train j) w h = one_number (first_train j w) (Some train) h
 line_fits r w h = absurd cc
 
 fits_line_so : (r : Reply) (w : List Passage) → FitsPlainLine r w → IsTrue (fits_plain_line r w)
-fits_line_so (Entered k train) w f = true_not (holds w k) f
+fits_line_so (Entered train k) w f = true_not (holds w k) f
 fits_line_so (SectionFull k) w f = f
-fits_line_so (Approaching j train) w f = same_numbers (first_train j w) (Some train) f
+fits_line_so (Approaching train j) w f = same_numbers (first_train j w) (Some train) f
 fits_line_so (TrainNotYet j) w f = same_numbers (first_train j w) None f
-fits_line_so (Berthed j train) w f = same_numbers (first_train j w) (Some train) f
-fits_line_so (PartBerthed j train) w f = same_numbers (first_train j w) (Some train) f
+fits_line_so (Berthed train j) w f = same_numbers (first_train j w) (Some train) f
+fits_line_so (PartBerthed train j) w f = same_numbers (first_train j w) (Some train) f
 fits_line_so (NoTrainAt j) w f = same_numbers (first_train j w) None f
-fits_line_so (Cleared j train) w f = same_numbers (first_train j w) (Some train) f
+fits_line_so (Cleared train j) w f = same_numbers (first_train j w) (Some train) f
 fits_line_so r w f = absurd f
 
 word_fits : (k : Kind) (v : Way) (a : Act) (r : Reply) (p : PairState) → IsTrue (fits_word k v a r p)

@@ -74,7 +74,7 @@ gone taken sent k (p ∷ line) n h full =
 
 -- ---- at the ends of a plain line
 
-entered_by : (k : ℕ) (q : Reply) (taken sent : ℕ) (line : List Passage) → IsInReply q → kept_back (Entered k 0) q ≡ true
+entered_by : (k : ℕ) (q : Reply) (taken sent : ℕ) (line : List Passage) → IsInReply q → kept_back (Entered 0 k) q ≡ true
     → k ≤ sent → count_before q ≡ taken → FitsPlainLine q line → AreNumbered taken sent line → ⊥
 entered_by k (NoTrainAt j) taken sent line at kept low told fits n =
     let e = eqb-true j k kept in
@@ -86,7 +86,7 @@ entered_by k (TrainNotYet j) taken sent line at kept low told fits n =
     let all = empty_line taken sent j line n next fits in omega (arith, e, next, all, low)
 entered_by k q taken sent line at kept low told fits n = cc
 
-same_kept : (k train : ℕ) (q : Reply) → kept_back (Entered k train) q ≡ true → kept_back (Entered k 0) q ≡ true
+same_kept : (k train : ℕ) (q : Reply) → kept_back (Entered train k) q ≡ true → kept_back (Entered 0 k) q ≡ true
 same_kept k train (NoTrainAt j) kept = kept
 same_kept k train (TrainNotYet j) kept = kept
 same_kept k train q kept = cc
@@ -94,12 +94,12 @@ same_kept k train q kept = cc
 out_line : (r q : Reply) (taken sent : ℕ) (line : List Passage) → IsOutReply r → IsInReply q
     → kind_told r ≡ PlainLineWord → kept_back r q ≡ true → count_after r ≤ sent → count_before q ≡ taken
     → FitsPlainLine q line → AreNumbered taken sent line → ⊥
-out_line (Entered k train) q taken sent line out at kind kept low told fits n =
+out_line (Entered train k) q taken sent line out at kind kept low told fits n =
     entered_by k q taken sent line at (same_kept k train q kept) low told fits n
-out_line (Berthed j train) q taken sent line out at kind kept low told fits n = out
-out_line (Cleared j train) q taken sent line out at kind kept low told fits n = out
+out_line (Berthed train j) q taken sent line out at kind kept low told fits n = out
+out_line (Cleared train j) q taken sent line out at kind kept low told fits n = out
 out_line (Rung k) q taken sent line out at kind kept low told fits n = cc
-out_line (Heard k code) q taken sent line out at kind kept low told fits n = cc
+out_line (Heard code k) q taken sent line out at kind kept low told fits n = cc
 out_line (Turned v) q taken sent line out at kind kept low told fits n = cc
 out_line r q taken sent line out at kind kept low told fits n = cc
 
@@ -107,13 +107,13 @@ taken_by : (j k taken sent : ℕ) (line : List Passage) → k ≡ j + 4 → j �
     → AreNumbered taken sent line → ⊥
 taken_by j k taken sent line e low full n = gone taken sent k line n (omega (arith, e, low)) full
 
-berthed_by : (j train : ℕ) (q : Reply) (taken sent : ℕ) (line : List Passage) → kept_back (Berthed j train) q ≡ true
+berthed_by : (j train : ℕ) (q : Reply) (taken sent : ℕ) (line : List Passage) → kept_back (Berthed train j) q ≡ true
     → j ≤ taken → FitsPlainLine q line → AreNumbered taken sent line → ⊥
 berthed_by j train (SectionFull k) taken sent line kept low fits n =
     taken_by j k taken sent line (eqb-true k (j + 4) kept) low fits n
 berthed_by j train q taken sent line kept low fits n = cc
 
-cleared_by : (j train : ℕ) (q : Reply) (taken sent : ℕ) (line : List Passage) → kept_back (Cleared j train) q ≡ true
+cleared_by : (j train : ℕ) (q : Reply) (taken sent : ℕ) (line : List Passage) → kept_back (Cleared train j) q ≡ true
     → j ≤ taken → FitsPlainLine q line → AreNumbered taken sent line → ⊥
 cleared_by j train (SectionFull k) taken sent line kept low fits n =
     taken_by j k taken sent line (eqb-true k (j + 4) kept) low fits n
@@ -121,13 +121,13 @@ cleared_by j train q taken sent line kept low fits n = cc
 
 in_line : (r q : Reply) (taken sent : ℕ) (line : List Passage) → IsInReply r → kind_told r ≡ PlainLineWord
     → kept_back r q ≡ true → count_after r ≤ taken → FitsPlainLine q line → AreNumbered taken sent line → ⊥
-in_line (Berthed j train) q taken sent line at kind kept low fits n =
+in_line (Berthed train j) q taken sent line at kind kept low fits n =
     berthed_by j train q taken sent line kept low fits n
-in_line (Cleared j train) q taken sent line at kind kept low fits n =
+in_line (Cleared train j) q taken sent line at kind kept low fits n =
     cleared_by j train q taken sent line kept low fits n
-in_line (Entered k train) q taken sent line at kind kept low fits n = at
+in_line (Entered train k) q taken sent line at kind kept low fits n = at
 in_line (Rung k) q taken sent line at kind kept low fits n = at
-in_line (Heard k code) q taken sent line at kind kept low fits n = cc
+in_line (Heard code k) q taken sent line at kind kept low fits n = cc
 in_line (Turned v) q taken sent line at kind kept low fits n = cc
 in_line r q taken sent line at kind kept low fits n = cc
 

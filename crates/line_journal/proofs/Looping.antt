@@ -210,7 +210,7 @@ some_first j train [] e = absurd cc
 some_first j train (p ∷ line) e = omega arith
 
 entered_space : (plan : PlanFields) (t : LineState) (b k : ℕ) (l : Link) → HasLink (length plan.boxes) b l
-    → IsReplyAt l (Entered k 0) → k - 1 ≡ count_met PlainLineWord l (box_at t b) opening_pair
+    → IsReplyAt l (Entered 0 k) → k - 1 ≡ count_met PlainLineWord l (box_at t b) opening_pair
     → holds (of_way (pair_at t (pair_no b l)).lines (way_of l)) k ≡ false
     → ((section : Section) → IsSection plan section → IsSectionIn t section)
     → length (of_way (pair_at t (pair_no b l)).lines (way_of l)) < 4
@@ -223,7 +223,7 @@ entered_space plan t b k (Out way) has at told free sections =
     between.four
     (ap (λ (n : ℕ). holds (of_way (pair_at t (pair_no b (Out way))).lines way) n) (sym next) ∙ free)
 
-entered_at : (l : Link) (k train : ℕ) → IsReplyAt l (Entered k train) → IsReplyAt l (Entered k 0)
+entered_at : (l : Link) (k train : ℕ) → IsReplyAt l (Entered train k) → IsReplyAt l (Entered 0 k)
 entered_at (Out way) k train at = at
 entered_at (In way) k train at = at
 
@@ -235,12 +235,12 @@ space_by : (plan : PlanFields) (t : LineState) (e : Entry) (r : Reply) → e.rep
     → FitsWord (kind_told r) (way_at plan e.box_no e.call) e.call.act r (pair_at t (pair_for plan e))
     → ((section : Section) → IsSection plan section → IsSectionIn t section)
     → HasSpace r (of_way (pair_at t (pair_for plan e)).lines (way_at plan e.box_no e.call))
-space_by plan t e (Entered k train) same (inl has) at told fits sections =
+space_by plan t e (Entered train k) same (inl has) at told fits sections =
     entered_space plan t e.box_no k (link_of (box_plan_of plan e.box_no) e.call.act) has
     (entered_at (link_of (box_plan_of plan e.box_no) e.call.act) k train at) (told refl) fits sections
-space_by plan t e (Entered k train) same (inr tally) at told fits sections = absurd (cc tally)
-space_by plan t e (Berthed j train) same has at told fits sections = some_first j train _ fits
-space_by plan t e (Cleared j train) same has at told fits sections = some_first j train _ fits
+space_by plan t e (Entered train k) same (inr tally) at told fits sections = absurd (cc tally)
+space_by plan t e (Berthed train j) same has at told fits sections = some_first j train _ fits
+space_by plan t e (Cleared train j) same has at told fits sections = some_first j train _ fits
 space_by plan t e r same has at told fits sections = tt
 
 is_tally : (k : Kind) → (k ≡ Tally) ⊎ (k ≡ Tally → ⊥)

@@ -21,11 +21,11 @@ use Rattle.line_journal.proofs.Nearby.{apart_free, pair_near}
 
 unkept : (r q : Reply) → kept_by r ≡ 0 → kept_back r q ≡ false
 unkept (Rung k) q none = absurd cc
-unkept (Heard k code) q none = absurd cc
+unkept (Heard code k) q none = absurd cc
 unkept (Turned v) q none = absurd cc
-unkept (Entered k train) q none = absurd cc
-unkept (Berthed j train) q none = absurd cc
-unkept (Cleared j train) q none = absurd cc
+unkept (Entered train k) q none = absurd cc
+unkept (Berthed train j) q none = absurd cc
+unkept (Cleared train j) q none = absurd cc
 unkept r q none = refl
 
 and_false : (b : Bool) → b && false ≡ false
@@ -113,10 +113,10 @@ none_passes plan lists other e past =
 
 -- what was decided on its box's tally is kept back by none
 pub unkept_tally : (r : Reply) → is_word (kind_told r) ≡ false → kept_by r ≡ 0
-unkept_tally (Heard k code) tally = absurd (cc tally)
+unkept_tally (Heard code k) tally = absurd (cc tally)
 unkept_tally (Rung k) tally = absurd (cc tally)
 unkept_tally (Turned v) tally = absurd (cc tally)
-unkept_tally (Berthed j train) tally = absurd (cc tally)
-unkept_tally (Cleared j train) tally = absurd (cc tally)
-unkept_tally (Entered k train) tally = absurd (cc tally)
+unkept_tally (Berthed train j) tally = absurd (cc tally)
+unkept_tally (Cleared train j) tally = absurd (cc tally)
+unkept_tally (Entered train k) tally = absurd (cc tally)
 unkept_tally r tally = refl

@@ -32,7 +32,7 @@ use Rattle.line_journal.proofs.Exchange.{AreOf, NoneKeeps, are_after, is_there}
 -- what stays so of a bell after a reply there
 abbrev pub PastBell : Reply → Bell → Type 0
 PastBell (Rung k) bell = k ≤ bell.count
-PastBell (Heard k code) bell = (k < bell.count) ⊎ ((bell.count ≡ k) × (bell.unheard ≡ None))
+PastBell (Heard code k) bell = (k < bell.count) ⊎ ((bell.count ≡ k) × (bell.unheard ≡ None))
 PastBell reply bell = Unit {0}
 
 -- and of an instrument
@@ -42,23 +42,23 @@ PastBlock reply block = Unit {0}
 
 bell_begins : (a : Act) (r : Reply) (w : Bell) → FitsBell r w → PastBell r (bell_made a r w)
 bell_begins a (Rung k) w f = omega arith
-bell_begins a (Heard k code) w f = inr (refl, refl)
+bell_begins a (Heard code k) w f = inr (refl, refl)
 bell_begins a r w f = tt
 
 above_stays : (c : Act) (k : ℕ) (q : Reply) (w : Bell) → FitsBell q w → k ≤ w.count → k ≤ (bell_made c q w).count
 above_stays c k (Rung n) w g h = omega (arith, g.0, h)
-above_stays c k (Heard n code) w g h = omega (arith, g.0, h)
+above_stays c k (Heard code n) w g h = omega (arith, g.0, h)
 above_stays c k q w g h = h
 
 higher_stays : (c : Act) (k : ℕ) (q : Reply) (w : Bell) → FitsBell q w → k < w.count → k < (bell_made c q w).count
 higher_stays c k (Rung n) w g h = omega (arith, g.0, h)
-higher_stays c k (Heard n code) w g h = omega (arith, g.0, h)
+higher_stays c k (Heard code n) w g h = omega (arith, g.0, h)
 higher_stays c k q w g h = h
 
 off_or_higher : (c : Act) (k : ℕ) (q : Reply) (w : Bell) → FitsBell q w → w.count ≡ k → w.unheard ≡ None
     → (k < (bell_made c q w).count) ⊎ (((bell_made c q w).count ≡ k) × ((bell_made c q w).unheard ≡ None))
 off_or_higher c k (Rung n) w g e off = inl (omega (arith, g.0, e))
-off_or_higher c k (Heard n code) w g e off = inr (sym g.0 ∙ e, refl)
+off_or_higher c k (Heard code n) w g e off = inr (sym g.0 ∙ e, refl)
 off_or_higher c k q w g e off = inr (e, off)
 
 heard_stays : (c : Act) (k : ℕ) (q : Reply) (w : Bell) → FitsBell q w
@@ -69,7 +69,7 @@ heard_stays c k q w g (inr h) = off_or_higher c k q w g h.0 h.1
 
 bell_stays : (c : Act) (r q : Reply) (w : Bell) → FitsBell q w → PastBell r w → PastBell r (bell_made c q w)
 bell_stays c (Rung k) q w g h = above_stays c k q w g h
-bell_stays c (Heard k code) q w g h = heard_stays c k q w g h
+bell_stays c (Heard code k) q w g h = heard_stays c k q w g h
 bell_stays c r q w g h = tt
 
 block_begins : (a : Act) (r : Reply) (w : Block) → PastBlock r (block_made a r w)
@@ -88,41 +88,41 @@ block_stays c r q w g h = tt
 
 rung_clear : (k : ℕ) (q : Reply) (w : Bell) → k ≤ w.count → FitsBell q w → kept_back (Rung k) q ≡ true → ⊥
 rung_clear k (Silent n) w past g kept = let e = eqb-true (n + 1) k kept in omega (arith, e, g.0, past)
-rung_clear k (BellNotYet n shown) w past g kept = let e = eqb-true (n + 1) k kept in omega (arith, e, g.0, past)
+rung_clear k (BellNotYet shown n) w past g kept = let e = eqb-true (n + 1) k kept in omega (arith, e, g.0, past)
 rung_clear k q w past g kept = cc
 
 heard_clear : (k code : ℕ) (q : Reply) (w : Bell) → (k < w.count) ⊎ ((w.count ≡ k) × (w.unheard ≡ None)) → FitsBell q w
-    → kept_back (Heard k code) q ≡ true → ⊥
-heard_clear k code (BellBusy n held) w (inl h) g kept = let e = eqb-true n k kept in omega (arith, e, g.0, h)
-heard_clear k code (BellBusy n held) w (inr h) g kept = let off = h.1 in let on = g.1 in cc (off, on)
+    → kept_back (Heard code k) q ≡ true → ⊥
+heard_clear k code (BellBusy held n) w (inl h) g kept = let e = eqb-true n k kept in omega (arith, e, g.0, h)
+heard_clear k code (BellBusy held n) w (inr h) g kept = let off = h.1 in let on = g.1 in cc (off, on)
 heard_clear k code q w past g kept = cc
 
 turned_clear : (c : Act) (v : ℕ) (q : Reply) (w : Block) → v ≤ w.turns → FitsBlock c q w → kept_back (Turned v) q ≡ true
     → ⊥
 turned_clear c v (PulledUnder n) w past g kept = let e = ltb-true n v kept in omega (arith, e, g.0, past)
-turned_clear c v (HeldByInstrument way n shown spent) w past g kept =
+turned_clear c v (HeldByInstrument way shown spent n) w past g kept =
     let e = ltb-true n v kept in omega (arith, e, g.0, past)
 turned_clear c v (Seen n) w past g kept = let e = ltb-true n v kept in omega (arith, e, g.0, past)
-turned_clear c v (BlockNotYet n shown) w past g kept = let e = ltb-true n v kept in omega (arith, e, g.0, past)
+turned_clear c v (BlockNotYet shown n) w past g kept = let e = ltb-true n v kept in omega (arith, e, g.0, past)
 turned_clear c v q w past g kept = cc
 
 bell_clear : (r q : Reply) (w : Bell) → kind_told r ≡ BellWord → PastBell r w → FitsBell q w → kept_back r q ≡ true → ⊥
 bell_clear (Rung k) q w kind past g kept = rung_clear k q w past g kept
-bell_clear (Heard k code) q w kind past g kept = heard_clear k code q w past g kept
+bell_clear (Heard code k) q w kind past g kept = heard_clear k code q w past g kept
 bell_clear (Turned v) q w kind past g kept = cc
-bell_clear (Entered k train) q w kind past g kept = cc
-bell_clear (Berthed j train) q w kind past g kept = cc
-bell_clear (Cleared j train) q w kind past g kept = cc
+bell_clear (Entered train k) q w kind past g kept = cc
+bell_clear (Berthed train j) q w kind past g kept = cc
+bell_clear (Cleared train j) q w kind past g kept = cc
 bell_clear r q w kind past g kept = cc
 
 block_clear : (c : Act) (r q : Reply) (w : Block) → kind_told r ≡ BlockWord → PastBlock r w → FitsBlock c q w
     → kept_back r q ≡ true → ⊥
 block_clear c (Turned v) q w kind past g kept = turned_clear c v q w past g kept
 block_clear c (Rung k) q w kind past g kept = cc
-block_clear c (Heard k code) q w kind past g kept = cc
-block_clear c (Entered k train) q w kind past g kept = cc
-block_clear c (Berthed j train) q w kind past g kept = cc
-block_clear c (Cleared j train) q w kind past g kept = cc
+block_clear c (Heard code k) q w kind past g kept = cc
+block_clear c (Entered train k) q w kind past g kept = cc
+block_clear c (Berthed train j) q w kind past g kept = cc
+block_clear c (Cleared train j) q w kind past g kept = cc
 block_clear c r q w kind past g kept = cc
 
 -- ---- a pair

@@ -41,17 +41,17 @@ AreOnOtherWords plan e x =
 
 -- a reply on a bell that can no more be given there while the other end alone works the bell
 abbrev pub IsLostOnBell : Reply → Bell → Type 0
-IsLostOnBell (BellBusy k held) bell = bell.unheard ≡ None
+IsLostOnBell (BellBusy held k) bell = bell.unheard ≡ None
 IsLostOnBell (Silent k) bell = k < bell.count
-IsLostOnBell (BellNotYet k shown) bell = k < bell.count
+IsLostOnBell (BellNotYet shown k) bell = k < bell.count
 IsLostOnBell reply bell = ⊥
 
 -- a reply at the rear of an instrument that can no more be given there
 abbrev pub IsLostOnBlock : Reply → Block → Type 0
 IsLostOnBlock (PulledUnder v) block = v < block.turns
-IsLostOnBlock (HeldByInstrument way v shown spent) block = v < block.turns
+IsLostOnBlock (HeldByInstrument way shown spent v) block = v < block.turns
 IsLostOnBlock (Seen v) block = v < block.turns
-IsLostOnBlock (BlockNotYet v shown) block = v < block.turns
+IsLostOnBlock (BlockNotYet shown v) block = v < block.turns
 IsLostOnBlock reply block = ⊥
 
 -- a reply on a plain line that can no more be given there while the other end alone works the line

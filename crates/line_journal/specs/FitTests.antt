@@ -47,32 +47,32 @@ is_word kind = true
 -- a reply fits a bell
 abbrev pub fits_bell : Reply → Bell → Bool
 fits_bell (Rung k) bell = is_next bell.count k && same_number bell.unheard None
-fits_bell (BellBusy k code) bell = (bell.count == k) && same_number bell.unheard (Some code)
-fits_bell (Heard k code) bell = (bell.count == k) && same_number bell.unheard (Some code)
+fits_bell (BellBusy code k) bell = (bell.count == k) && same_number bell.unheard (Some code)
+fits_bell (Heard code k) bell = (bell.count == k) && same_number bell.unheard (Some code)
 fits_bell (Silent k) bell = (bell.count == k) && same_number bell.unheard None
-fits_bell (BellNotYet k shown) bell = (bell.count == k) && same_number bell.unheard shown
+fits_bell (BellNotYet shown k) bell = (bell.count == k) && same_number bell.unheard shown
 fits_bell reply bell = false
 
 -- a reply of an act fits an instrument
 abbrev pub fits_block : Act → Reply → Block → Bool
 fits_block act (Turned v) block = is_next block.turns v
 fits_block act (Seen v) block = (block.turns == v) && same_position block.position (position_of act)
-fits_block act (BlockNotYet v shown) block = (block.turns == v) && same_position block.position shown
+fits_block act (BlockNotYet shown v) block = (block.turns == v) && same_position block.position shown
 fits_block act (PulledUnder v) block = (block.turns == v) && is_unspent_clear block
-fits_block act (HeldByInstrument way v shown spent) block =
+fits_block act (HeldByInstrument way shown spent v) block =
     (block.turns == v) && (same_position block.position shown && same_mark block.spent spent)
 fits_block act reply block = false
 
 -- a reply fits a plain line
 abbrev pub fits_plain_line : Reply → List Passage → Bool
-fits_plain_line (Entered k train) line = not (holds line k)
+fits_plain_line (Entered train k) line = not (holds line k)
 fits_plain_line (SectionFull k) line = holds line k
-fits_plain_line (Approaching j train) line = same_number (first_train j line) (Some train)
+fits_plain_line (Approaching train j) line = same_number (first_train j line) (Some train)
 fits_plain_line (TrainNotYet j) line = same_number (first_train j line) None
-fits_plain_line (Berthed j train) line = same_number (first_train j line) (Some train)
-fits_plain_line (PartBerthed j train) line = same_number (first_train j line) (Some train)
+fits_plain_line (Berthed train j) line = same_number (first_train j line) (Some train)
+fits_plain_line (PartBerthed train j) line = same_number (first_train j line) (Some train)
 fits_plain_line (NoTrainAt j) line = same_number (first_train j line) None
-fits_plain_line (Cleared j train) line = same_number (first_train j line) (Some train)
+fits_plain_line (Cleared train j) line = same_number (first_train j line) (Some train)
 fits_plain_line reply line = false
 
 -- a reply of an act fits the word of this kind and way in a pair
@@ -89,7 +89,7 @@ fits_here plan pairs e =
 
 -- a train that enters finds a place on the plain line of that way, and one that leaves it is there
 abbrev pub HasSpace : Reply → List Passage → Type 0
-HasSpace (Entered k train) line = length line < 4
-HasSpace (Berthed j train) line = 0 < length line
-HasSpace (Cleared j train) line = 0 < length line
+HasSpace (Entered train k) line = length line < 4
+HasSpace (Berthed train j) line = 0 < length line
+HasSpace (Cleared train j) line = 0 < length line
 HasSpace reply line = Unit {0}

@@ -40,16 +40,16 @@ position_of act = shows.Normal
 -- the law gives the reply on a bell that is so
 abbrev pub FitsBell : Reply → Bell → Type 0
 FitsBell (Rung k) bell = (bell.count + 1 ≡ k) × (bell.unheard ≡ None)
-FitsBell (BellBusy k code) bell = (bell.count ≡ k) × (bell.unheard ≡ Some code)
-FitsBell (Heard k code) bell = (bell.count ≡ k) × (bell.unheard ≡ Some code)
+FitsBell (BellBusy code k) bell = (bell.count ≡ k) × (bell.unheard ≡ Some code)
+FitsBell (Heard code k) bell = (bell.count ≡ k) × (bell.unheard ≡ Some code)
 FitsBell (Silent k) bell = (bell.count ≡ k) × (bell.unheard ≡ None)
-FitsBell (BellNotYet k shown) bell = (bell.count ≡ k) × (bell.unheard ≡ shown)
+FitsBell (BellNotYet shown k) bell = (bell.count ≡ k) × (bell.unheard ≡ shown)
 FitsBell reply bell = ⊥
 
 -- what becomes of the bell
 abbrev pub bell_made : Act → Reply → Bell → Bell
 bell_made act (Rung k) bell = record { count = k; unheard = Some (code_of act) }
-bell_made act (Heard k code) bell = silent k
+bell_made act (Heard code k) bell = silent k
 bell_made act reply bell = bell
 
 -- ---- an instrument
@@ -58,9 +58,9 @@ bell_made act reply bell = bell
 abbrev pub FitsBlock : Act → Reply → Block → Type 0
 FitsBlock act (Turned v) block = block.turns + 1 ≡ v
 FitsBlock act (Seen v) block = (block.turns ≡ v) × (block.position ≡ position_of act)
-FitsBlock act (BlockNotYet v shown) block = (block.turns ≡ v) × (block.position ≡ shown)
+FitsBlock act (BlockNotYet shown v) block = (block.turns ≡ v) × (block.position ≡ shown)
 FitsBlock act (PulledUnder v) block = (block.turns ≡ v) × (is_unspent_clear block ≡ true)
-FitsBlock act (HeldByInstrument way v shown spent) block =
+FitsBlock act (HeldByInstrument way shown spent v) block =
     (block.turns ≡ v) × (block.position ≡ shown) × (block.spent ≡ spent)
 FitsBlock act reply block = ⊥
 
@@ -68,28 +68,28 @@ FitsBlock act reply block = ⊥
 abbrev pub block_made : Act → Reply → Block → Block
 block_made act (Turned v) block = record { turns = v; position = position_of act; spent = false }
 block_made act (PulledUnder v) block = record block { spent = true }
-block_made act (HeldByInstrument way v shown spent) block = record block { spent = true }
+block_made act (HeldByInstrument way shown spent v) block = record block { spent = true }
 block_made act reply block = block
 
 -- ---- a plain line
 
 -- the law gives the reply on a plain line that is so
 abbrev pub FitsPlainLine : Reply → List Passage → Type 0
-FitsPlainLine (Entered k train) line = holds line k ≡ false
+FitsPlainLine (Entered train k) line = holds line k ≡ false
 FitsPlainLine (SectionFull k) line = holds line k ≡ true
-FitsPlainLine (Approaching j train) line = first_train j line ≡ Some train
+FitsPlainLine (Approaching train j) line = first_train j line ≡ Some train
 FitsPlainLine (TrainNotYet j) line = first_train j line ≡ None
-FitsPlainLine (Berthed j train) line = first_train j line ≡ Some train
-FitsPlainLine (PartBerthed j train) line = first_train j line ≡ Some train
+FitsPlainLine (Berthed train j) line = first_train j line ≡ Some train
+FitsPlainLine (PartBerthed train j) line = first_train j line ≡ Some train
 FitsPlainLine (NoTrainAt j) line = first_train j line ≡ None
-FitsPlainLine (Cleared j train) line = first_train j line ≡ Some train
+FitsPlainLine (Cleared train j) line = first_train j line ≡ Some train
 FitsPlainLine reply line = ⊥
 
 -- what becomes of the plain line
 abbrev pub plain_line_made : Reply → List Passage → List Passage
-plain_line_made (Entered k train) line = line ++ record { number = k; train = train } ∷ []
-plain_line_made (Berthed j train) line = drop 1 line
-plain_line_made (Cleared j train) line = drop 1 line
+plain_line_made (Entered train k) line = line ++ record { number = k; train = train } ∷ []
+plain_line_made (Berthed train j) line = drop 1 line
+plain_line_made (Cleared train j) line = drop 1 line
 plain_line_made reply line = line
 
 -- ---- a pair

@@ -20,13 +20,13 @@ use Rattle.line_journal.specs.FitTests.{is_word}
 -- the kind of a reply that may keep others back: of a busy bell, of one that has nothing, of an instrument at its rear,
 -- of a full section, or of a train that isn't there; 0 for any other
 abbrev pub keeper_no : Reply → ℕ
-keeper_no (BellBusy k code) = 1
+keeper_no (BellBusy code k) = 1
 keeper_no (Silent k) = 2
-keeper_no (BellNotYet k shown) = 2
+keeper_no (BellNotYet shown k) = 2
 keeper_no (PulledUnder v) = 3
-keeper_no (HeldByInstrument way v shown spent) = 3
+keeper_no (HeldByInstrument way shown spent v) = 3
 keeper_no (Seen v) = 3
-keeper_no (BlockNotYet v shown) = 3
+keeper_no (BlockNotYet shown v) = 3
 keeper_no (SectionFull k) = 4
 keeper_no (NoTrainAt j) = 5
 keeper_no (TrainNotYet j) = 5
@@ -34,12 +34,12 @@ keeper_no reply = 0
 
 -- the kind of reply that may keep this one back; 0 for none
 abbrev pub kept_by : Reply → ℕ
-kept_by (Heard k code) = 1
+kept_by (Heard code k) = 1
 kept_by (Rung k) = 2
 kept_by (Turned v) = 3
-kept_by (Berthed j train) = 4
-kept_by (Cleared j train) = 4
-kept_by (Entered k train) = 5
+kept_by (Berthed train j) = 4
+kept_by (Cleared train j) = 4
+kept_by (Entered train k) = 5
 kept_by reply = 0
 
 -- a kind of reply, and the way of its word, as one number below 12

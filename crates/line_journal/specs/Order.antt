@@ -23,16 +23,16 @@ use Rattle.train_register.specs.Registers.{RegisterFields}
 -- an entry with the first reply is kept back by a remaining one of the other box on its word with the second
 abbrev pub kept_back : Reply → Reply → Bool
 kept_back (Rung k) (Silent n) = n + 1 == k
-kept_back (Rung k) (BellNotYet n shown) = n + 1 == k
-kept_back (Heard k code) (BellBusy n held) = n == k
+kept_back (Rung k) (BellNotYet shown n) = n + 1 == k
+kept_back (Heard code k) (BellBusy held n) = n == k
 kept_back (Turned v) (PulledUnder n) = nat_lt n v
-kept_back (Turned v) (HeldByInstrument way n shown spent) = nat_lt n v
+kept_back (Turned v) (HeldByInstrument way shown spent n) = nat_lt n v
 kept_back (Turned v) (Seen n) = nat_lt n v
-kept_back (Turned v) (BlockNotYet n shown) = nat_lt n v
-kept_back (Entered k train) (NoTrainAt j) = j == k
-kept_back (Entered k train) (TrainNotYet j) = j == k
-kept_back (Berthed j train) (SectionFull k) = k == j + 4
-kept_back (Cleared j train) (SectionFull k) = k == j + 4
+kept_back (Turned v) (BlockNotYet shown n) = nat_lt n v
+kept_back (Entered train k) (NoTrainAt j) = j == k
+kept_back (Entered train k) (TrainNotYet j) = j == k
+kept_back (Berthed train j) (SectionFull k) = k == j + 4
+kept_back (Cleared train j) (SectionFull k) = k == j + 4
 kept_back reply other = false
 
 -- two kinds of word are one, and no tally

@@ -138,7 +138,7 @@ line_in here pair v f h = (
 -- ---- any call
 
 not_held : (reply : Reply) → IsTrue (is_refused_here reply) → is_held_by_instrument reply ≡ false
-not_held (replies.HeldByInstrument way v shown spent) h = absurd cc
+not_held (replies.HeldByInstrument way shown spent v) h = absurd cc
 not_held reply h = refl
 
 -- what a call leaves that is refused: its box and the pair; or, where an instrument holds it, the box, and the pair with
@@ -148,7 +148,7 @@ record Leaves (bp : BoxFields) (act : Act) (here : BoxState) (pair : PairState) 
   same : IsTrue (is_refused told.reply) → is_held_by_instrument told.reply ≡ false
       → (told.here ≡ here) × (told.word ≡ pair)
   spent : (way : Way) (turns : ℕ) (shown : Position) (spent : Bool)
-      → told.reply ≡ replies.HeldByInstrument way turns shown spent
+      → told.reply ≡ replies.HeldByInstrument way shown spent turns
       → (link_of bp act ≡ Out way) × (told.here ≡ here) × (told.word ≡ pair_spent pair v)
 
 no_instrument : (bp : BoxFields) (act : Act) (here : BoxState) (pair : PairState) (v : Way) (told : Told PairState)
@@ -162,7 +162,7 @@ no_instrument bp act here pair v told h =
     }
 
 held_way : (w way : Way) (n turns : ℕ) (p shown : Position) (s spent : Bool)
-    → replies.HeldByInstrument w n p s ≡ replies.HeldByInstrument way turns shown spent → w ≡ way
+    → replies.HeldByInstrument w p s n ≡ replies.HeldByInstrument way shown spent turns → w ≡ way
 held_way w way n turns p shown s spent e = cc
 
 pull_leaves : (ok : Bool) (bp : BoxFields) (act : Act) (here after : BoxState) (pair : PairState) (v w : Way)
@@ -272,7 +272,7 @@ spent_at state b p link here next pair way to at e f =
     (slice_set state.pairs (pair_no b l) (pair_spent (pair_at state (pair_no b l)) (way_of l)))) to
 
 pub held_spends : (plan : PlanFields) (state : LineState) (b : ℕ) (call : Call) (way : Way) (turns : ℕ)
-    (shown : Position) (spent : Bool) → (step plan state b call).reply ≡ replies.HeldByInstrument way turns shown spent
+    (shown : Position) (spent : Bool) → (step plan state b call).reply ≡ replies.HeldByInstrument way shown spent turns
     → (step plan state b call).after ≡ with_spent (with_moment state b call) b way
 unfolding step
 held_spends plan state b call way turns shown spent e =

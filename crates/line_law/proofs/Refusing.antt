@@ -41,7 +41,7 @@ Refuses r = IfSome r (λ reply. IsTrue (is_refused_here reply))
 -- a refusal by the box alone is a refusal
 pub here_refused : (reply : Reply) → IsTrue (is_refused_here reply) → IsTrue (is_refused reply)
 here_refused (replies.Rung k) h = h
-here_refused (replies.Heard k code) h = h
+here_refused (replies.Heard code k) h = h
 here_refused (replies.Turned v) h = h
 here_refused (replies.Seen v) h = h
 here_refused replies.Pulled h = h
@@ -49,11 +49,11 @@ here_refused (replies.PulledUnder v) h = h
 here_refused replies.Put h = h
 here_refused replies.Brought h = h
 here_refused (replies.Passed train) h = h
-here_refused (replies.Entered k train) h = h
-here_refused (replies.Approaching j train) h = h
-here_refused (replies.Berthed j train) h = h
-here_refused (replies.PartBerthed j train) h = h
-here_refused (replies.Cleared j train) h = h
+here_refused (replies.Entered train k) h = h
+here_refused (replies.Approaching train j) h = h
+here_refused (replies.Berthed train j) h = h
+here_refused (replies.PartBerthed train j) h = h
+here_refused (replies.Cleared train j) h = h
 here_refused (replies.Winding ready_at) h = h
 here_refused replies.Released h = h
 here_refused reply h = refl

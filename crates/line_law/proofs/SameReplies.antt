@@ -37,10 +37,10 @@ at told n = slice_index_or told n 0
 makers : List (List ℕ → Reply)
 makers =
     (λ (told : List ℕ). Rung (at told 0))
-    ∷ (λ (told : List ℕ). BellBusy (at told 0) (at told 1))
-    ∷ (λ (told : List ℕ). Heard (at told 0) (at told 1))
+    ∷ (λ (told : List ℕ). BellBusy (at told 1) (at told 0))
+    ∷ (λ (told : List ℕ). Heard (at told 1) (at told 0))
     ∷ (λ (told : List ℕ). Silent (at told 0))
-    ∷ (λ (told : List ℕ). BellNotYet (at told 0) (shown_of (at told 1)))
+    ∷ (λ (told : List ℕ). BellNotYet (shown_of (at told 1)) (at told 0))
     ∷ (λ (told : List ℕ). Turned (at told 0))
     ∷ (λ (told : List ℕ). AlreadyThere)
     ∷ (λ (told : List ℕ). NotFromNormal)
@@ -49,33 +49,33 @@ makers =
     ∷ (λ (told : List ℕ). WelwynHolds (state_of (at told 0)))
     ∷ (λ (told : List ℕ). CountFull (at told 0))
     ∷ (λ (told : List ℕ). Seen (at told 0))
-    ∷ (λ (told : List ℕ). BlockNotYet (at told 0) (position_of (at told 1)))
+    ∷ (λ (told : List ℕ). BlockNotYet (position_of (at told 1)) (at told 0))
     ∷ (λ (told : List ℕ). Pulled)
     ∷ (λ (told : List ℕ). PulledUnder (at told 0))
     ∷ (λ (told : List ℕ). AlreadyReversed)
     ∷ (λ (told : List ℕ). Spare)
     ∷ (λ (told : List ℕ). HeldByLever (at told 0) (at told 1))
     ∷ (λ (told : List ℕ). HeldByTrack (at told 0) (at told 1))
-    ∷ (λ (told : List ℕ). HeldByInstrument (way_of (at told 0)) (at told 1) (position_of (at told 2)) (mark_of (at told 3)))
+    ∷ (λ (told : List ℕ). HeldByInstrument (way_of (at told 0)) (position_of (at told 2)) (mark_of (at told 3)) (at told 1))
     ∷ (λ (told : List ℕ). Put)
     ∷ (λ (told : List ℕ). AlreadyNormal)
     ∷ (λ (told : List ℕ). Brought)
     ∷ (λ (told : List ℕ). AlreadyBrought)
     ∷ (λ (told : List ℕ). Occupied (at told 0) (at told 1))
     ∷ (λ (told : List ℕ). Passed (at told 0))
-    ∷ (λ (told : List ℕ). Entered (at told 0) (at told 1))
+    ∷ (λ (told : List ℕ). Entered (at told 1) (at told 0))
     ∷ (λ (told : List ℕ). NoTrain)
     ∷ (λ (told : List ℕ). AtDanger)
     ∷ (λ (told : List ℕ). ArmOff)
     ∷ (λ (told : List ℕ). SectionFull (at told 0))
-    ∷ (λ (told : List ℕ). Approaching (at told 0) (at told 1))
+    ∷ (λ (told : List ℕ). Approaching (at told 1) (at told 0))
     ∷ (λ (told : List ℕ). TrainNotYet (at told 0))
-    ∷ (λ (told : List ℕ). Berthed (at told 0) (at told 1))
-    ∷ (λ (told : List ℕ). PartBerthed (at told 0) (at told 1))
+    ∷ (λ (told : List ℕ). Berthed (at told 1) (at told 0))
+    ∷ (λ (told : List ℕ). PartBerthed (at told 1) (at told 0))
     ∷ (λ (told : List ℕ). NoTrainAt (at told 0))
     ∷ (λ (told : List ℕ). BerthOccupied (at told 0))
     ∷ (λ (told : List ℕ). PortionAhead (at told 0))
-    ∷ (λ (told : List ℕ). Cleared (at told 0) (at told 1))
+    ∷ (λ (told : List ℕ). Cleared (at told 1) (at told 0))
     ∷ (λ (told : List ℕ). NoPortion)
     ∷ (λ (told : List ℕ). Winding (at told 0))
     ∷ (λ (told : List ℕ). AlreadyWinding)
@@ -89,10 +89,10 @@ makers =
 reply_from : ℕ → List ℕ → Reply
 reply_from n told = slice_index_or makers n (λ (told : List ℕ). Put) told
 
-some_again : (k code : ℕ) → BellNotYet k (shown_of (code + 1)) ≡ BellNotYet k (Some code)
+some_again : (k code : ℕ) → BellNotYet (shown_of (code + 1)) k ≡ BellNotYet (Some code) k
 unfolding shown_of
 some_again k code = by ((code + 1) == 0) refl where
-  by : (b : Bool) → ((code + 1) == 0) ≡ b → BellNotYet k (if b then None else Some (code + 1 - 1)) ≡ BellNotYet k (Some code)
+  by : (b : Bool) → ((code + 1) == 0) ≡ b → BellNotYet (if b then None else Some (code + 1 - 1)) k ≡ BellNotYet (Some code) k
   by true e = absurd (let z : code + 1 ≡ 0 = eqb-true (code + 1) 0 e in omega arith)
   by false e = let c : code + 1 - 1 ≡ code = omega arith in rw c refl
 
@@ -100,11 +100,11 @@ some_again k code = by ((code + 1) == 0) refl where
 found_again : (reply : Reply) → reply_from (reply_no reply) (numbers_told reply) ≡ reply
 unfolding at makers reply_from shown_of state_of position_of way_of mark_of
 found_again (Rung k) = refl
-found_again (BellBusy k code) = refl
-found_again (Heard k code) = refl
+found_again (BellBusy code k) = refl
+found_again (Heard code k) = refl
 found_again (Silent k) = refl
-found_again (BellNotYet k None) = refl
-found_again (BellNotYet k (Some code)) = some_again k code
+found_again (BellNotYet None k) = refl
+found_again (BellNotYet (Some code) k) = some_again k code
 found_again (Turned v) = refl
 found_again AlreadyThere = refl
 found_again NotFromNormal = refl
@@ -115,46 +115,46 @@ found_again (WelwynHolds welwyn.Given) = refl
 found_again (WelwynHolds welwyn.Berthed) = refl
 found_again (CountFull out) = refl
 found_again (Seen v) = refl
-found_again (BlockNotYet v shows.Normal) = refl
-found_again (BlockNotYet v shows.LineClear) = refl
-found_again (BlockNotYet v shows.TrainOnLine) = refl
+found_again (BlockNotYet shows.Normal v) = refl
+found_again (BlockNotYet shows.LineClear v) = refl
+found_again (BlockNotYet shows.TrainOnLine v) = refl
 found_again Pulled = refl
 found_again (PulledUnder v) = refl
 found_again AlreadyReversed = refl
 found_again Spare = refl
 found_again (HeldByLever lever row) = refl
 found_again (HeldByTrack place train) = refl
-found_again (HeldByInstrument Up v shows.Normal true) = refl
-found_again (HeldByInstrument Up v shows.Normal false) = refl
-found_again (HeldByInstrument Up v shows.LineClear true) = refl
-found_again (HeldByInstrument Up v shows.LineClear false) = refl
-found_again (HeldByInstrument Up v shows.TrainOnLine true) = refl
-found_again (HeldByInstrument Up v shows.TrainOnLine false) = refl
-found_again (HeldByInstrument Down v shows.Normal true) = refl
-found_again (HeldByInstrument Down v shows.Normal false) = refl
-found_again (HeldByInstrument Down v shows.LineClear true) = refl
-found_again (HeldByInstrument Down v shows.LineClear false) = refl
-found_again (HeldByInstrument Down v shows.TrainOnLine true) = refl
-found_again (HeldByInstrument Down v shows.TrainOnLine false) = refl
+found_again (HeldByInstrument Up shows.Normal true v) = refl
+found_again (HeldByInstrument Up shows.Normal false v) = refl
+found_again (HeldByInstrument Up shows.LineClear true v) = refl
+found_again (HeldByInstrument Up shows.LineClear false v) = refl
+found_again (HeldByInstrument Up shows.TrainOnLine true v) = refl
+found_again (HeldByInstrument Up shows.TrainOnLine false v) = refl
+found_again (HeldByInstrument Down shows.Normal true v) = refl
+found_again (HeldByInstrument Down shows.Normal false v) = refl
+found_again (HeldByInstrument Down shows.LineClear true v) = refl
+found_again (HeldByInstrument Down shows.LineClear false v) = refl
+found_again (HeldByInstrument Down shows.TrainOnLine true v) = refl
+found_again (HeldByInstrument Down shows.TrainOnLine false v) = refl
 found_again Put = refl
 found_again AlreadyNormal = refl
 found_again Brought = refl
 found_again AlreadyBrought = refl
 found_again (Occupied place train) = refl
 found_again (Passed train) = refl
-found_again (Entered k train) = refl
+found_again (Entered train k) = refl
 found_again NoTrain = refl
 found_again AtDanger = refl
 found_again ArmOff = refl
 found_again (SectionFull k) = refl
-found_again (Approaching j train) = refl
+found_again (Approaching train j) = refl
 found_again (TrainNotYet j) = refl
-found_again (Berthed j train) = refl
-found_again (PartBerthed j train) = refl
+found_again (Berthed train j) = refl
+found_again (PartBerthed train j) = refl
 found_again (NoTrainAt j) = refl
 found_again (BerthOccupied train) = refl
 found_again (PortionAhead train) = refl
-found_again (Cleared j train) = refl
+found_again (Cleared train j) = refl
 found_again NoPortion = refl
 found_again (Winding ready_at) = refl
 found_again AlreadyWinding = refl

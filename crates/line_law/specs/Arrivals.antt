@@ -31,7 +31,7 @@ next_train here way line = first_train (next_number here way) line
 -- await_train, by train j on the plain line; nothing changes
 abbrev pub train_awaited : Option ℕ → BoxState → ℕ → List Passage → Told (List Passage)
 train_awaited None here j line = record { reply = TrainNotYet j; here = here; word = line }
-train_awaited (Some train) here j line = record { reply = Approaching j train; here = here; word = line }
+train_awaited (Some train) here j line = record { reply = Approaching train j; here = here; word = line }
 
 -- a box looks whether the next train approaches
 abbrev pub await_train : BoxState → Way → List Passage → Told (List Passage)
@@ -70,7 +70,7 @@ abbrev pub train_berthed : Option ℕ → BoxState → Way → ℕ → ℕ → L
 train_berthed None here way place j line = record { reply = NoTrainAt j; here = here; word = line }
 train_berthed (Some train) here way place j line =
     record {
-      reply = Berthed j train;
+      reply = Berthed train j;
       here = in_berth here way place train (line_berthed (of_way here.incoming way) j);
       word = drop 1 line;
     }
@@ -96,7 +96,7 @@ abbrev pub train_parted : Option ℕ → BoxState → Way → ℕ → ℕ → Li
 train_parted None here way place j line = record { reply = NoTrainAt j; here = here; word = line }
 train_parted (Some train) here way place j line =
     record {
-      reply = PartBerthed j train;
+      reply = PartBerthed train j;
       here = in_berth here way place train (line_parted (of_way here.incoming way) train);
       word = line;
     }
@@ -127,7 +127,7 @@ cleared_here here way j =
 abbrev pub train_cleared : Option ℕ → BoxState → Way → ℕ → List Passage → Told (List Passage)
 train_cleared None here way j line = record { reply = NoTrainAt j; here = here; word = line }
 train_cleared (Some train) here way j line =
-    record { reply = Cleared j train; here = cleared_here here way j; word = drop 1 line }
+    record { reply = Cleared train j; here = cleared_here here way j; word = drop 1 line }
 
 -- the portion is cleared away, which is of the next train
 abbrev pub cleared : BoxState → Way → List Passage → Told (List Passage)

@@ -15,7 +15,7 @@ silent count = record { count = count; unheard = None }
 -- stands unheard
 abbrev pub rung : BoxState → Way → ℕ → ℕ → Option ℕ → Told Bell
 rung here side code count (Some unheard) =
-    record { reply = BellBusy count unheard; here = here; word = record { count = count; unheard = Some unheard } }
+    record { reply = BellBusy unheard count; here = here; word = record { count = count; unheard = Some unheard } }
 rung here side code count None =
     record {
       reply = Rung (count + 1);
@@ -29,7 +29,7 @@ ring here side code bell = rung here side code bell.count bell.unheard
 
 -- hear, by what the bell holds: refused where no code stands unheard; else the code is taken off
 abbrev pub heard : BoxState → ℕ → Option ℕ → Told Bell
-heard here count (Some code) = record { reply = Heard count code; here = here; word = silent count }
+heard here count (Some code) = record { reply = Heard code count; here = here; word = silent count }
 heard here count None = record { reply = Silent count; here = here; word = silent count }
 
 -- a box hears a bell
@@ -40,13 +40,13 @@ hear here bell = heard here bell.count bell.unheard
 abbrev pub awaited : BoxState → ℕ → ℕ → Option ℕ → Told Bell
 awaited here code count (Some unheard) =
     if unheard == code
-    then record { reply = Heard count unheard; here = here; word = silent count }
+    then record { reply = Heard unheard count; here = here; word = silent count }
     else record {
-      reply = BellNotYet count (Some unheard);
+      reply = BellNotYet (Some unheard) count;
       here = here;
       word = record { count = count; unheard = Some unheard };
     }
-awaited here code count None = record { reply = BellNotYet count None; here = here; word = silent count }
+awaited here code count None = record { reply = BellNotYet None count; here = here; word = silent count }
 
 -- a box looks whether a bell has rung a code, and hears it
 abbrev pub await_bell : BoxState → ℕ → Bell → Told Bell

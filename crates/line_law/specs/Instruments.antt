@@ -114,4 +114,4 @@ abbrev pub await_block : BoxState → Position → Block → Told Block
 await_block here position block =
     if same_position block.position position
     then record { reply = Seen block.turns; here = here; word = block }
-    else record { reply = BlockNotYet block.turns block.position; here = here; word = block }
+    else record { reply = BlockNotYet block.position block.turns; here = here; word = block }

@@ -79,7 +79,7 @@ pulled_under here after way block =
     if is_unspent_clear block
     then record { reply = PulledUnder block.turns; here = after; word = record block { spent = true } }
     else record {
-      reply = HeldByInstrument way block.turns block.position block.spent;
+      reply = HeldByInstrument way block.position block.spent block.turns;
       here = here;
       word = record block { spent = true };
     }

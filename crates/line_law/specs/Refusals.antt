@@ -14,7 +14,7 @@ use Rattle.line_law.specs.Ways.{of_way, with_way}
 -- a reply by which what was asked for is done
 abbrev pub is_success : Reply → Bool
 is_success (replies.Rung k) = true
-is_success (replies.Heard k code) = true
+is_success (replies.Heard code k) = true
 is_success (replies.Turned v) = true
 is_success (replies.Seen v) = true
 is_success replies.Pulled = true
@@ -22,11 +22,11 @@ is_success (replies.PulledUnder v) = true
 is_success replies.Put = true
 is_success replies.Brought = true
 is_success (replies.Passed train) = true
-is_success (replies.Entered k train) = true
-is_success (replies.Approaching j train) = true
-is_success (replies.Berthed j train) = true
-is_success (replies.PartBerthed j train) = true
-is_success (replies.Cleared j train) = true
+is_success (replies.Entered train k) = true
+is_success (replies.Approaching train j) = true
+is_success (replies.Berthed train j) = true
+is_success (replies.PartBerthed train j) = true
+is_success (replies.Cleared train j) = true
 is_success (replies.Winding ready_at) = true
 is_success replies.Released = true
 is_success reply = false
@@ -66,7 +66,7 @@ is_refused_here reply = false
 
 -- a starter's pull was refused by its instrument
 abbrev pub is_held_by_instrument : Reply → Bool
-is_held_by_instrument (replies.HeldByInstrument way v shown spent) = true
+is_held_by_instrument (replies.HeldByInstrument way shown spent v) = true
 is_held_by_instrument reply = false
 
 -- the line with the last moment of box b at that of its call, and all else as it was

@@ -55,11 +55,11 @@ is_releasing section (acts.Release way) = same_way way section.way
 is_releasing section act = false
 
 abbrev pub is_entered : Reply → Bool
-is_entered (replies.Entered k train) = true
+is_entered (replies.Entered train k) = true
 is_entered reply = false
 
 abbrev pub is_part_berthed : Reply → Bool
-is_part_berthed (replies.PartBerthed j train) = true
+is_part_berthed (replies.PartBerthed train j) = true
 is_part_berthed reply = false
 
 abbrev pub is_released : Reply → Bool

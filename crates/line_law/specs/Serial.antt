@@ -12,8 +12,8 @@ use Rattle.line_law.specs.States.{LineState, opening_state, box_at}
 
 -- the reply of an await that the state doesn't satisfy
 abbrev pub is_not_yet : Reply → Bool
-is_not_yet (BellNotYet k shown) = true
-is_not_yet (BlockNotYet v shown) = true
+is_not_yet (BellNotYet shown k) = true
+is_not_yet (BlockNotYet shown v) = true
 is_not_yet (TrainNotYet j) = true
 is_not_yet reply = false
 

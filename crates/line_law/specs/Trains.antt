@@ -117,7 +117,7 @@ entered k here left way train line =
     if holds line k
     then record { reply = SectionFull k; here = here; word = line }
     else record {
-      reply = Entered k train;
+      reply = Entered train k;
       here = record left { sent = with_way left.sent way k };
       word = line ++ record { number = k; train = train } ∷ [];
     }

@@ -49,7 +49,8 @@ pub struct Call {
     pub act: Act,
 }
 
-/// What a signalman is answered. Places are numbered from 0 in his box, trains and rows from 1.
+/// What a signalman is answered. Places are numbered from 0 in his box, trains and rows from 1. In each variant the
+/// smaller fields stand first, which keeps a reply at sixteen bytes.
 #[derive(Clone, Copy, Debug, PartialEq, Eq)]
 pub enum Reply {
     /// The code was rung, the `k`th on that bell.
@@ -58,13 +59,13 @@ pub enum Reply {
     },
     /// Refused: the bell's `k`th code stands unheard.
     BellBusy {
-        k: u64,
         code: CodeNo,
+        k: u64,
     },
     /// The bell's `k`th code was heard.
     Heard {
-        k: u64,
         code: CodeNo,
+        k: u64,
     },
     /// Refused: no code stands unheard after the bell's `k`th.
     Silent {
@@ -72,8 +73,8 @@ pub enum Reply {
     },
     /// Refused: after `k` codes the bell shows another code, or none.
     BellNotYet {
-        k: u64,
         shown: Option<CodeNo>,
+        k: u64,
     },
     /// The commutator was turned, for the `v`th time.
     Turned {
@@ -106,8 +107,8 @@ pub enum Reply {
     },
     /// Refused: at its `v`th turn the instrument shows another position.
     BlockNotYet {
-        v: u64,
         shown: Position,
+        v: u64,
     },
     /// The lever was pulled.
     Pulled,
@@ -132,9 +133,9 @@ pub enum Reply {
     /// Refused: the starter's instrument didn't show Line Clear unspent. It is told as it stood before the call.
     HeldByInstrument {
         way: Way,
-        v: u64,
         shown: Position,
         spent: bool,
+        v: u64,
     },
     /// The lever was put back.
     Put,
@@ -155,8 +156,8 @@ pub enum Reply {
     },
     /// The train passed the starter and entered the section, as its `k`th train.
     Entered {
-        k: u64,
         train: u32,
+        k: u64,
     },
     /// Refused: no train stands at the signal.
     NoTrain,
@@ -170,8 +171,8 @@ pub enum Reply {
     },
     /// The section's `j`th train approaches.
     Approaching {
-        j: u64,
         train: u32,
+        j: u64,
     },
     /// Refused: the section's `j`th train isn't on the plain line.
     TrainNotYet {
@@ -179,13 +180,13 @@ pub enum Reply {
     },
     /// The section's `j`th train came whole into the berth.
     Berthed {
-        j: u64,
         train: u32,
+        j: u64,
     },
     /// The section's `j`th train came into the berth and left a portion behind.
     PartBerthed {
-        j: u64,
         train: u32,
+        j: u64,
     },
     /// Refused: the section's `j`th train isn't on the plain line.
     NoTrainAt {
@@ -201,8 +202,8 @@ pub enum Reply {
     },
     /// The left portion of the section's `j`th train was cleared away.
     Cleared {
-        j: u64,
         train: u32,
+        j: u64,
     },
     /// Refused: no portion is left.
     NoPortion,

@@ -53,6 +53,6 @@ pub fn refusal_law()
         → is_held_by_instrument (step plan state b call).reply ≡ false
         → (step plan state b call).after ≡ with_moment state b call }
     ensures spent { (plan : PlanFields) (state : LineState) (b : ℕ) (call : Call) (way : Way) (v : ℕ) (shown : Shown)
-        (spent : Bool) → (step plan state b call).reply ≡ HeldByInstrument way v shown spent
+        (spent : Bool) → (step plan state b call).reply ≡ HeldByInstrument way shown spent v
         → (step plan state b call).after ≡ with_spent (with_moment state b call) b way }
 {}

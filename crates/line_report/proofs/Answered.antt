@@ -219,7 +219,7 @@ record Moves (answers : Reply → Bool) : Type 0 where
   no_train : IsTrue (answers replies.NoTrain)
   occupied : (place train : ℕ) → IsTrue (answers (replies.Occupied place train))
   passed : (train : ℕ) → IsTrue (answers (replies.Passed train))
-  entered : (k train : ℕ) → IsTrue (answers (replies.Entered k train))
+  entered : (k train : ℕ) → IsTrue (answers (replies.Entered train k))
   full : (k : ℕ) → IsTrue (answers (replies.SectionFull k))
 
 standing_row : (answers : Reply → Bool) (there : Option Standing) → Moves answers → Row answers (standing_refusal there)

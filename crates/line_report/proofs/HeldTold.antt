@@ -928,20 +928,20 @@ pub third_loses : (plan : PlanFields) (x : Section) (e : Entry) → e.box_no ≢
 third_loses plan x e na = rw (differ e.box_no (advance_of x) na) refl
 
 no_entered : (reply : Reply) → counts_trains reply ≡ false → is_entered reply ≡ false
-no_entered (replies.Entered k train) none = absurd cc
+no_entered (replies.Entered train k) none = absurd cc
 no_entered reply none = refl
 
 no_part_berthed : (reply : Reply) → counts_trains reply ≡ false → is_part_berthed reply ≡ false
-no_part_berthed (replies.PartBerthed j train) none = absurd cc
+no_part_berthed (replies.PartBerthed train j) none = absurd cc
 no_part_berthed reply none = refl
 
 no_cleared : (reply : Reply) → counts_trains reply ≡ false → is_cleared reply ≡ false
-no_cleared (replies.Cleared j train) none = absurd cc
+no_cleared (replies.Cleared train j) none = absurd cc
 no_cleared reply none = refl
 
 no_passed : (reply : Reply) → counts_trains reply ≡ false → has_passed reply ≡ false
 no_passed (replies.Passed train) none = absurd cc
-no_passed (replies.Entered k train) none = absurd cc
+no_passed (replies.Entered train k) none = absurd cc
 no_passed reply none = refl
 
 -- an entry whose reply tells of no train more or less tells nothing of any section

@@ -145,10 +145,10 @@ timed plan w moment e h = two w (moment_text plan.version moment) e (ready_short
 reply_words_short : (plan : PlanFields) (b : ℕ) (reply : Reply) → IsPlan plan → b < length plan.boxes → is_spelled_reply plan b reply ≡ true → AreShort (reply_words plan b reply)
 unfolding is_spelled_reply
 reply_words_short plan b (replies.Rung k) p at h = counted (codes "rung") k refl h
-reply_words_short plan b (replies.BellBusy k code) p at h = coded plan (codes "bell_busy") k code p refl h
-reply_words_short plan b (replies.Heard k code) p at h = coded plan (codes "heard") k code p refl h
+reply_words_short plan b (replies.BellBusy code k) p at h = coded plan (codes "bell_busy") k code p refl h
+reply_words_short plan b (replies.Heard code k) p at h = coded plan (codes "heard") k code p refl h
 reply_words_short plan b (replies.Silent k) p at h = counted (codes "silent") k refl h
-reply_words_short plan b (replies.BellNotYet k shown) p at h = let s = both (is_count k) _ h in three (codes "not_yet") (decimal k) (shown_text plan shown) refl (count_short k s.0) (shown_short plan shown p s.1)
+reply_words_short plan b (replies.BellNotYet shown k) p at h = let s = both (is_count k) _ h in three (codes "not_yet") (decimal k) (shown_text plan shown) refl (count_short k s.0) (shown_short plan shown p s.1)
 reply_words_short plan b (replies.Turned v) p at h = counted (codes "turned") v refl h
 reply_words_short plan b replies.AlreadyThere p at h = one (codes "already_there") refl
 reply_words_short plan b replies.NotFromNormal p at h = one (codes "not_from_normal") refl
@@ -157,7 +157,7 @@ reply_words_short plan b (replies.TrackOccupied place train) p at h = stood plan
 reply_words_short plan b (replies.WelwynHolds state) p at h = two (codes "welwyn_holds") (state_text state) refl (state_short state)
 reply_words_short plan b (replies.CountFull out) p at h = two (codes "count_full") (decimal out) refl (small_short out h)
 reply_words_short plan b (replies.Seen v) p at h = counted (codes "seen") v refl h
-reply_words_short plan b (replies.BlockNotYet v shown) p at h = three (codes "not_yet") (decimal v) (position_text shown) refl (count_short v h) (position_short shown)
+reply_words_short plan b (replies.BlockNotYet shown v) p at h = three (codes "not_yet") (decimal v) (position_text shown) refl (count_short v h) (position_short shown)
 reply_words_short plan b replies.Pulled p at h = one (codes "pulled") refl
 reply_words_short plan b (replies.PulledUnder v) p at h = counted (codes "pulled_under") v refl h
 reply_words_short plan b replies.AlreadyReversed p at h = one (codes "already_reversed") refl
@@ -166,7 +166,7 @@ reply_words_short plan b (replies.HeldByLever lever row) p at h =
     let s = both (knows_lever plan b lever) _ h in
     four (codes "held_by_lever") (decimal lever) (codes "row") (decimal row) refl (lever_short plan b lever p at s.0) refl (row_short plan b row p at s.1)
 reply_words_short plan b (replies.HeldByTrack place train) p at h = stood plan b (codes "held_by_track") place train p at refl h
-reply_words_short plan b (replies.HeldByInstrument way v shown spent) p at h =
+reply_words_short plan b (replies.HeldByInstrument way shown spent v) p at h =
     five (codes "held_by_instrument") (way_text way) (decimal v) (position_text shown) (spent_text spent) refl (way_short way) (count_short v h) (position_short shown) (spent_short spent)
 reply_words_short plan b replies.Put p at h = one (codes "put") refl
 reply_words_short plan b replies.AlreadyNormal p at h = one (codes "already_normal") refl
@@ -174,19 +174,19 @@ reply_words_short plan b replies.Brought p at h = one (codes "brought") refl
 reply_words_short plan b replies.AlreadyBrought p at h = one (codes "already_brought") refl
 reply_words_short plan b (replies.Occupied place train) p at h = stood plan b (codes "occupied") place train p at refl h
 reply_words_short plan b (replies.Passed train) p at h = trained plan (codes "passed") train p refl h
-reply_words_short plan b (replies.Entered k train) p at h = moved plan (codes "entered") k train p refl h
+reply_words_short plan b (replies.Entered train k) p at h = moved plan (codes "entered") k train p refl h
 reply_words_short plan b replies.NoTrain p at h = one (codes "no_train") refl
 reply_words_short plan b replies.AtDanger p at h = one (codes "at_danger") refl
 reply_words_short plan b replies.ArmOff p at h = one (codes "arm_off") refl
 reply_words_short plan b (replies.SectionFull k) p at h = counted (codes "section_full") k refl h
-reply_words_short plan b (replies.Approaching j train) p at h = moved plan (codes "approaching") j train p refl h
+reply_words_short plan b (replies.Approaching train j) p at h = moved plan (codes "approaching") j train p refl h
 reply_words_short plan b (replies.TrainNotYet j) p at h = counted (codes "not_yet") j refl h
-reply_words_short plan b (replies.Berthed j train) p at h = moved plan (codes "berthed") j train p refl h
-reply_words_short plan b (replies.PartBerthed j train) p at h = moved plan (codes "part_berthed") j train p refl h
+reply_words_short plan b (replies.Berthed train j) p at h = moved plan (codes "berthed") j train p refl h
+reply_words_short plan b (replies.PartBerthed train j) p at h = moved plan (codes "part_berthed") j train p refl h
 reply_words_short plan b (replies.NoTrainAt j) p at h = counted (codes "no_train") j refl h
 reply_words_short plan b (replies.BerthOccupied train) p at h = trained plan (codes "occupied") train p refl h
 reply_words_short plan b (replies.PortionAhead train) p at h = trained plan (codes "portion_ahead") train p refl h
-reply_words_short plan b (replies.Cleared j train) p at h = moved plan (codes "cleared") j train p refl h
+reply_words_short plan b (replies.Cleared train j) p at h = moved plan (codes "cleared") j train p refl h
 reply_words_short plan b replies.NoPortion p at h = one (codes "no_portion") refl
 reply_words_short plan b (replies.Winding ready_at) p at h = timed plan (codes "winding") ready_at refl h
 reply_words_short plan b replies.AlreadyWinding p at h = one (codes "already_winding") refl

@@ -51,7 +51,7 @@ is_leaving plan section act = false
 -- the train went past the signal, within its box, away, or into a section
 abbrev pub has_passed : Reply → Bool
 has_passed (replies.Passed train) = true
-has_passed (replies.Entered k train) = true
+has_passed (replies.Entered train k) = true
 has_passed reply = false
 
 -- the portion left on the section's plain line is to be cleared away
@@ -60,7 +60,7 @@ is_clearing section (acts.ClearPortion way) = same_way way section.way
 is_clearing section act = false
 
 abbrev pub is_cleared : Reply → Bool
-is_cleared (replies.Cleared j train) = true
+is_cleared (replies.Cleared train j) = true
 is_cleared reply = false
 
 -- ---- an entry
@@ -91,9 +91,9 @@ loses plan section e = (e.box_no == advance_of section) && loses_in_advance plan
 
 -- a reply that may tell of a train more or less in a section
 abbrev pub counts_trains : Reply → Bool
-counts_trains (replies.Entered k train) = true
-counts_trains (replies.PartBerthed j train) = true
-counts_trains (replies.Cleared j train) = true
+counts_trains (replies.Entered train k) = true
+counts_trains (replies.PartBerthed train j) = true
+counts_trains (replies.Cleared train j) = true
 counts_trains (replies.Passed train) = true
 counts_trains reply = false
 

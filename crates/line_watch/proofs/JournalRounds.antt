@@ -56,7 +56,7 @@ told_shown act (Turned v) sight e =
 told_shown act (PulledUnder v) sight e =
     let same : record { turns = v; position = shows.LineClear; spent = true } ≡ sight = cc in
     ap (λ (x : Sight). Some (block_of x)) same
-told_shown act (HeldByInstrument way v shown spent) sight e =
+told_shown act (HeldByInstrument way shown spent v) sight e =
     let same : record { turns = v; position = shown; spent = true } ≡ sight = cc in
     ap (λ (x : Sight). Some (block_of x)) same
 told_shown act reply sight e = absurd cc
@@ -65,7 +65,7 @@ told_kind : (act : Act) (reply : Reply) (sight : Sight) → sight_told act reply
     → kind_told reply ≡ BlockWord
 told_kind act (Turned v) sight e = refl
 told_kind act (PulledUnder v) sight e = refl
-told_kind act (HeldByInstrument way v shown spent) sight e = refl
+told_kind act (HeldByInstrument way shown spent v) sight e = refl
 told_kind act reply sight e = absurd cc
 
 -- an entry that tells nothing shows nothing
@@ -73,7 +73,7 @@ silent : (act : Act) (reply : Reply) (block : Block) → sight_told act reply �
     → block_shown act reply ≡ Some block → ⊥
 silent act (Turned v) block e h = cc
 silent act (PulledUnder v) block e h = cc
-silent act (HeldByInstrument way v shown spent) block e h = cc
+silent act (HeldByInstrument way shown spent v) block e h = cc
 silent act reply block e h = cc
 
 -- ---- sections by their numbers

@@ -50,7 +50,7 @@ use Rattle.line_watch.proofs.Marks.{Follows}
 abbrev pub block_shown : Act → Reply → Option Block
 block_shown act (Turned v) = Some (record { turns = v; position = position_of act; spent = false })
 block_shown act (PulledUnder v) = Some (record { turns = v; position = shows.LineClear; spent = true })
-block_shown act (HeldByInstrument way v shown spent) = Some (record { turns = v; position = shown; spent = true })
+block_shown act (HeldByInstrument way shown spent v) = Some (record { turns = v; position = shown; spent = true })
 block_shown act reply = None
 
 line_clear : (p : Position) (t : Bool) → (same_position p shows.LineClear && t) ≡ true → p ≡ shows.LineClear
@@ -69,11 +69,11 @@ own_word : (act : Act) (reply : Reply) (block : Block) → FitsBlock act reply b
     → (block_made act reply block ≡ block) ⊎ (block_shown act reply ≡ Some (block_made act reply block))
 own_word act (Turned v) block fits = inr refl
 own_word act (Seen v) block fits = inl refl
-own_word act (BlockNotYet v shown) block fits = inl refl
+own_word act (BlockNotYet shown v) block fits = inl refl
 own_word act (PulledUnder v) block fits =
     inr (ap Some (spent_alike v block.turns shows.LineClear block.position (sym fits.0)
     (sym (line_clear block.position _ fits.1))))
-own_word act (HeldByInstrument way v shown spent) block fits =
+own_word act (HeldByInstrument way shown spent v) block fits =
     inr (ap Some (spent_alike v block.turns shown block.position (sym fits.0) (sym fits.1)))
 own_word act reply block fits = absurd fits
 
@@ -85,7 +85,7 @@ shown_back act (PulledUnder v) block shown fits e =
     (sym (line_clear block.position _ fits.1)) in
     let there : record { turns = v; position = shows.LineClear; spent = true } ≡ shown = cc in
     sym same ∙ there
-shown_back act (HeldByInstrument way v position spent) block shown fits e =
+shown_back act (HeldByInstrument way position spent v) block shown fits e =
     let same = spent_alike v block.turns position block.position (sym fits.0) (sym fits.1) in
     let there : record { turns = v; position = position; spent = true } ≡ shown = cc in
     sym same ∙ there

@@ -17,7 +17,7 @@ use Rattle.line_watch.specs.declared.sight.Sight.{Sight}
 abbrev pub sight_told : Act → Reply → Option Sight
 sight_told act (Turned v) = Some (record { turns = v; position = position_of act; spent = false })
 sight_told act (PulledUnder v) = Some (record { turns = v; position = shows.LineClear; spent = true })
-sight_told act (HeldByInstrument way v shown spent) = Some (record { turns = v; position = shown; spent = true })
+sight_told act (HeldByInstrument way shown spent v) = Some (record { turns = v; position = shown; spent = true })
 sight_told act reply = None
 
 -- the number of the section of a way between two neighbours: of each pair the down line's, then the up line's

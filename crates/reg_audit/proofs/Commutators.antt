@@ -158,13 +158,13 @@ still_if w true deed still = still
 still_if w false deed still = λ before. refl
 
 heard_still : (w side : Way) (reply : Reply) → IsStill w (heard_from side reply)
-heard_still w side (replies.Heard k code) = λ before. refl
+heard_still w side (replies.Heard code k) = λ before. refl
 heard_still w side reply = λ before. refl
 
 went_still : (w : Way) (box_plan : BoxFields) (signal : Option Signal) (at_danger : Bool) (reply : Reply)
     → IsStill w (went_past box_plan signal at_danger reply)
 went_still w box_plan signal at_danger (replies.Passed train) = λ before. refl
-went_still w box_plan signal at_danger (replies.Entered k train) = λ before. refl
+went_still w box_plan signal at_danger (replies.Entered train k) = λ before. refl
 went_still w box_plan signal at_danger reply = λ before. refl
 
 act_still : (w : Way) (box_plan : BoxFields) (act : Act) (reply : Reply) → IsNoTurn act

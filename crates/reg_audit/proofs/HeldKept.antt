@@ -200,13 +200,13 @@ no_turn_if true deed h = h
 no_turn_if false deed h = tt
 
 no_turn_heard : (side : Way) (reply : Reply) → IsNoTurn (heard_from side reply)
-no_turn_heard side (replies.Heard k code) = tt
+no_turn_heard side (replies.Heard code k) = tt
 no_turn_heard side reply = tt
 
 no_turn_past : (box_plan : BoxFields) (signal : Option Signal) (at_danger : Bool) (reply : Reply)
     → IsNoTurn (went_past box_plan signal at_danger reply)
 no_turn_past box_plan signal at_danger (replies.Passed train) = tt
-no_turn_past box_plan signal at_danger (replies.Entered k train) = tt
+no_turn_past box_plan signal at_danger (replies.Entered train k) = tt
 no_turn_past box_plan signal at_danger reply = tt
 
 no_turn : (deed : Deed) (way : Way) (position : Position) → IsNoTurn deed → deed ≡ deeds.Turned way position → ⊥

@@ -29,7 +29,7 @@ is_turned (replies.Turned v) = true
 is_turned reply = false
 
 abbrev pub is_berthed : Reply → Bool
-is_berthed (replies.Berthed j train) = true
+is_berthed (replies.Berthed train j) = true
 is_berthed reply = false
 
 -- ---- deeds
@@ -40,7 +40,7 @@ done_if done deed = if done then deed else deeds.Nothing
 
 -- a code was heard from a side, where the reply tells it
 abbrev pub heard_from : Way → Reply → Deed
-heard_from side (replies.Heard k code) = deeds.Heard side code
+heard_from side (replies.Heard code k) = deeds.Heard side code
 heard_from side reply = deeds.Nothing
 
 -- the berth of which incoming line a signal is a home of, if there is a signal: a train that goes past it leaves that
@@ -53,7 +53,7 @@ homes_by box_plan signal =
 abbrev pub went_past : BoxFields → Option Signal → Bool → Reply → Deed
 went_past box_plan signal at_danger (replies.Passed train) =
     deeds.WentPast None (homes_by box_plan signal) at_danger
-went_past box_plan signal at_danger (replies.Entered k train) =
+went_past box_plan signal at_danger (replies.Entered train k) =
     deeds.WentPast (starter_way signal) (homes_by box_plan signal) at_danger
 went_past box_plan signal at_danger reply = deeds.Nothing
 

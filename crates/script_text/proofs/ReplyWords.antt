@@ -83,7 +83,7 @@ shown_is_word plan None p h = refl
 shown_is_word plan (Some code) p h = code_is_word plan code p h
 
 bell_read : (plan : PlanFields) (b k : ℕ) (shown : Option ℕ) → IsPlan plan → is_count k ≡ true → shows_code plan shown ≡ true
-    → triple_reply plan b (codes "not_yet") (decimal k) (shown_text plan shown) ≡ Some (replies.BellNotYet k shown)
+    → triple_reply plan b (codes "not_yet") (decimal k) (shown_text plan shown) ≡ Some (replies.BellNotYet shown k)
 unfolding triple_reply
 bell_read plan b k None p h s = rw (number_read k h) refl
 bell_read plan b k (Some code) p h s =
@@ -139,10 +139,10 @@ timed plan w moment e h = two w (moment_text plan.version moment) e (moment_is_w
 pub reply_words_are : (plan : PlanFields) (b : ℕ) (reply : Reply) → IsPlan plan → b < length plan.boxes → is_spelled_reply plan b reply ≡ true → AreWords (reply_words plan b reply)
 unfolding is_spelled_reply
 reply_words_are plan b (replies.Rung k) p at h = counted (codes "rung") k refl h
-reply_words_are plan b (replies.BellBusy k code) p at h = coded plan (codes "bell_busy") k code p refl h
-reply_words_are plan b (replies.Heard k code) p at h = coded plan (codes "heard") k code p refl h
+reply_words_are plan b (replies.BellBusy code k) p at h = coded plan (codes "bell_busy") k code p refl h
+reply_words_are plan b (replies.Heard code k) p at h = coded plan (codes "heard") k code p refl h
 reply_words_are plan b (replies.Silent k) p at h = counted (codes "silent") k refl h
-reply_words_are plan b (replies.BellNotYet k shown) p at h = let s = both (is_count k) _ h in three (codes "not_yet") (decimal k) (shown_text plan shown) refl (count_is_word k s.0) (shown_is_word plan shown p s.1)
+reply_words_are plan b (replies.BellNotYet shown k) p at h = let s = both (is_count k) _ h in three (codes "not_yet") (decimal k) (shown_text plan shown) refl (count_is_word k s.0) (shown_is_word plan shown p s.1)
 reply_words_are plan b (replies.Turned v) p at h = counted (codes "turned") v refl h
 reply_words_are plan b replies.AlreadyThere p at h = one (codes "already_there") refl
 reply_words_are plan b replies.NotFromNormal p at h = one (codes "not_from_normal") refl
@@ -151,7 +151,7 @@ reply_words_are plan b (replies.TrackOccupied place train) p at h = stood plan b
 reply_words_are plan b (replies.WelwynHolds state) p at h = two (codes "welwyn_holds") (state_text state) refl (state_is_word state)
 reply_words_are plan b (replies.CountFull out) p at h = two (codes "count_full") (decimal out) refl (small_is_word out (small_below out h))
 reply_words_are plan b (replies.Seen v) p at h = counted (codes "seen") v refl h
-reply_words_are plan b (replies.BlockNotYet v shown) p at h = three (codes "not_yet") (decimal v) (position_text shown) refl (count_is_word v h) (position_is_word shown)
+reply_words_are plan b (replies.BlockNotYet shown v) p at h = three (codes "not_yet") (decimal v) (position_text shown) refl (count_is_word v h) (position_is_word shown)
 reply_words_are plan b replies.Pulled p at h = one (codes "pulled") refl
 reply_words_are plan b (replies.PulledUnder v) p at h = counted (codes "pulled_under") v refl h
 reply_words_are plan b replies.AlreadyReversed p at h = one (codes "already_reversed") refl
@@ -160,7 +160,7 @@ reply_words_are plan b (replies.HeldByLever lever row) p at h =
     let s = both (knows_lever plan b lever) _ h in
     four (codes "held_by_lever") (decimal lever) (codes "row") (decimal row) refl (small_is_word lever (lever_below plan b lever p at s.0)) refl (small_is_word row (row_below plan b row p at s.1))
 reply_words_are plan b (replies.HeldByTrack place train) p at h = stood plan b (codes "held_by_track") place train p at refl h
-reply_words_are plan b (replies.HeldByInstrument way v shown spent) p at h =
+reply_words_are plan b (replies.HeldByInstrument way shown spent v) p at h =
     five (codes "held_by_instrument") (way_text way) (decimal v) (position_text shown) (spent_text spent) refl (way_is_word way) (count_is_word v h) (position_is_word shown) (spent_is_word spent)
 reply_words_are plan b replies.Put p at h = one (codes "put") refl
 reply_words_are plan b replies.AlreadyNormal p at h = one (codes "already_normal") refl
@@ -168,19 +168,19 @@ reply_words_are plan b replies.Brought p at h = one (codes "brought") refl
 reply_words_are plan b replies.AlreadyBrought p at h = one (codes "already_brought") refl
 reply_words_are plan b (replies.Occupied place train) p at h = stood plan b (codes "occupied") place train p at refl h
 reply_words_are plan b (replies.Passed train) p at h = trained plan (codes "passed") train p refl h
-reply_words_are plan b (replies.Entered k train) p at h = moved plan (codes "entered") k train p refl h
+reply_words_are plan b (replies.Entered train k) p at h = moved plan (codes "entered") k train p refl h
 reply_words_are plan b replies.NoTrain p at h = one (codes "no_train") refl
 reply_words_are plan b replies.AtDanger p at h = one (codes "at_danger") refl
 reply_words_are plan b replies.ArmOff p at h = one (codes "arm_off") refl
 reply_words_are plan b (replies.SectionFull k) p at h = counted (codes "section_full") k refl h
-reply_words_are plan b (replies.Approaching j train) p at h = moved plan (codes "approaching") j train p refl h
+reply_words_are plan b (replies.Approaching train j) p at h = moved plan (codes "approaching") j train p refl h
 reply_words_are plan b (replies.TrainNotYet j) p at h = counted (codes "not_yet") j refl h
-reply_words_are plan b (replies.Berthed j train) p at h = moved plan (codes "berthed") j train p refl h
-reply_words_are plan b (replies.PartBerthed j train) p at h = moved plan (codes "part_berthed") j train p refl h
+reply_words_are plan b (replies.Berthed train j) p at h = moved plan (codes "berthed") j train p refl h
+reply_words_are plan b (replies.PartBerthed train j) p at h = moved plan (codes "part_berthed") j train p refl h
 reply_words_are plan b (replies.NoTrainAt j) p at h = counted (codes "no_train") j refl h
 reply_words_are plan b (replies.BerthOccupied train) p at h = trained plan (codes "occupied") train p refl h
 reply_words_are plan b (replies.PortionAhead train) p at h = trained plan (codes "portion_ahead") train p refl h
-reply_words_are plan b (replies.Cleared j train) p at h = moved plan (codes "cleared") j train p refl h
+reply_words_are plan b (replies.Cleared train j) p at h = moved plan (codes "cleared") j train p refl h
 reply_words_are plan b replies.NoPortion p at h = one (codes "no_portion") refl
 reply_words_are plan b (replies.Winding ready_at) p at h = timed plan (codes "winding") ready_at refl h
 reply_words_are plan b replies.AlreadyWinding p at h = one (codes "already_winding") refl
@@ -207,10 +207,10 @@ stand_shape plan b place train p at h = let s = both (is_place plan b place) _ h
 pub reply_shape : (plan : PlanFields) (b : ℕ) (reply : Reply) → IsPlan plan → b < length plan.boxes → is_spelled_reply plan b reply ≡ true → shaped_reply plan b (reply_words plan b reply) ≡ Some reply
 unfolding is_spelled_reply shaped_reply lone_reply count_reply pair_reply triple_reply lever_reply instrument_reply
 reply_shape plan b (replies.Rung k) p at h = rw (number_read k h) refl
-reply_shape plan b (replies.BellBusy k code) p at h = let s = code_shape plan k code p h in rw (s.0, s.1) refl
-reply_shape plan b (replies.Heard k code) p at h = let s = code_shape plan k code p h in rw (s.0, s.1) refl
+reply_shape plan b (replies.BellBusy code k) p at h = let s = code_shape plan k code p h in rw (s.0, s.1) refl
+reply_shape plan b (replies.Heard code k) p at h = let s = code_shape plan k code p h in rw (s.0, s.1) refl
 reply_shape plan b (replies.Silent k) p at h = rw (number_read k h) refl
-reply_shape plan b (replies.BellNotYet k shown) p at h = let s = both (is_count k) _ h in bell_read plan b k shown p s.0 s.1
+reply_shape plan b (replies.BellNotYet shown k) p at h = let s = both (is_count k) _ h in bell_read plan b k shown p s.0 s.1
 reply_shape plan b (replies.Turned v) p at h = rw (number_read v h) refl
 reply_shape plan b replies.AlreadyThere p at h = refl
 reply_shape plan b replies.NotFromNormal p at h = refl
@@ -219,7 +219,7 @@ reply_shape plan b (replies.TrackOccupied place train) p at h = let s = stand_sh
 reply_shape plan b (replies.WelwynHolds state) p at h = rw (state_read state h) refl
 reply_shape plan b (replies.CountFull out) p at h = rw (small_read out (small_below out h)) refl
 reply_shape plan b (replies.Seen v) p at h = rw (number_read v h) refl
-reply_shape plan b (replies.BlockNotYet v shown) p at h = rw (number_read v h, position_read shown) refl
+reply_shape plan b (replies.BlockNotYet shown v) p at h = rw (number_read v h, position_read shown) refl
 reply_shape plan b replies.Pulled p at h = refl
 reply_shape plan b (replies.PulledUnder v) p at h = rw (number_read v h) refl
 reply_shape plan b replies.AlreadyReversed p at h = refl
@@ -228,26 +228,26 @@ reply_shape plan b (replies.HeldByLever lever row) p at h =
     let s = both (knows_lever plan b lever) _ h in
     rw (small_read lever (lever_below plan b lever p at s.0), small_read row (row_below plan b row p at s.1)) refl
 reply_shape plan b (replies.HeldByTrack place train) p at h = let s = stand_shape plan b place train p at h in rw (s.0, s.1) refl
-reply_shape plan b (replies.HeldByInstrument way v shown spent) p at h = rw (way_read way, number_read v h, position_read shown, spent_read spent) refl
+reply_shape plan b (replies.HeldByInstrument way shown spent v) p at h = rw (way_read way, number_read v h, position_read shown, spent_read spent) refl
 reply_shape plan b replies.Put p at h = refl
 reply_shape plan b replies.AlreadyNormal p at h = refl
 reply_shape plan b replies.Brought p at h = refl
 reply_shape plan b replies.AlreadyBrought p at h = refl
 reply_shape plan b (replies.Occupied place train) p at h = let s = stand_shape plan b place train p at h in rw (s.0, s.1) refl
 reply_shape plan b (replies.Passed train) p at h = rw (train_read plan train p h) refl
-reply_shape plan b (replies.Entered k train) p at h = let s = move_shape plan k train p h in rw (s.0, s.1) refl
+reply_shape plan b (replies.Entered train k) p at h = let s = move_shape plan k train p h in rw (s.0, s.1) refl
 reply_shape plan b replies.NoTrain p at h = refl
 reply_shape plan b replies.AtDanger p at h = refl
 reply_shape plan b replies.ArmOff p at h = refl
 reply_shape plan b (replies.SectionFull k) p at h = rw (number_read k h) refl
-reply_shape plan b (replies.Approaching j train) p at h = let s = move_shape plan j train p h in rw (s.0, s.1) refl
+reply_shape plan b (replies.Approaching train j) p at h = let s = move_shape plan j train p h in rw (s.0, s.1) refl
 reply_shape plan b (replies.TrainNotYet j) p at h = rw (number_read j h) refl
-reply_shape plan b (replies.Berthed j train) p at h = let s = move_shape plan j train p h in rw (s.0, s.1) refl
-reply_shape plan b (replies.PartBerthed j train) p at h = let s = move_shape plan j train p h in rw (s.0, s.1) refl
+reply_shape plan b (replies.Berthed train j) p at h = let s = move_shape plan j train p h in rw (s.0, s.1) refl
+reply_shape plan b (replies.PartBerthed train j) p at h = let s = move_shape plan j train p h in rw (s.0, s.1) refl
 reply_shape plan b (replies.NoTrainAt j) p at h = rw (number_read j h) refl
 reply_shape plan b (replies.BerthOccupied train) p at h = rw (train_read plan train p h) refl
 reply_shape plan b (replies.PortionAhead train) p at h = rw (train_read plan train p h) refl
-reply_shape plan b (replies.Cleared j train) p at h = let s = move_shape plan j train p h in rw (s.0, s.1) refl
+reply_shape plan b (replies.Cleared train j) p at h = let s = move_shape plan j train p h in rw (s.0, s.1) refl
 reply_shape plan b replies.NoPortion p at h = refl
 reply_shape plan b (replies.Winding ready_at) p at h = rw (ready_read plan ready_at h) refl
 reply_shape plan b replies.AlreadyWinding p at h = refl

@@ -116,7 +116,7 @@ pair_reply plan word other =
 
 -- replies of a word, a number and a code
 abbrev pub code_rows : ℕ → ℕ → List (List ℕ × Reply)
-code_rows k code = (codes "bell_busy", replies.BellBusy k code) ∷ (codes "heard", replies.Heard k code) ∷ []
+code_rows k code = (codes "bell_busy", replies.BellBusy code k) ∷ (codes "heard", replies.Heard code k) ∷ []
 
 -- a word, a number and a code
 abbrev pub code_reply : List ℕ → ℕ → ℕ → Option Reply
@@ -137,11 +137,11 @@ stand_reply word place train = row_named (stand_rows place train) word
 -- replies of a word, a number and a train
 abbrev pub train_rows : ℕ → ℕ → List (List ℕ × Reply)
 train_rows n train =
-    (codes "entered", replies.Entered n train)
-    ∷ (codes "approaching", replies.Approaching n train)
-    ∷ (codes "berthed", replies.Berthed n train)
-    ∷ (codes "part_berthed", replies.PartBerthed n train)
-    ∷ (codes "cleared", replies.Cleared n train)
+    (codes "entered", replies.Entered train n)
+    ∷ (codes "approaching", replies.Approaching train n)
+    ∷ (codes "berthed", replies.Berthed train n)
+    ∷ (codes "part_berthed", replies.PartBerthed train n)
+    ∷ (codes "cleared", replies.Cleared train n)
     ∷ []
 
 -- a word, a number and a train
@@ -161,8 +161,8 @@ bell_shown plan word = if bytes_eq word (codes "none") then Some None
 
 -- what an instrument or a bell shows after n turns or codes: a position, or else a code or none
 abbrev pub shown_reply : PlanFields → ℕ → List ℕ → Option Position → Option Reply
-shown_reply plan n word (Some position) = Some (replies.BlockNotYet n position)
-shown_reply plan n word None = option_map (λ shown. replies.BellNotYet n shown) (bell_shown plan word)
+shown_reply plan n word (Some position) = Some (replies.BlockNotYet position n)
+shown_reply plan n word None = option_map (λ shown. replies.BellNotYet shown n) (bell_shown plan word)
 
 -- three words: a number with a code, a position or a train, or a place with a train
 unfoldable pub triple_reply : PlanFields → ℕ → List ℕ → List ℕ → List ℕ → Option Reply
@@ -187,7 +187,7 @@ unfoldable pub instrument_reply : List ℕ → List ℕ → List ℕ → List �
 instrument_reply word way turns position spent =
     if bytes_eq word (codes "held_by_instrument") then
     way_named way and_then (λ w. number_of turns and_then (λ v. position_named position and_then (λ p.
-    option_map (λ s. replies.HeldByInstrument w v p s) (spent_named spent))))
+    option_map (λ s. replies.HeldByInstrument w p s v) (spent_named spent))))
     else None
 
 -- a reply by its first word and those behind it, if there are some

@@ -7,17 +7,17 @@ use Rattle.line_law.specs.declared.call.Reply.TheVariants as replies
 
 abbrev pub answers_ring : Reply → Bool
 answers_ring (replies.Rung k) = true
-answers_ring (replies.BellBusy k code) = true
+answers_ring (replies.BellBusy code k) = true
 answers_ring reply = false
 
 abbrev pub answers_hear : Reply → Bool
-answers_hear (replies.Heard k code) = true
+answers_hear (replies.Heard code k) = true
 answers_hear (replies.Silent k) = true
 answers_hear reply = false
 
 abbrev pub answers_await_bell : Reply → Bool
-answers_await_bell (replies.Heard k code) = true
-answers_await_bell (replies.BellNotYet k shown) = true
+answers_await_bell (replies.Heard code k) = true
+answers_await_bell (replies.BellNotYet shown k) = true
 answers_await_bell reply = false
 
 abbrev pub answers_turn : Reply → Bool
@@ -32,7 +32,7 @@ answers_turn reply = false
 
 abbrev pub answers_await_block : Reply → Bool
 answers_await_block (replies.Seen v) = true
-answers_await_block (replies.BlockNotYet v shown) = true
+answers_await_block (replies.BlockNotYet shown v) = true
 answers_await_block reply = false
 
 abbrev pub answers_pull : Reply → Bool
@@ -42,7 +42,7 @@ answers_pull replies.AlreadyReversed = true
 answers_pull replies.Spare = true
 answers_pull (replies.HeldByLever lever row) = true
 answers_pull (replies.HeldByTrack place train) = true
-answers_pull (replies.HeldByInstrument way v shown spent) = true
+answers_pull (replies.HeldByInstrument way shown spent v) = true
 answers_pull reply = false
 
 abbrev pub answers_put : Reply → Bool
@@ -61,7 +61,7 @@ answers_bring reply = false
 -- what a train may be answered at a signal, whether its arm is off or not
 abbrev pub answers_move : Reply → Bool
 answers_move (replies.Passed train) = true
-answers_move (replies.Entered k train) = true
+answers_move (replies.Entered train k) = true
 answers_move replies.NoTrain = true
 answers_move (replies.Occupied place train) = true
 answers_move (replies.SectionFull k) = true
@@ -76,7 +76,7 @@ answers_overrun replies.ArmOff = true
 answers_overrun reply = answers_move reply
 
 abbrev pub answers_await_train : Reply → Bool
-answers_await_train (replies.Approaching j train) = true
+answers_await_train (replies.Approaching train j) = true
 answers_await_train (replies.TrainNotYet j) = true
 answers_await_train reply = false
 
@@ -88,15 +88,15 @@ refuses_berth (replies.NoTrainAt j) = true
 refuses_berth reply = false
 
 abbrev pub answers_berth : Reply → Bool
-answers_berth (replies.Berthed j train) = true
+answers_berth (replies.Berthed train j) = true
 answers_berth reply = refuses_berth reply
 
 abbrev pub answers_berth_part : Reply → Bool
-answers_berth_part (replies.PartBerthed j train) = true
+answers_berth_part (replies.PartBerthed train j) = true
 answers_berth_part reply = refuses_berth reply
 
 abbrev pub answers_clear_portion : Reply → Bool
-answers_clear_portion (replies.Cleared j train) = true
+answers_clear_portion (replies.Cleared train j) = true
 answers_clear_portion replies.NoPortion = true
 answers_clear_portion reply = false
 

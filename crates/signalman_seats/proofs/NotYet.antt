@@ -45,10 +45,10 @@ use Rattle.box_desk.specs.Steps.{awaits_of}
 -- a call that was decided in its box alone isn't told so
 tally_ends : (reply : Reply) → kind_told reply ≡ Tally → is_not_yet reply ≡ false
 tally_ends (replies.Rung k) h = refl
-tally_ends (replies.BellBusy k code) h = refl
-tally_ends (replies.Heard k code) h = refl
+tally_ends (replies.BellBusy code k) h = refl
+tally_ends (replies.Heard code k) h = refl
 tally_ends (replies.Silent k) h = refl
-tally_ends (replies.BellNotYet k shown) h = absurd cc
+tally_ends (replies.BellNotYet shown k) h = absurd cc
 tally_ends (replies.Turned v) h = refl
 tally_ends replies.AlreadyThere h = refl
 tally_ends replies.NotFromNormal h = refl
@@ -57,33 +57,33 @@ tally_ends (replies.TrackOccupied place train) h = refl
 tally_ends (replies.WelwynHolds state) h = refl
 tally_ends (replies.CountFull out) h = refl
 tally_ends (replies.Seen v) h = refl
-tally_ends (replies.BlockNotYet v shown) h = absurd cc
+tally_ends (replies.BlockNotYet shown v) h = absurd cc
 tally_ends replies.Pulled h = refl
 tally_ends (replies.PulledUnder v) h = refl
 tally_ends replies.AlreadyReversed h = refl
 tally_ends replies.Spare h = refl
 tally_ends (replies.HeldByLever lever row) h = refl
 tally_ends (replies.HeldByTrack place train) h = refl
-tally_ends (replies.HeldByInstrument way v shown spent) h = refl
+tally_ends (replies.HeldByInstrument way shown spent v) h = refl
 tally_ends replies.Put h = refl
 tally_ends replies.AlreadyNormal h = refl
 tally_ends replies.Brought h = refl
 tally_ends replies.AlreadyBrought h = refl
 tally_ends (replies.Occupied place train) h = refl
 tally_ends (replies.Passed train) h = refl
-tally_ends (replies.Entered k train) h = refl
+tally_ends (replies.Entered train k) h = refl
 tally_ends replies.NoTrain h = refl
 tally_ends replies.AtDanger h = refl
 tally_ends replies.ArmOff h = refl
 tally_ends (replies.SectionFull k) h = refl
-tally_ends (replies.Approaching j train) h = refl
+tally_ends (replies.Approaching train j) h = refl
 tally_ends (replies.TrainNotYet j) h = absurd cc
-tally_ends (replies.Berthed j train) h = refl
-tally_ends (replies.PartBerthed j train) h = refl
+tally_ends (replies.Berthed train j) h = refl
+tally_ends (replies.PartBerthed train j) h = refl
 tally_ends (replies.NoTrainAt j) h = refl
 tally_ends (replies.BerthOccupied train) h = refl
 tally_ends (replies.PortionAhead train) h = refl
-tally_ends (replies.Cleared j train) h = refl
+tally_ends (replies.Cleared train j) h = refl
 tally_ends replies.NoPortion h = refl
 tally_ends (replies.Winding ready_at) h = refl
 tally_ends replies.AlreadyWinding h = refl
@@ -144,9 +144,9 @@ bell_missed : (here : BoxState) (code count : ℕ) (u : Option ℕ) → 0 < code
 bell_missed here code count None some fits e = ap (λ (c : ℕ). c == code) (bell_code-bell_word count 0 (omega arith))
     ∙ eqb_no 0 code (λ z. omega arith)
 bell_missed here code count (Some held) some fits e = ap (λ (c : ℕ). c == code) (bell_code-bell_word count held fits.1)
-    ∙ by_test {W = Bell} (held == code) (record { reply = replies.Heard count held; here = here; word = silent count })
+    ∙ by_test {W = Bell} (held == code) (record { reply = replies.Heard held count; here = here; word = silent count })
     (record {
-      reply = replies.BellNotYet count (Some held);
+      reply = replies.BellNotYet (Some held) count;
       here = here;
       word = record
           { count = count; unheard = Some held };
@@ -217,7 +217,7 @@ not_yet_missed plan box_plan act here d pair (AwaitsBlock way p) tells coded agr
             reply = replies.Seen block.turns;
             here = here;
             word = block;
-          }) (record { reply = replies.BlockNotYet block.turns block.position; here = here; word = block })
+          }) (record { reply = replies.BlockNotYet block.position block.turns; here = here; word = block })
           refl e;
     }
 not_yet_missed plan box_plan act here d pair (Pulls lever is free) tells coded agrees e = absurd cc

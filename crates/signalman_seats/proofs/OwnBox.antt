@@ -53,8 +53,8 @@ count_of reply = 0
 
 -- the train that a reply tells
 abbrev train_of : Reply → ℕ
-train_of (replies.Berthed j train) = train
-train_of (replies.PartBerthed j train) = train
+train_of (replies.Berthed train j) = train
+train_of (replies.PartBerthed train j) = train
 train_of reply = 0
 
 rung_one : (here : BoxState) (side : Way) (code : ℕ) (k m : ℕ) (u v : Option ℕ)

@@ -140,19 +140,19 @@ awaited_told : (here : BoxState) (code count : ℕ) (u : Option ℕ)
     → IsRefusedBy (await_bell_refusal code count u) (awaited here code count u).reply
 awaited_told here code count None = refl
 awaited_told here code count (Some held) = by_test {W = Bell} (held == code)
-    (replies.BellNotYet count (Some held)) _ _ refl refl
+    (replies.BellNotYet (Some held) count) _ _ refl refl
 
 -- ---- instruments
 
 seen_told : (here : BoxState) (position : Position) (block : Block)
     → IsRefusedBy (await_block_refusal position block) (await_block here position block).reply
 seen_told here position block = by_test {W = Block} (same_position block.position position)
-    (replies.BlockNotYet block.turns block.position) _ _ refl refl
+    (replies.BlockNotYet block.position block.turns) _ _ refl refl
 
 pulled_told : (here after : BoxState) (way : Way) (block : Block)
     → IsRefusedBy (starter_refusal way block) (pulled_under here after way block).reply
 pulled_told here after way block = by_test {W = Block} (is_unspent_clear block)
-    (replies.HeldByInstrument way block.turns block.position block.spent) _ _ refl refl
+    (replies.HeldByInstrument way block.position block.spent block.turns) _ _ refl refl
 
 -- ---- plain lines
 

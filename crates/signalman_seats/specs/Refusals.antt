@@ -36,7 +36,7 @@ block_of word = record { turns = block_turns word; position = block_position wor
 -- a ring, where a code stands unheard
 abbrev pub ring_refusal : ℕ → Option ℕ → Option Reply
 ring_refusal k None = None
-ring_refusal k (Some code) = Some (BellBusy k code)
+ring_refusal k (Some code) = Some (BellBusy code k)
 
 -- hearing, where none does
 abbrev pub hear_refusal : ℕ → Option ℕ → Option Reply
@@ -45,19 +45,19 @@ hear_refusal k (Some code) = None
 
 -- an await of a code, where another code or none stands unheard
 abbrev pub await_bell_refusal : ℕ → ℕ → Option ℕ → Option Reply
-await_bell_refusal code k None = Some (BellNotYet k None)
-await_bell_refusal code k (Some unheard) = if unheard == code then None else Some (BellNotYet k (Some unheard))
+await_bell_refusal code k None = Some (BellNotYet None k)
+await_bell_refusal code k (Some unheard) = if unheard == code then None else Some (BellNotYet (Some unheard) k)
 
 -- an await of a position, where the instrument shows another
 abbrev pub await_block_refusal : Position → Block → Option Reply
 await_block_refusal position block =
-    if same_position block.position position then None else Some (BlockNotYet block.turns block.position)
+    if same_position block.position position then None else Some (BlockNotYet block.position block.turns)
 
 -- a starter's pull, where its instrument isn't at Line Clear unspent
 abbrev pub starter_refusal : Way → Block → Option Reply
 starter_refusal way block =
     if is_unspent_clear block then None
-    else Some (HeldByInstrument way block.turns block.position block.spent)
+    else Some (HeldByInstrument way block.position block.spent block.turns)
 
 -- train k at a starter, where its lane is taken
 abbrev pub enter_refusal : ℕ → ℕ → Option Reply
@@ -92,11 +92,11 @@ word_refusal box_plan act here word = None
 
 -- a refusal that a word gives
 abbrev pub is_of_word : Reply → Bool
-is_of_word (BellBusy k code) = true
+is_of_word (BellBusy code k) = true
 is_of_word (Silent k) = true
-is_of_word (BellNotYet k shown) = true
-is_of_word (BlockNotYet v shown) = true
-is_of_word (HeldByInstrument way v shown spent) = true
+is_of_word (BellNotYet shown k) = true
+is_of_word (BlockNotYet shown v) = true
+is_of_word (HeldByInstrument way shown spent v) = true
 is_of_word (SectionFull k) = true
 is_of_word (TrainNotYet j) = true
 is_of_word (NoTrainAt j) = true

@@ -331,7 +331,7 @@ Lowers lever act told =
 
 not_moved : (reply : Reply) → IsTrue (is_refused_here reply) → IsTrue (tells_moved reply) → ⊥
 not_moved (replies.Passed train) h k = absurd cc
-not_moved (replies.Entered k train) h m = absurd cc
+not_moved (replies.Entered train k) h m = absurd cc
 not_moved reply h k = absurd cc
 
 moves_of : (here : BoxState) (n lever : ℕ) (signal : Signal) (act : Act) → Moves here n signal act

@@ -72,12 +72,12 @@ abbrev IsFair : PlanFields → Section → ℕ → ℕ → Act → Reply → Typ
 IsFair plan section b moment act reply = spoils plan section (record { box_no = b; call = record { moment = moment; act = act }; reply = reply }) ≡ false
 
 no_overrun : (plan : PlanFields) (section : Section) (moment lever k train : ℕ) → starter_way (signal_of (box_plan_of plan section.rear) lever) ≡ Some section.way
-    → IsFair plan section section.rear moment (acts.Overrun lever) (replies.Entered k train) → ⊥
+    → IsFair plan section section.rear moment (acts.Overrun lever) (replies.Entered train k) → ⊥
 no_overrun plan section moment lever k train starts fair =
     over_clash (section.rear == section.rear) (is_overrun plan section (acts.Overrun lever)) ((section.rear == advance_of section) && ((false && false) || (false && false))) (eqb_refl section.rear)
     (is_way_of section.way (starter_way (signal_of (box_plan_of plan section.rear) lever)) starts) fair
 
-no_parting : (plan : PlanFields) (section : Section) (moment j train : ℕ) → IsFair plan section (advance_of section) moment (acts.BerthPart section.way) (replies.PartBerthed j train) → ⊥
+no_parting : (plan : PlanFields) (section : Section) (moment j train : ℕ) → IsFair plan section (advance_of section) moment (acts.BerthPart section.way) (replies.PartBerthed train j) → ⊥
 no_parting plan section moment j train fair =
     part_clash ((advance_of section == section.rear) && (false && false)) (advance_of section == advance_of section) (same_way section.way section.way) (eqb_refl (advance_of section)) (same_way_refl section.way) fair
 

@@ -254,7 +254,7 @@ berthed_guarded starter berth w rear here k t free g =
     came_guarded (next_train here w t) starter berth w rear here k t (next_number here w) refl (not_portion (of_way here.incoming w).portion (train_on here.places berth.place) free) g
 
 -- a train comes in part: only where it isn't there
-not_parted : (next : Option ℕ) (N : Reply → Type 0) (starter : Option Signal) (berth : Option Berth) (w way : Way) (rear here : BoxState) (place j : ℕ) (k : Block) (t : List Passage) → ((j train : ℕ) → N (replies.PartBerthed j train) → ⊥)
+not_parted : (next : Option ℕ) (N : Reply → Type 0) (starter : Option Signal) (berth : Option Berth) (w way : Way) (rear here : BoxState) (place j : ℕ) (k : Block) (t : List Passage) → ((j train : ℕ) → N (replies.PartBerthed train j) → ⊥)
     → IsGuarded starter berth w rear here k t → N (train_parted next here way place j t).reply
     → IsGuarded starter berth w rear (train_parted next here way place j t).here k (train_parted next here way place j t).word
 not_parted None N starter berth w way rear here place j k t clean g = λ n. g
@@ -302,7 +302,7 @@ out_not_in v w e = cc
 -- a call of the box in advance on its incoming line keeps the section guarded, where no train comes in part and nothing is released
 pub advance_guarded : (plan : PlanFields) (b : ℕ) (w : Way) (starter : Option Signal) (N : Act → Reply → Type 0) (rear here : BoxState) (l : Bell) (k : Block) (t : List Passage) (act : Act) (d : Decision)
     → IsPlan plan → IsBox (length plan.boxes) b (box_at plan.boxes b) → IsTrue (knows_act plan b act)
-    → ((j train : ℕ) → N (acts.BerthPart w) (replies.PartBerthed j train) → ⊥) → (N (acts.Release w) replies.Released → ⊥)
+    → ((j train : ℕ) → N (acts.BerthPart w) (replies.PartBerthed train j) → ⊥) → (N (acts.Release w) replies.Released → ⊥)
     → Outcome plan (box_at plan.boxes b) here act d → link_of (box_at plan.boxes b) act ≡ Link.In w → IsGuarded starter (berth_of (box_at plan.boxes b) w) w rear here k t
     → ThenOwn d (λ reply h l k t. N act reply → IsGuarded starter (berth_of (box_at plan.boxes b) w) w rear h k t) l k t
 advance_guarded plan b w starter N rear here l k t a d sound is known parts releases (Refused act reply refused) line g = λ n. g
@@ -346,7 +346,7 @@ advance_guarded plan b w starter N rear here l k t a d sound is known parts rele
 advance_guarded plan b w starter N rear here l k t a d sound is known parts releases (Parts way berth at free) line g =
     let same : way ≡ w = in_is way w line in
     not_parted (next_train here way t) (N (acts.BerthPart way)) starter _ w way rear here berth.place (next_number here way) k t
-    (λ j train n. parts j train (subst (λ (v : Way). N (acts.BerthPart v) (replies.PartBerthed j train)) same n)) g
+    (λ j train n. parts j train (subst (λ (v : Way). N (acts.BerthPart v) (replies.PartBerthed train j)) same n)) g
 advance_guarded plan b w starter N rear here l k t a d sound is known parts releases (Clears way free) line g =
     let same : way ≡ w = in_is way w line in
     λ n. subst (λ (v : Way). IsGuarded starter (berth_of (box_at plan.boxes b) w) w rear (cleared here v t).here k (cleared here v t).word) (sym same)

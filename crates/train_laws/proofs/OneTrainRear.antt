@@ -137,7 +137,7 @@ entered_guarded false s berth w way box_plan here advance train k t full off g =
 
 -- a train overruns the starter: it doesn't enter
 kept_out : (full : Bool) (N : Reply → Type 0) (starter : Option Signal) (berth : Option Berth) (w way : Way) (here left advance : BoxState) (train : ℕ) (k : Block) (t : List Passage)
-    → holds t (of_way here.sent way + 1) ≡ full → (N (replies.Entered (of_way here.sent way + 1) train) → ⊥) → IsGuarded starter berth w here advance k t
+    → holds t (of_way here.sent way + 1) ≡ full → (N (replies.Entered train (of_way here.sent way + 1)) → ⊥) → IsGuarded starter berth w here advance k t
     → N (enter here left way train t).reply → IsGuarded starter berth w (enter here left way train t).here advance k (enter here left way train t).word
 kept_out true N starter berth w way here left advance train k t full clean g = rw full (λ n. g)
 kept_out false N starter berth w way here left advance train k t full clean g = rw full (λ n. absurd (clean n))
@@ -147,7 +147,7 @@ pub starter_line : (box_plan : BoxFields) (lever : ℕ) (signal : Signal) (way :
 starter_line box_plan lever signal way found to = ap starter_way found ∙ ap way_to to
 
 enters_guarded : (act : Act) (N : Act → Reply → Type 0) (boxes b : ℕ) (box_plan : BoxFields) (w way : Way) (berth : Option Berth) (here advance : BoxState) (k : Block) (t : List Passage) (lever train : ℕ) (signal : Signal)
-    → IsBox boxes b box_plan → ((lever k train : ℕ) → starter_way (signal_of box_plan lever) ≡ Some w → N (acts.Overrun lever) (replies.Entered k train) → ⊥)
+    → IsBox boxes b box_plan → ((lever k train : ℕ) → starter_way (signal_of box_plan lever) ≡ Some w → N (acts.Overrun lever) (replies.Entered train k) → ⊥)
     → signal_of box_plan lever ≡ Some signal → signal.to ≡ leads.Section way → way ≡ w → Moves here lever signal act → IsGuarded (starter_of box_plan w) berth w here advance k t
     → N act (enter here (left_by box_plan here signal) way train t).reply
     → IsGuarded (starter_of box_plan w) berth w (enter here (left_by box_plan here signal) way train t).here advance k (enter here (left_by box_plan here signal) way train t).word
@@ -175,7 +175,7 @@ in_not_out v w e = cc
 
 -- a call of the rear box on its outgoing line keeps the section guarded, where it is no overrun into the section
 pub rear_guarded : (plan : PlanFields) (boxes b : ℕ) (box_plan : BoxFields) (w : Way) (berth : Option Berth) (N : Act → Reply → Type 0) (here advance : BoxState) (l : Bell) (k : Block) (t : List Passage) (act : Act) (d : Decision)
-    → IsBox boxes b box_plan → ((lever k train : ℕ) → starter_way (signal_of box_plan lever) ≡ Some w → N (acts.Overrun lever) (replies.Entered k train) → ⊥)
+    → IsBox boxes b box_plan → ((lever k train : ℕ) → starter_way (signal_of box_plan lever) ≡ Some w → N (acts.Overrun lever) (replies.Entered train k) → ⊥)
     → Outcome plan box_plan here act d → link_of box_plan act ≡ Link.Out w → IsGuarded (starter_of box_plan w) berth w here advance k t
     → ThenOwn d (λ reply h l k t. N act reply → IsGuarded (starter_of box_plan w) berth w h advance k t) l k t
 rear_guarded plan boxes b box_plan w berth N here advance l k t a d is clean (Refused act reply refused) line g = λ n. g

@@ -172,7 +172,7 @@ at_instrument : (plan : PlanFields) (state : LineState) (b lever : ℕ) (way : W
     → instrument_at state b way ≡ block → is_unspent_clear block ≡ ok
     → IsPullTold plan state b lever
     (cond ok (replies.PulledUnder block.turns)
-    (replies.HeldByInstrument way block.turns block.position block.spent))
+    (replies.HeldByInstrument way block.position block.spent block.turns))
 at_instrument plan state b lever way block true here after frame tracks starter stood is =
     let clear = clear_is block is in
     let same : block ≡ record { turns = block.turns; position = shows.LineClear; spent = false } =

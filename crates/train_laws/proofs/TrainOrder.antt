@@ -100,7 +100,7 @@ abbrev comes_on : PlanFields → Section → Act → Reply → List Passage
 comes_on plan x act reply = cond (is_entering plan x act) (train_entered reply) []
 
 refused_none : (reply : Reply) → IsTrue (is_refused_here reply) → train_entered reply ≡ []
-refused_none (replies.Entered k train) h = absurd cc
+refused_none (replies.Entered train k) h = absurd cc
 refused_none reply h = refl
 
 -- the plain line grew by these, numbered on from the trains sent
@@ -302,8 +302,8 @@ abbrev goes_off : Section → Act → Reply → List Passage
 goes_off x act reply = cond (is_leaving x act) (train_left reply) []
 
 refused_leaves : (reply : Reply) → IsTrue (is_refused_here reply) → train_left reply ≡ []
-refused_leaves (replies.Berthed j train) h = absurd cc
-refused_leaves (replies.Cleared j train) h = absurd cc
+refused_leaves (replies.Berthed train j) h = absurd cc
+refused_leaves (replies.Cleared train j) h = absurd cc
 refused_leaves reply h = refl
 
 not_moving : (x : Section) (here : BoxState) (n : ℕ) (signal : Signal) (act : Act) (xs : List Passage)
@@ -670,7 +670,7 @@ entered_there plan x k train e (f ∷ es) enters there = by_cases (head_or_tail 
       by_cases (inr later) rec =
           Contains-append_right (entering plan x f) (trains_entered plan x es) (numbered_train k train) (rec later)
 
-left_reply : (k train : ℕ) (reply : Reply) → (reply ≡ replies.Berthed k train) ⊎ (reply ≡ replies.Cleared k train)
+left_reply : (k train : ℕ) (reply : Reply) → (reply ≡ replies.Berthed train k) ⊎ (reply ≡ replies.Cleared train k)
     → train_left reply ≡ numbered_train k train ∷ []
 left_reply k train reply (inl e) = ap (λ (r : Reply). train_left r) e
 left_reply k train reply (inr e) = ap (λ (r : Reply). train_left r) e

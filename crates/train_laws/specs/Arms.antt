@@ -26,7 +26,7 @@ moves_past lever act = false
 -- the train went past the signal
 abbrev pub tells_moved : Reply → Bool
 tells_moved (replies.Passed train) = true
-tells_moved (replies.Entered k train) = true
+tells_moved (replies.Entered train k) = true
 tells_moved reply = false
 
 -- a train passed or overran the signal of box b's lever

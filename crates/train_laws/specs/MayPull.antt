@@ -106,7 +106,7 @@ PullSays plan state b lever (replies.HeldByLever other row) =
 PullSays plan state b lever (replies.HeldByTrack place train) =
     FrameAllows (box_plan_of plan b) (box_at state b) lever
     × IsFirstOccupied (box_at state b) (track_of (box_plan_of plan b) lever) place train
-PullSays plan state b lever (replies.HeldByInstrument way v shown spent) =
+PullSays plan state b lever (replies.HeldByInstrument way shown spent v) =
     MeetsInstrument plan state b lever way (record { turns = v; position = shown; spent = spent })
     × ¬ IsClearUnspent (record { turns = v; position = shown; spent = spent })
 PullSays plan state b lever reply = ⊥

@@ -26,13 +26,13 @@ is_leaving section act = false
 
 -- the train that entered, with its number, if one did
 abbrev pub train_entered : Reply → List Passage
-train_entered (replies.Entered k train) = record { number = k; train = train } ∷ []
+train_entered (replies.Entered train k) = record { number = k; train = train } ∷ []
 train_entered reply = []
 
 -- the train that left, with its number, if one did
 abbrev pub train_left : Reply → List Passage
-train_left (replies.Berthed j train) = record { number = j; train = train } ∷ []
-train_left (replies.Cleared j train) = record { number = j; train = train } ∷ []
+train_left (replies.Berthed train j) = record { number = j; train = train } ∷ []
+train_left (replies.Cleared train j) = record { number = j; train = train } ∷ []
 train_left reply = []
 
 -- the train that an entry brings onto the section's plain line, if it brings one
@@ -58,10 +58,10 @@ trains_left section (e ∷ es) = leaving section e ++ trains_left section es
 pub record EntersAs (plan : PlanFields) (section : Section) (k train : ℕ) (e : Entry) : Type 0 where
   pub box : e.box_no ≡ section.rear
   pub act : IsTrue (is_entering plan section e.call.act)
-  pub reply : e.reply ≡ replies.Entered k train
+  pub reply : e.reply ≡ replies.Entered train k
 
 -- the k-th train left the section's plain line: it came whole into the berth, or its portion was cleared away
 pub record LeavesAs (section : Section) (k train : ℕ) (e : Entry) : Type 0 where
   pub box : e.box_no ≡ advance_of section
   pub act : IsTrue (is_leaving section e.call.act)
-  pub reply : (e.reply ≡ replies.Berthed k train) ⊎ (e.reply ≡ replies.Cleared k train)
+  pub reply : (e.reply ≡ replies.Berthed train k) ⊎ (e.reply ≡ replies.Cleared train k)

@@ -75,7 +75,7 @@ if_keeps plan false x y h g = g
 awaited_keeps : (plan : PlanFields) (here : BoxState) (code count : ℕ) (u : Option ℕ) → IfSome u (IsCode plan) → IfSome (awaited here code count u).word.unheard (IsCode plan)
 awaited_keeps plan here code count None h = tt
 awaited_keeps plan here code count (Some held) h =
-    if_keeps plan (held == code) (record { reply = replies.Heard count held; here = here; word = silent count }) (record { reply = replies.BellNotYet count (Some held); here = here; word = record { count = count; unheard = Some held } }) tt h
+    if_keeps plan (held == code) (record { reply = replies.Heard held count; here = here; word = silent count }) (record { reply = replies.BellNotYet (Some held) count; here = here; word = record { count = count; unheard = Some held } }) tt h
 
 code_keeps : (plan : PlanFields) (b : ℕ) (box_plan : BoxFields) (act : Act) (here : BoxState) (d : Decision) → IsTrue (knows_act plan b act) → Outcome plan box_plan here act d → KeepsCode plan d
 code_keeps plan b box_plan act here d known (Refused a reply refused) = tt

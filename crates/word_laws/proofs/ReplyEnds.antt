@@ -113,32 +113,32 @@ in_line way f (ClearsAway here) w = cleared_in (next_train here way w) here way 
 
 -- a reply of the tally is at any end
 tally_out : (r : Reply) → kind_told r ≡ Tally → IsOutReply r
-tally_out (replies.Heard k code) e = absurd cc
+tally_out (replies.Heard code k) e = absurd cc
 tally_out (replies.Silent k) e = absurd cc
-tally_out (replies.BellNotYet k shown) e = absurd cc
+tally_out (replies.BellNotYet shown k) e = absurd cc
 tally_out (replies.Turned v) e = absurd cc
-tally_out (replies.Approaching j train) e = absurd cc
+tally_out (replies.Approaching train j) e = absurd cc
 tally_out (replies.TrainNotYet j) e = absurd cc
-tally_out (replies.Berthed j train) e = absurd cc
-tally_out (replies.PartBerthed j train) e = absurd cc
+tally_out (replies.Berthed train j) e = absurd cc
+tally_out (replies.PartBerthed train j) e = absurd cc
 tally_out (replies.NoTrainAt j) e = absurd cc
-tally_out (replies.Cleared j train) e = absurd cc
-tally_out (replies.Entered k train) e = absurd cc
+tally_out (replies.Cleared train j) e = absurd cc
+tally_out (replies.Entered train k) e = absurd cc
 tally_out reply e = tt
 
 tally_in : (r : Reply) → kind_told r ≡ Tally → IsInReply r
 tally_in (replies.Rung k) e = absurd cc
-tally_in (replies.BellBusy k code) e = absurd cc
+tally_in (replies.BellBusy code k) e = absurd cc
 tally_in (replies.Seen v) e = absurd cc
-tally_in (replies.BlockNotYet v shown) e = absurd cc
+tally_in (replies.BlockNotYet shown v) e = absurd cc
 tally_in (replies.PulledUnder v) e = absurd cc
-tally_in (replies.HeldByInstrument way v shown spent) e = absurd cc
-tally_in (replies.Entered k train) e = absurd cc
+tally_in (replies.HeldByInstrument way shown spent v) e = absurd cc
+tally_in (replies.Entered train k) e = absurd cc
 tally_in (replies.SectionFull k) e = absurd cc
 tally_in (replies.TrainNotYet j) e = absurd cc
 tally_in (replies.NoTrainAt j) e = absurd cc
-tally_in (replies.Berthed j train) e = absurd cc
-tally_in (replies.Cleared j train) e = absurd cc
+tally_in (replies.Berthed train j) e = absurd cc
+tally_in (replies.Cleared train j) e = absurd cc
 tally_in reply e = tt
 
 -- a reply is told at the end at which its call was decided

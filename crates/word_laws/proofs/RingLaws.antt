@@ -57,7 +57,7 @@ await_passes : (here : BoxState) (side : Way) (code count : ℕ) (unheard : Opti
 await_passes here side code count None = record { bell = record { codes = refl; count = omega arith }; told = refl }
 await_passes here side code count (Some held) = go (eqb held code) where
   outcome : Bool → Told Bell
-  outcome b = cond b (record { reply = Heard count held; here = here; word = silent count }) (record { reply = BellNotYet count (Some held); here = here; word = record { count = count; unheard = Some held } })
+  outcome b = cond b (record { reply = Heard held count; here = here; word = silent count }) (record { reply = BellNotYet (Some held) count; here = here; word = record { count = count; unheard = Some held } })
 
   go : (b : Bool) → PassesTold (AwaitBell side code) (record { count = count; unheard = Some held }) (outcome b)
   go true = record { bell = record { codes = refl; count = omega arith }; told = refl }

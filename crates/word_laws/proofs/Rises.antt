@@ -119,8 +119,8 @@ if_rises here before after false x y h g = g
 awaited_rises : (here : BoxState) (code count : ℕ) (u : Option ℕ) → (count ≤ (awaited here code count u).word.count) × BoxRises here (awaited here code count u).here
 awaited_rises here code count None = (omega arith, same_box here)
 awaited_rises here code count (Some held) =
-    if_rises {W = Bell} here count (λ (b : Bell). b.count) (held == code) (record { reply = replies.Heard count held; here = here; word = silent count })
-    (record { reply = replies.BellNotYet count (Some held); here = here; word = record { count = count; unheard = Some held } }) (omega arith, same_box here) (omega arith, same_box here)
+    if_rises {W = Bell} here count (λ (b : Bell). b.count) (held == code) (record { reply = replies.Heard held count; here = here; word = silent count })
+    (record { reply = replies.BellNotYet (Some held) count; here = here; word = record { count = count; unheard = Some held } }) (omega arith, same_box here) (omega arith, same_box here)
 
 turned_rises : (here : BoxState) (way : Way) (p : Position) (block : Block) → (block.turns ≤ (turned here way p block).word.turns) × BoxRises here (turned here way p block).here
 turned_rises here way p block = (omega arith, record { sent = λ w. omega arith; taken = line_rises here way (line_turned (of_way here.incoming way) p (block.turns + 1)) (turned_taken (of_way here.incoming way) p (block.turns + 1)) })
@@ -128,12 +128,12 @@ turned_rises here way p block = (omega arith, record { sent = λ w. omega arith;
 seen_rises : (here : BoxState) (p : Position) (block : Block) → (block.turns ≤ (await_block here p block).word.turns) × BoxRises here (await_block here p block).here
 seen_rises here p block =
     if_rises {W = Block} here block.turns (λ (b : Block). b.turns) (same_position block.position p) (record { reply = replies.Seen block.turns; here = here; word = block })
-    (record { reply = replies.BlockNotYet block.turns block.position; here = here; word = block }) (omega arith, same_box here) (omega arith, same_box here)
+    (record { reply = replies.BlockNotYet block.position block.turns; here = here; word = block }) (omega arith, same_box here) (omega arith, same_box here)
 
 under_rises : (here after : BoxState) (way : Way) (block : Block) → BoxRises here after → (block.turns ≤ (pulled_under here after way block).word.turns) × BoxRises here (pulled_under here after way block).here
 under_rises here after way block h =
     if_rises {W = Block} here block.turns (λ (b : Block). b.turns) (is_unspent_clear block) (record { reply = replies.PulledUnder block.turns; here = after; word = record block { spent = true } })
-    (record { reply = replies.HeldByInstrument way block.turns block.position block.spent; here = here; word = record block { spent = true } }) (omega arith, h) (omega arith, same_box here)
+    (record { reply = replies.HeldByInstrument way block.position block.spent block.turns; here = here; word = record block { spent = true } }) (omega arith, h) (omega arith, same_box here)
 
 either_rises : (here : BoxState) (b : Bool) (x y : Told (List Passage)) → BoxRises here x.here → BoxRises here y.here → BoxRises here (if b then x else y).here
 either_rises here true x y h g = h
@@ -143,7 +143,7 @@ enter_rises : (box_plan : BoxFields) (here : BoxState) (signal : Signal) (way : 
 enter_rises box_plan here signal way train line =
     let left = left_rises box_plan here signal in
     either_rises here (holds line (of_way here.sent way + 1)) (record { reply = replies.SectionFull (of_way here.sent way + 1); here = here; word = line })
-    (record { reply = replies.Entered (of_way here.sent way + 1) train; here = record (left_by box_plan here signal) { sent = with_way here.sent way (of_way here.sent way + 1) }; word = line ++ record { number = of_way here.sent way + 1; train = train } ∷ [] })
+    (record { reply = replies.Entered train (of_way here.sent way + 1); here = record (left_by box_plan here signal) { sent = with_way here.sent way (of_way here.sent way + 1) }; word = line ++ record { number = of_way here.sent way + 1; train = train } ∷ [] })
     (same_box here)
     (record { sent = λ w. higher here.sent way w (of_way here.sent way + 1) (omega arith); taken = left.taken })
 

@@ -69,8 +69,8 @@ heard_counts here count (Some code) = record { was = refl; is = refl }
 awaited_counts : (here : BoxState) (code count : ℕ) (u : Option ℕ) → Counts count (λ (t : Told Bell). t.word.count) (awaited here code count u)
 awaited_counts here code count None = record { was = refl; is = refl }
 awaited_counts here code count (Some held) =
-    if_counts {W = Bell} count (λ (t : Told Bell). t.word.count) (held == code) (record { reply = replies.Heard count held; here = here; word = silent count })
-    (record { reply = replies.BellNotYet count (Some held); here = here; word = record { count = count; unheard = Some held } }) (record { was = refl; is = refl }) (record { was = refl; is = refl })
+    if_counts {W = Bell} count (λ (t : Told Bell). t.word.count) (held == code) (record { reply = replies.Heard held count; here = here; word = silent count })
+    (record { reply = replies.BellNotYet (Some held) count; here = here; word = record { count = count; unheard = Some held } }) (record { was = refl; is = refl }) (record { was = refl; is = refl })
 
 -- ---- instruments
 
@@ -80,12 +80,12 @@ turned_counts here way p block = record { was = omega arith; is = refl }
 seen_counts : (here : BoxState) (p : Position) (block : Block) → Counts block.turns (λ (t : Told Block). t.word.turns) (await_block here p block)
 seen_counts here p block =
     if_counts {W = Block} block.turns (λ (t : Told Block). t.word.turns) (same_position block.position p) (record { reply = replies.Seen block.turns; here = here; word = block })
-    (record { reply = replies.BlockNotYet block.turns block.position; here = here; word = block }) (record { was = refl; is = refl }) (record { was = refl; is = refl })
+    (record { reply = replies.BlockNotYet block.position block.turns; here = here; word = block }) (record { was = refl; is = refl }) (record { was = refl; is = refl })
 
 pulled_counts : (here after : BoxState) (way : Way) (block : Block) → Counts block.turns (λ (t : Told Block). t.word.turns) (pulled_under here after way block)
 pulled_counts here after way block =
     if_counts {W = Block} block.turns (λ (t : Told Block). t.word.turns) (is_unspent_clear block) (record { reply = replies.PulledUnder block.turns; here = after; word = record block { spent = true } })
-    (record { reply = replies.HeldByInstrument way block.turns block.position block.spent; here = here; word = record block { spent = true } }) (record { was = refl; is = refl }) (record { was = refl; is = refl })
+    (record { reply = replies.HeldByInstrument way block.position block.spent block.turns; here = here; word = record block { spent = true } }) (record { was = refl; is = refl }) (record { was = refl; is = refl })
 
 -- ---- plain lines
 
@@ -94,7 +94,7 @@ enter_counts here left way train line = by (holds line (of_way here.sent way + 1
   by : (b : Bool) → Counts (of_way here.sent way) (λ (t : Told (List Passage)). of_way t.here.sent way)
       (if b
       then record { reply = replies.SectionFull (of_way here.sent way + 1); here = here; word = line }
-      else record { reply = replies.Entered (of_way here.sent way + 1) train; here = record left { sent = with_way left.sent way (of_way here.sent way + 1) }; word = line ++ record { number = of_way here.sent way + 1; train = train } ∷ [] })
+      else record { reply = replies.Entered train (of_way here.sent way + 1); here = record left { sent = with_way left.sent way (of_way here.sent way + 1) }; word = line ++ record { number = of_way here.sent way + 1; train = train } ∷ [] })
   by true = record { was = omega arith; is = omega arith }
   by false = record { was = omega arith; is = sym (of_way-with left.sent way (of_way here.sent way + 1)) }
 
@@ -155,23 +155,23 @@ call_counts plan box_plan act here d (Releases way free) = tt
 -- a reply that tells of no word tells no count
 no_count : (reply : Reply) → kind_told reply ≡ Tally → (count_before reply ≡ 0) × (count_after reply ≡ 0)
 no_count (replies.Rung k) h = absurd cc
-no_count (replies.BellBusy k code) h = absurd cc
-no_count (replies.Heard k code) h = absurd cc
+no_count (replies.BellBusy code k) h = absurd cc
+no_count (replies.Heard code k) h = absurd cc
 no_count (replies.Silent k) h = absurd cc
-no_count (replies.BellNotYet k shown) h = absurd cc
+no_count (replies.BellNotYet shown k) h = absurd cc
 no_count (replies.Turned v) h = absurd cc
 no_count (replies.Seen v) h = absurd cc
-no_count (replies.BlockNotYet v shown) h = absurd cc
+no_count (replies.BlockNotYet shown v) h = absurd cc
 no_count (replies.PulledUnder v) h = absurd cc
-no_count (replies.HeldByInstrument way v shown spent) h = absurd cc
-no_count (replies.Entered k train) h = absurd cc
+no_count (replies.HeldByInstrument way shown spent v) h = absurd cc
+no_count (replies.Entered train k) h = absurd cc
 no_count (replies.SectionFull k) h = absurd cc
-no_count (replies.Approaching j train) h = absurd cc
+no_count (replies.Approaching train j) h = absurd cc
 no_count (replies.TrainNotYet j) h = absurd cc
-no_count (replies.Berthed j train) h = absurd cc
-no_count (replies.PartBerthed j train) h = absurd cc
+no_count (replies.Berthed train j) h = absurd cc
+no_count (replies.PartBerthed train j) h = absurd cc
 no_count (replies.NoTrainAt j) h = absurd cc
-no_count (replies.Cleared j train) h = absurd cc
+no_count (replies.Cleared train j) h = absurd cc
 no_count reply h = (refl, refl)
 
 -- what the reply tells of the counts, in the pair

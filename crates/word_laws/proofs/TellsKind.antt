@@ -206,7 +206,7 @@ if_tells kind false x y h g = g
 awaited_tells : (here : BoxState) (code count : ℕ) (u : Option ℕ) → kind_told (awaited here code count u).reply ≡ BellWord
 awaited_tells here code count None = refl
 awaited_tells here code count (Some held) =
-    if_tells {W = Bell} BellWord (held == code) (record { reply = replies.Heard count held; here = here; word = silent count }) (record { reply = replies.BellNotYet count (Some held); here = here; word = record { count = count; unheard = Some held } }) refl refl
+    if_tells {W = Bell} BellWord (held == code) (record { reply = replies.Heard held count; here = here; word = silent count }) (record { reply = replies.BellNotYet (Some held) count; here = here; word = record { count = count; unheard = Some held } }) refl refl
 
 turn_tells : (b : Option Berth) (here : BoxState) (way : Way) (p : Position) → TellsKind (turn b here way p)
 turn_tells None here way p = refl

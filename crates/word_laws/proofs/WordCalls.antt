@@ -64,7 +64,7 @@ awaited_word : (here : BoxState) (code count : ℕ) (u : Option ℕ) → IfSome 
 awaited_word here code count None h is = refl
 awaited_word here code count (Some held) h is =
     let e : held ≡ code = sym (bell_code-bell_word count held h.1) ∙ is in
-    ap bell_number (sym (ap (λ (t : Told Bell). t.word) (if_true (held == code) (record { reply = replies.Heard count held; here = here; word = silent count }) (record { reply = replies.BellNotYet count (Some held); here = here; word = record { count = count; unheard = Some held } }) (eqb_yes held code e))))
+    ap bell_number (sym (ap (λ (t : Told Bell). t.word) (if_true (held == code) (record { reply = replies.Heard held count; here = here; word = silent count }) (record { reply = replies.BellNotYet (Some held) count; here = here; word = record { count = count; unheard = Some held } }) (eqb_yes held code e))))
 
 pub await_makes : (here : BoxState) (way side : Way) (code : ℕ) (bell : Bell) → BellAgrees (In way) here bell → bell_code (bell_number bell) ≡ code
     → word_after (ops.Hear side) (bell_number bell) ≡ bell_number (await_bell here code bell).word
@@ -73,7 +73,7 @@ await_makes here way side code bell a is = silenced bell.count bell.unheard a.co
 not_yet_word : (here : BoxState) (code count : ℕ) (u : Option ℕ) → IfSome u IsCodeNo → bell_code (bell_word count (code_number u)) ≢ code → bell_word count (code_number u) ≡ bell_number (awaited here code count u).word
 not_yet_word here code count None h ne = refl
 not_yet_word here code count (Some held) h ne =
-    ap bell_number (sym (ap (λ (t : Told Bell). t.word) (if_false (held == code) (record { reply = replies.Heard count held; here = here; word = silent count }) (record { reply = replies.BellNotYet count (Some held); here = here; word = record { count = count; unheard = Some held } })
+    ap bell_number (sym (ap (λ (t : Told Bell). t.word) (if_false (held == code) (record { reply = replies.Heard held count; here = here; word = silent count }) (record { reply = replies.BellNotYet (Some held) count; here = here; word = record { count = count; unheard = Some held } })
     (eqb_no held code (λ e. ne (bell_code-bell_word count held h.1 ∙ e))))))
 
 pub not_yet_makes : (here : BoxState) (way side : Way) (code : ℕ) (bell : Bell) → BellAgrees (In way) here bell → bell_code (bell_number bell) ≢ code → word_after (ops.LookBell side) (bell_number bell) ≡ bell_number (await_bell here code bell).word
@@ -92,13 +92,13 @@ either_word number false x y n h g = g
 pub see_makes : (here : BoxState) (way : Way) (p : Position) (block : Block) → word_after (ops.LookBlock way) (block_number block) ≡ block_number (await_block here p block).word
 see_makes here way p block =
     either_word {W = Block} (λ (b : Block). block_number b) (same_position block.position p) (record { reply = replies.Seen block.turns; here = here; word = block })
-    (record { reply = replies.BlockNotYet block.turns block.position; here = here; word = block }) (block_number block) refl refl
+    (record { reply = replies.BlockNotYet block.position block.turns; here = here; word = block }) (block_number block) refl refl
 
 pub pull_makes : (here after : BoxState) (way side : Way) (block : Block) → word_after (ops.Pull side) (block_number block) ≡ block_number (pulled_under here after way block).word
 pull_makes here after way side block =
     bit_or-block_word block.turns block.spent block.position
     ∙ either_word {W = Block} (λ (b : Block). block_number b) (is_unspent_clear block) (record { reply = replies.PulledUnder block.turns; here = after; word = record block { spent = true } })
-    (record { reply = replies.HeldByInstrument way block.turns block.position block.spent; here = here; word = record block { spent = true } }) (block_word block.turns true block.position) refl refl
+    (record { reply = replies.HeldByInstrument way block.position block.spent block.turns; here = here; word = record block { spent = true } }) (block_word block.turns true block.position) refl refl
 
 -- ---- plain lines
 
@@ -107,10 +107,10 @@ entry_word : (here left : BoxState) (way : Way) (train : ℕ) (line : List Passa
     → (enter here left way train line).word ≡ (if b then line else line ++ record { number = of_way here.sent way + 1; train = train } ∷ [])
 entry_word here left way train line true e =
     ap (λ (t : Told (List Passage)). t.word) (if_true (holds line (of_way here.sent way + 1)) (record { reply = replies.SectionFull (of_way here.sent way + 1); here = here; word = line })
-    (record { reply = replies.Entered (of_way here.sent way + 1) train; here = record left { sent = with_way left.sent way (of_way here.sent way + 1) }; word = line ++ record { number = of_way here.sent way + 1; train = train } ∷ [] }) e)
+    (record { reply = replies.Entered train (of_way here.sent way + 1); here = record left { sent = with_way left.sent way (of_way here.sent way + 1) }; word = line ++ record { number = of_way here.sent way + 1; train = train } ∷ [] }) e)
 entry_word here left way train line false e =
     ap (λ (t : Told (List Passage)). t.word) (if_false (holds line (of_way here.sent way + 1)) (record { reply = replies.SectionFull (of_way here.sent way + 1); here = here; word = line })
-    (record { reply = replies.Entered (of_way here.sent way + 1) train; here = record left { sent = with_way left.sent way (of_way here.sent way + 1) }; word = line ++ record { number = of_way here.sent way + 1; train = train } ∷ [] }) e)
+    (record { reply = replies.Entered train (of_way here.sent way + 1); here = record left { sent = with_way left.sent way (of_way here.sent way + 1) }; word = line ++ record { number = of_way here.sent way + 1; train = train } ∷ [] }) e)
 
 -- what the lane of the next train says of the line
 pub record LaneSays (here : BoxState) (way : Way) (line : List Passage) : Type 0 where

@@ -44,16 +44,16 @@ code_rung act reply = []
 
 -- the code that a call heard, if it heard one
 abbrev pub code_heard : Reply → List ℕ
-code_heard (Heard k code) = code ∷ []
+code_heard (Heard code k) = code ∷ []
 code_heard reply = []
 
 -- the count of its bell that a reply tells, where it is one of a call on a bell
 abbrev pub count_told : Reply → ℕ
 count_told (Rung k) = k
-count_told (BellBusy k code) = k
-count_told (Heard k code) = k
+count_told (BellBusy code k) = k
+count_told (Heard code k) = k
 count_told (Silent k) = k
-count_told (BellNotYet k shown) = k
+count_told (BellNotYet shown k) = k
 count_told reply = 0
 
 -- the codes that were rung on a bell, in order

@@ -23,23 +23,23 @@ use Rattle.line_law.specs.Ways.{of_way}
 -- instrument or a plain line
 abbrev pub kind_told : Reply → Kind
 kind_told (Rung k) = BellWord
-kind_told (BellBusy k code) = BellWord
-kind_told (Heard k code) = BellWord
+kind_told (BellBusy code k) = BellWord
+kind_told (Heard code k) = BellWord
 kind_told (Silent k) = BellWord
-kind_told (BellNotYet k shown) = BellWord
+kind_told (BellNotYet shown k) = BellWord
 kind_told (Turned v) = BlockWord
 kind_told (Seen v) = BlockWord
-kind_told (BlockNotYet v shown) = BlockWord
+kind_told (BlockNotYet shown v) = BlockWord
 kind_told (PulledUnder v) = BlockWord
-kind_told (HeldByInstrument way v shown spent) = BlockWord
-kind_told (Entered k train) = PlainLineWord
+kind_told (HeldByInstrument way shown spent v) = BlockWord
+kind_told (Entered train k) = PlainLineWord
 kind_told (SectionFull k) = PlainLineWord
-kind_told (Approaching j train) = PlainLineWord
+kind_told (Approaching train j) = PlainLineWord
 kind_told (TrainNotYet j) = PlainLineWord
-kind_told (Berthed j train) = PlainLineWord
-kind_told (PartBerthed j train) = PlainLineWord
+kind_told (Berthed train j) = PlainLineWord
+kind_told (PartBerthed train j) = PlainLineWord
 kind_told (NoTrainAt j) = PlainLineWord
-kind_told (Cleared j train) = PlainLineWord
+kind_told (Cleared train j) = PlainLineWord
 kind_told reply = Tally
 
 -- the count that goes with a word, as the box on this line meets it: codes rung on a bell, turns of an instrument, and
@@ -54,45 +54,45 @@ count_met PlainLineWord (In way) here pair = (of_way here.incoming way).taken
 -- the count before a call with this reply
 abbrev pub count_before : Reply → ℕ
 count_before (Rung k) = k - 1
-count_before (BellBusy k code) = k
-count_before (Heard k code) = k
+count_before (BellBusy code k) = k
+count_before (Heard code k) = k
 count_before (Silent k) = k
-count_before (BellNotYet k shown) = k
+count_before (BellNotYet shown k) = k
 count_before (Turned v) = v - 1
 count_before (Seen v) = v
-count_before (BlockNotYet v shown) = v
+count_before (BlockNotYet shown v) = v
 count_before (PulledUnder v) = v
-count_before (HeldByInstrument way v shown spent) = v
-count_before (Entered k train) = k - 1
+count_before (HeldByInstrument way shown spent v) = v
+count_before (Entered train k) = k - 1
 count_before (SectionFull k) = k - 1
-count_before (Approaching j train) = j - 1
+count_before (Approaching train j) = j - 1
 count_before (TrainNotYet j) = j - 1
-count_before (Berthed j train) = j - 1
-count_before (PartBerthed j train) = j - 1
+count_before (Berthed train j) = j - 1
+count_before (PartBerthed train j) = j - 1
 count_before (NoTrainAt j) = j - 1
-count_before (Cleared j train) = j - 1
+count_before (Cleared train j) = j - 1
 count_before reply = 0
 
 -- the count after it: one more where a code was rung, an instrument turned, or a train sent or taken
 abbrev pub count_after : Reply → ℕ
 count_after (Rung k) = k
-count_after (BellBusy k code) = k
-count_after (Heard k code) = k
+count_after (BellBusy code k) = k
+count_after (Heard code k) = k
 count_after (Silent k) = k
-count_after (BellNotYet k shown) = k
+count_after (BellNotYet shown k) = k
 count_after (Turned v) = v
 count_after (Seen v) = v
-count_after (BlockNotYet v shown) = v
+count_after (BlockNotYet shown v) = v
 count_after (PulledUnder v) = v
-count_after (HeldByInstrument way v shown spent) = v
-count_after (Entered k train) = k
+count_after (HeldByInstrument way shown spent v) = v
+count_after (Entered train k) = k
 count_after (SectionFull k) = k - 1
-count_after (Approaching j train) = j - 1
+count_after (Approaching train j) = j - 1
 count_after (TrainNotYet j) = j - 1
-count_after (Berthed j train) = j
-count_after (PartBerthed j train) = j - 1
+count_after (Berthed train j) = j
+count_after (PartBerthed train j) = j - 1
 count_after (NoTrainAt j) = j - 1
-count_after (Cleared j train) = j
+count_after (Cleared train j) = j
 count_after reply = 0
 
 -- the count that goes with the word on which a call of box b is decided in a state, as it is in another state
@@ -110,33 +110,33 @@ pub record TellsCount (plan : PlanFields) (state : LineState) (b : ℕ) (call : 
 
 -- a reply is told at the rear end of a word, or in the box alone; trains are numbered from 1
 abbrev pub IsOutReply : Reply → Type 0
-IsOutReply (Heard k code) = ⊥
+IsOutReply (Heard code k) = ⊥
 IsOutReply (Silent k) = ⊥
-IsOutReply (BellNotYet k shown) = ⊥
+IsOutReply (BellNotYet shown k) = ⊥
 IsOutReply (Turned v) = ⊥
-IsOutReply (Approaching j train) = ⊥
+IsOutReply (Approaching train j) = ⊥
 IsOutReply (TrainNotYet j) = ⊥
-IsOutReply (Berthed j train) = ⊥
-IsOutReply (PartBerthed j train) = ⊥
+IsOutReply (Berthed train j) = ⊥
+IsOutReply (PartBerthed train j) = ⊥
 IsOutReply (NoTrainAt j) = ⊥
-IsOutReply (Cleared j train) = ⊥
-IsOutReply (Entered k train) = 0 < k
+IsOutReply (Cleared train j) = ⊥
+IsOutReply (Entered train k) = 0 < k
 IsOutReply reply = Unit {0}
 
 -- a reply is told at the end of a word in advance, or in the box alone; trains are numbered from 1
 abbrev pub IsInReply : Reply → Type 0
 IsInReply (Rung k) = ⊥
-IsInReply (BellBusy k code) = ⊥
+IsInReply (BellBusy code k) = ⊥
 IsInReply (Seen v) = ⊥
-IsInReply (BlockNotYet v shown) = ⊥
+IsInReply (BlockNotYet shown v) = ⊥
 IsInReply (PulledUnder v) = ⊥
-IsInReply (HeldByInstrument way v shown spent) = ⊥
-IsInReply (Entered k train) = ⊥
+IsInReply (HeldByInstrument way shown spent v) = ⊥
+IsInReply (Entered train k) = ⊥
 IsInReply (SectionFull k) = ⊥
 IsInReply (TrainNotYet j) = 0 < j
 IsInReply (NoTrainAt j) = 0 < j
-IsInReply (Berthed j train) = 0 < j
-IsInReply (Cleared j train) = 0 < j
+IsInReply (Berthed train j) = 0 < j
+IsInReply (Cleared train j) = 0 < j
 IsInReply reply = Unit {0}
 
 -- a reply is told at the end of a line
