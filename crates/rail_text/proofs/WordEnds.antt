@@ -7,7 +7,7 @@ use Rattle.std.proofs.lemmas.Option.{get_or_from_slice_get, slice_get-get_or, sl
 use Rattle.std.proofs.Math.ListN.{drop_of_length-le}
 use Rattle.std.proofs.Math.Seq.{take-length}
 use Rattle.std.proofs.lemmas.Bool.Decides.{eqb_tells}
-use Rattle.std.proofs.lemmas.Bool.{le-ltb, lt-ltb}
+use Rattle.std.proofs.lemmas.Bool.{eq-eqb, le-ltb, lt-ltb}
 use Rattle.std.proofs.lemmas.List.Sums.{prefix_len-drop_all, prefix_len-drop_no, prefix_len-drop_yes}
 use Rattle.std.specs.List.{join_with_byte, prefix_len}
 use Rattle.rail_text.proofs.Gaps.{gap}
@@ -222,36 +222,40 @@ ends_never text at spaces word ge le low h =
 
 pub ruleset cut_rules = (cut_start, cut_space, cut_other, ends_here, ends_last, words_last, ends_never)
 
--- whether a word is empty, by that in what is left
-either_space : (g e r : Bool) → (g || (true && e)) || r ≡ g || (e || r)
+-- whether a word is empty, by that in what is left; the word so far began at `start`
+either_space : (g e r : Bool) → (g || e) || r ≡ g || (e || r)
 either_space true e r = refl
-either_space false true r = refl
-either_space false false r = refl
+either_space false e r = refl
 
-either_other : (g e r : Bool) → (g || (false && e)) || r ≡ g || r
-either_other true e r = refl
-either_other false e r = refl
+eqb-itself : (n : ℕ) → eqb n n ≡ true
+eqb-itself n = eq-eqb n n refl
 
-pub gap_space : (text : List ℕ) (at : ℕ) (g e : Bool) → at < length text → get_or text at 0 ≡ 32
-    → (g || (eqb (get_or text at 0) 32 && e)) || gap (eqb (get_or text at 0) 32) (drop (at + 1) text)
-    ≡ g || gap e (drop at text)
-gap_space text at g e lt is =
+pub gap_space : (text : List ℕ) (at start : ℕ) (g : Bool) → at < length text → get_or text at 0 ≡ 32
+    → (g || eqb at start) || gap (eqb (at + 1) (at + 1)) (drop (at + 1) text) ≡ g || gap (eqb at start) (drop at text)
+gap_space text at start g lt is =
     let more : drop at text ≡ 32 ∷ drop (at + 1) text =
     drop_more text at 0 lt ∙ ap (λ (b : ℕ). b ∷ drop (at + 1) text) is in
-    ap (λ (b : ℕ). (g || (eqb b 32 && e)) || gap (eqb b 32) (drop (at + 1) text)) is
-    ∙ either_space g e (gap true (drop (at + 1) text))
-    ∙ ap (λ (bs : List ℕ). g || gap e bs) (sym more)
+    ap (λ (t : Bool). (g || eqb at start) || gap t (drop (at + 1) text)) (eqb-itself (at + 1))
+    ∙ either_space g (eqb at start) (gap true (drop (at + 1) text))
+    ∙ ap (λ (bs : List ℕ). g || gap (eqb at start) bs) (sym more)
 
-pub gap_other : (text : List ℕ) (at : ℕ) (g e : Bool) → at < length text → (get_or text at 0 ≡ 32 → ⊥)
-    → (g || (eqb (get_or text at 0) 32 && e)) || gap (eqb (get_or text at 0) 32) (drop (at + 1) text)
-    ≡ g || gap e (drop at text)
-gap_other text at g e lt other =
+pub gap_other : (text : List ℕ) (at start : ℕ) (g : Bool) → at < length text → (get_or text at 0 ≡ 32 → ⊥)
+    → start ≤ at → g || gap (eqb (at + 1) start) (drop (at + 1) text) ≡ g || gap (eqb at start) (drop at text)
+gap_other text at start g lt other low =
     let none : eqb (get_or text at 0) 32 ≡ false = eqb-no (get_or text at 0) 32 other in
-    let here : gap e (get_or text at 0 ∷ drop (at + 1) text) ≡ gap false (drop (at + 1) text) = rw none refl in
-    ap (λ (t : Bool). (g || (t && e)) || gap t (drop (at + 1) text)) none
-    ∙ either_other g e (gap false (drop (at + 1) text))
+    let begun : eqb (at + 1) start ≡ false = eqb-no (at + 1) start (λ e. omega (arith, e, low)) in
+    let here : gap (eqb at start) (get_or text at 0 ∷ drop (at + 1) text) ≡ gap false (drop (at + 1) text) =
+    rw none refl in
+    ap (λ (t : Bool). g || gap t (drop (at + 1) text)) begun
     ∙ ap (λ (b : Bool). g || b) (sym here)
-    ∙ ap (λ (bs : List ℕ). g || gap e bs) (sym (drop_more text at 0 lt))
+    ∙ ap (λ (bs : List ℕ). g || gap (eqb at start) bs) (sym (drop_more text at 0 lt))
+
+pub gap_last : (text : List ℕ) (at start : ℕ) (g : Bool) → length text ≤ at → at ≤ length text
+    → g || eqb (length text) start ≡ g || gap (eqb at start) (drop at text)
+gap_last text at start g ge le =
+    let here : length text ≡ at = omega (arith, ge, le) in
+    ap (λ (n : ℕ). g || eqb n start) here
+    ∙ ap (λ (bs : List ℕ). g || gap (eqb at start) bs) (sym (drop_of_length-le text ge))
 
 -- ---- some words in a row
 

@@ -113,6 +113,19 @@ impl Names {
         self.first_number(name)
     }
 
+    /// The number of the name that a word spells; `None` exactly where it isn't there.
+    pub fn number_of_word(&self, word: &[u8]) -> Option<u32>
+        ensures first { result ≡ position (bytes_eq word.now) self.now }
+        ensures numbered { AreNumbered self.now }
+    {
+        let set = &self.set;
+        let Ok(name) = std::str::from_utf8(word) else {
+            return None;
+        };
+        let at = set.get_index_of(name)?;
+        Some(at as u32)
+    }
+
     /// The name with this number.
     pub fn name_of(&self, number: u32) -> &str
         requires { number < length self.now }

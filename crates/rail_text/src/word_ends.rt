@@ -114,20 +114,19 @@ pub(crate) fn cut(text: &[u8]) -> CutText
     let mut ends = WordEnds::none();
     let mut spaces = 0;
     let mut gap = false;
-    let mut empty = true;
+    let mut start = 0;
     for (at, b) in text.iter().enumerate() {
-        let space = *b == b' ';
-        gap |= space & empty;
-        if space {
+        if *b == b' ' {
+            gap |= at == start;
             ends.keep(spaces, at);
             spaces += 1;
+            start = at + 1;
         }
-        empty = space;
     }
     ends.keep(spaces, text.len());
     CutText {
         ends,
         words: spaces + 1,
-        gap: gap | empty,
+        gap: gap | (text.len() == start),
     }
 }

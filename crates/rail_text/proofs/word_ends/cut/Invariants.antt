@@ -1,4 +1,4 @@
-use Rattle.std.proofs.Common.{◌≡◌, ◌≤◌, ◌||◌, drop}
+use Rattle.std.proofs.Common.{◌≡◌, ◌≤◌, ◌||◌, drop, eqb}
 use Rattle.std.specs.List.{list_any}
 use Rattle.rail_text.specs.Forms.{is_empty_word}
 use Rattle.rail_text.specs.Lines.{words_of}
@@ -12,5 +12,6 @@ invariant-loop-at l = record {
   few : l.ends.kept ≤ l.spaces;
   kept : AreEnds l.text l.ends.at l.ends.kept;
   cut : IsCutTo l.text l.at l.spaces;
-  gap : (l.gap || gap l.empty (drop l.at l.text)) ≡ list_any is_empty_word (words_of l.text);
+  low : l.start ≤ l.at;
+  gap : (l.gap || gap (eqb l.at l.start) (drop l.at l.text)) ≡ list_any is_empty_word (words_of l.text);
 }
