@@ -1,12 +1,17 @@
 -- What is printed of a code is read as that code, and what is read is spelled so.
-use Rattle.std.proofs.Common.{◌≡◌, ℕ, zero, suc, get_or, set, take, add-one, Bor, drop, replicate, ◌+◌, ◌-◌, ◌*◌, ◌/◌, ◌%◌, ◌<◌, ◌≤◌, Bool, true, false, cond, eqb, leb, ◌&&◌, List, [], ◌∷◌, ◌++◌, map, length, Option, Some, None, refl, sym, ap, subst, ◌∙◌, arith, decimal, inl, inr, IsErr, IfOk, Result, Ok, Err, ◌↔◌}
+use Rattle.std.proofs.Common.{◌≡◌, ℕ, zero, suc, get_or, set, take, add-one, Bor, drop, replicate, ◌+◌, ◌-◌, ◌*◌, ◌/◌}
+use Rattle.std.proofs.Common.{◌%◌, ◌<◌, ◌≤◌, Bool, true, false, cond, eqb, leb, ◌&&◌, List, [], ◌∷◌, ◌++◌, map, length}
+use Rattle.std.proofs.Common.{Option, Some, None, refl, sym, ap, subst, ◌∙◌, arith, decimal, inl, inr, IsErr, IfOk}
+use Rattle.std.proofs.Common.{Result, Ok, Err, ◌↔◌}
 use Rattle.std.specs.List.{All, list_all, flat_map, join_with_byte}
 use Rattle.std.specs.Result.{result_ok}
 use Rattle.std.proofs.lemmas.Fmt.{decimal_digit, decimal_step}
-use Rattle.std.proofs.lemmas.List.{length-append, length-map, append-nil, map-append, drop-drop, drop-set-lt, drop-replicate}
+use Rattle.std.proofs.lemmas.List.{length-append, length-map, append-nil, map-append, drop-drop, drop-set-lt}
+use Rattle.std.proofs.lemmas.List.{drop-replicate}
 use Rattle.std.proofs.lemmas.List.Folds.{list_all-append}
 use Rattle.std.proofs.lemmas.List.Elements.{All-nil, All-cons}
-use Rattle.std.proofs.lemmas.List.Splits.{slice_split_none, slice_split_at, length-slice_split, join_with_byte-slice_split}
+use Rattle.std.proofs.lemmas.List.Splits.{slice_split_none, slice_split_at, length-slice_split}
+use Rattle.std.proofs.lemmas.List.Splits.{join_with_byte-slice_split}
 use Rattle.std.proofs.lemmas.Bool.Decides.{nat_tests}
 use Rattle.std.proofs.lemmas.Bool.{cases_lt}
 use Rattle.std.proofs.Math.Seq.{take-suc-set}
@@ -83,18 +88,25 @@ no_hyphen : (n : ℕ) → is_group n ≡ true → All IsNoHyphen (decimal n)
 no_hyphen n h =
     let r = group_range n h in
     elim (cases_lt n 10) [
-      | inl small ↦ rw (decimal_digit n small) (All-cons IsNoHyphen (48 + n) [] (above_hyphen (48 + n) (omega arith)) (All-nil IsNoHyphen))
-      | inr large ↦ rw (two_digits n large r.1) (All-cons IsNoHyphen 49 ((48 + (n - 10)) ∷ []) (above_hyphen 49 (omega arith)) (All-cons IsNoHyphen (48 + (n - 10)) [] (above_hyphen (48 + (n - 10)) (omega arith)) (All-nil IsNoHyphen)))
+      | inl small ↦
+          rw (decimal_digit n small)
+          (All-cons IsNoHyphen (48 + n) [] (above_hyphen (48 + n) (omega arith)) (All-nil IsNoHyphen))
+      | inr large ↦
+          rw (two_digits n large r.1)
+          (All-cons IsNoHyphen 49 ((48 + (n - 10)) ∷ []) (above_hyphen 49 (omega arith))
+          (All-cons IsNoHyphen (48 + (n - 10)) [] (above_hyphen (48 + (n - 10)) (omega arith)) (All-nil IsNoHyphen)))
     ]
 
-parts_of-text : (first : ℕ) (rest : List ℕ) → is_group first ≡ true → list_all is_group rest ≡ true → parts_of (decimal first ++ flat_map further_group rest) ≡ decimal first ∷ map decimal rest
+parts_of-text : (first : ℕ) (rest : List ℕ) → is_group first ≡ true → list_all is_group rest ≡ true
+    → parts_of (decimal first ++ flat_map further_group rest) ≡ decimal first ∷ map decimal rest
 parts_of-text first [] h k = rw append-nil (slice_split_none is_hyphen (decimal first) (no_hyphen first h))
 parts_of-text first (next ∷ rest) h k =
     let e = both (is_group next) (list_all is_group rest) k in
     slice_split_at is_hyphen (decimal first) 45 (decimal next ++ flat_map further_group rest) (no_hyphen first h) refl
     ∙ ap (λ (parts : List (List ℕ)). decimal first ∷ parts) (parts_of-text next rest e.0 e.1)
 
-join-decimals : (first : ℕ) (rest : List ℕ) → join_with_byte 45 (decimal first ∷ map decimal rest) ≡ decimal first ++ flat_map further_group rest
+join-decimals : (first : ℕ) (rest : List ℕ)
+    → join_with_byte 45 (decimal first ∷ map decimal rest) ≡ decimal first ++ flat_map further_group rest
 join-decimals first [] = sym (append-nil (decimal first))
 join-decimals first (next ∷ rest) = ap (λ (bytes : List ℕ). decimal first ++ 45 ∷ bytes) (join-decimals next rest)
 
@@ -130,7 +142,12 @@ groups_are (part ∷ parts) code e =
     let b = before_is (group_of part) (groups_of parts) code e in
     let g = group_is part b.first b.group in
     let r = groups_are parts b.rest b.groups in
-    subst (AreGroups (part ∷ parts)) b.whole (record { valid = all_of _ _ g.0 r.valid; parts_are = ap (λ (x : List ℕ). x ∷ parts) g.1 ∙ ap (λ (ps : List (List ℕ)). decimal b.first ∷ ps) r.parts_are })
+    subst (AreGroups (part ∷ parts)) b.whole
+    (record {
+      valid = all_of _ _ g.0 r.valid;
+      parts_are =
+          ap (λ (x : List ℕ). x ∷ parts) g.1 ∙ ap (λ (ps : List (List ℕ)). decimal b.first ∷ ps) r.parts_are;
+    })
 
 -- ---- the laws
 
@@ -160,7 +177,8 @@ read_text [] h = absurd (omega (arith, (code_parts [] h).fewest))
 read_text (first ∷ rest) h =
     let c = code_parts (first ∷ rest) h in
     let e = both (is_group first) (list_all is_group rest) c.valid in
-    let parts : parts_of (decimal first ++ flat_map further_group rest) ≡ map decimal (first ∷ rest) = parts_of-text first rest e.0 e.1 in
+    let parts : parts_of (decimal first ++ flat_map further_group rest) ≡ map decimal (first ∷ rest) =
+    parts_of-text first rest e.0 e.1 in
     let few : leb (length (map decimal (first ∷ rest))) 5 ≡ true = grind (arith, nat_tests, length-map, c.most) in
     rw (parts, few) (groups_of-decimals (first ∷ rest) c.valid)
 
@@ -179,7 +197,8 @@ read_spelled word code e =
     let len : length (parts_of word) ≡ length code = ap length a.parts_are ∙ length-map code decimal in
     let some : 1 ≤ length code = omega (arith, length-slice_split is_hyphen word) in (
       code_parts_back code (record { fewest = some; most = omega arith; valid = a.valid }),
-      sym (join_with_byte-slice_split 45 word) ∙ ap (λ (parts : List (List ℕ)). join_with_byte 45 parts) a.parts_are ∙ code_text-joined code some,
+      sym (join_with_byte-slice_split 45 word) ∙ ap (λ (parts : List (List ℕ)). join_with_byte 45 parts) a.parts_are
+          ∙ code_text-joined code some,
     )
 
 -- ---- the text as a word
@@ -196,8 +215,12 @@ group_text : (n : ℕ) → is_group n ≡ true → IsGroupText (decimal n)
 group_text n h =
     let r = group_range n h in
     elim (cases_lt n 10) [
-      | inl small ↦ subst IsGroupText (sym (decimal_digit n small)) (record { bytes = rw (digit_byte n small) refl; some = omega arith; few = omega arith })
-      | inr large ↦ subst IsGroupText (sym (two_digits n large r.1)) (record { bytes = rw (digit_byte (n - 10) (omega (arith, r.1))) refl; some = omega arith; few = omega arith })
+      | inl small ↦
+          subst IsGroupText (sym (decimal_digit n small))
+          (record { bytes = rw (digit_byte n small) refl; some = omega arith; few = omega arith })
+      | inr large ↦
+          subst IsGroupText (sym (two_digits n large r.1))
+          (record { bytes = rw (digit_byte (n - 10) (omega (arith, r.1))) refl; some = omega arith; few = omega arith })
     ]
 
 record IsRestText (text : List ℕ) (groups : ℕ) : Type 0 where
@@ -243,43 +266,54 @@ pub ruleset text_rules = (text_bytes, text_some, text_few)
 -- ---- a reader's way along the parts
 
 -- a part that is no group
-groups_of-bad : (parts : List (List ℕ)) (k : ℕ) (d : List ℕ) → k < length parts → group_of (get_or parts k d) ≡ None → groups_of parts ≡ None
+groups_of-bad : (parts : List (List ℕ)) (k : ℕ) (d : List ℕ) → k < length parts → group_of (get_or parts k d) ≡ None
+    → groups_of parts ≡ None
 groups_of-bad [] k d h e = absurd (omega arith)
 groups_of-bad (part ∷ parts) zero d h e = rw e refl
-groups_of-bad (part ∷ parts) (suc k) d h e = rw (groups_of-bad parts k d (omega arith) e) (before_none (group_of part)) where
-  before_none : (o : Option ℕ) → group_and_rest o None ≡ None
-  before_none None = refl
-  before_none (Some beats) = refl
+groups_of-bad (part ∷ parts) (suc k) d h e =
+    rw (groups_of-bad parts k d (omega arith) e) (before_none (group_of part)) where
+      before_none : (o : Option ℕ) → group_and_rest o None ≡ None
+      before_none None = refl
+      before_none (Some beats) = refl
 
 abbrev no_code : Option (List ℕ)
 no_code = None
 
-pub bad_part : (word : List ℕ) (k : ℕ) (part : List ℕ) → (k < length (parts_of word)) × (part ≡ get_or (parts_of word) k part) → group_of part ≡ None → code_of word ≡ None
+pub bad_part : (word : List ℕ) (k : ℕ) (part : List ℕ)
+    → (k < length (parts_of word)) × (part ≡ get_or (parts_of word) k part) → group_of part ≡ None → code_of word ≡ None
 unfolding code_of
-bad_part word k part at e = rw (groups_of-bad (parts_of word) k part at.0 (ap group_of (sym at.1) ∙ e)) (none (leb (length (parts_of word)) 5)) where
-  none : (b : Bool) → cond b None no_code ≡ no_code
-  none true = refl
-  none false = refl
+bad_part word k part at e =
+    rw (groups_of-bad (parts_of word) k part at.0 (ap group_of (sym at.1) ∙ e)) (none (leb (length (parts_of word)) 5))
+  where
+    none : (b : Bool) → cond b None no_code ≡ no_code
+    none true = refl
+    none false = refl
 
 pub many_parts : (word : List ℕ) → 5 < length (parts_of word) → code_of word ≡ None
 unfolding code_of
 many_parts word h = let many : leb (length (parts_of word)) 5 ≡ false = grind (arith, nat_tests) in rw many refl
 
-pub few_parts : (word code : List ℕ) → length (parts_of word) ≤ 5 → groups_of (parts_of word) ≡ Some code → code_of word ≡ Some code
+pub few_parts : (word code : List ℕ) → length (parts_of word) ≤ 5 → groups_of (parts_of word) ≡ Some code
+    → code_of word ≡ Some code
 unfolding code_of
 few_parts word code h e = let few : leb (length (parts_of word)) 5 ≡ true = grind (arith, nat_tests) in rw few e
 
 -- one more part
-pub groups_of-push : (parts : List (List ℕ)) (part : List ℕ) (code : List ℕ) (n : ℕ) → groups_of parts ≡ Some code → group_of part ≡ Some n → groups_of (parts ++ part ∷ []) ≡ Some (code ++ n ∷ [])
+pub groups_of-push : (parts : List (List ℕ)) (part : List ℕ) (code : List ℕ) (n : ℕ) → groups_of parts ≡ Some code
+    → group_of part ≡ Some n → groups_of (parts ++ part ∷ []) ≡ Some (code ++ n ∷ [])
 groups_of-push [] part code n e g = let none : [] ≡ code = cc in rw (g, ← none) refl
 groups_of-push (first ∷ parts) part code n e g =
     let b = before_is (group_of first) (groups_of parts) code e in
-    rw (b.group, groups_of-push parts part b.rest n b.groups g) (ap (λ (whole : List ℕ). Some (whole ++ n ∷ [])) b.whole)
+    rw (b.group, groups_of-push parts part b.rest n b.groups g)
+    (ap (λ (whole : List ℕ). Some (whole ++ n ∷ [])) b.whole)
 
-pub one_more : (beats : List ℕ) (groups n : ℕ) → groups < length beats → take (groups + 1) (set beats groups n) ≡ take groups beats ++ n ∷ []
+pub one_more : (beats : List ℕ) (groups n : ℕ) → groups < length beats
+    → take (groups + 1) (set beats groups n) ≡ take groups beats ++ n ∷ []
 one_more beats groups n h = rw add-one (take-suc-set beats groups n h)
 
-pub more_parts : (parts : List (Bor (List ℕ))) (part : Bor (List ℕ)) (beats : List ℕ) (groups n : ℕ) → groups < length beats → groups_of (map (λ p. p.now) parts) ≡ Some (take groups beats) → group_of part.now ≡ Some n → groups_of (map (λ p. p.now) (parts ++ part ∷ [])) ≡ Some (take (groups + 1) (set beats groups n))
+pub more_parts : (parts : List (Bor (List ℕ))) (part : Bor (List ℕ)) (beats : List ℕ) (groups n : ℕ)
+    → groups < length beats → groups_of (map (λ p. p.now) parts) ≡ Some (take groups beats) → group_of part.now ≡ Some n
+    → groups_of (map (λ p. p.now) (parts ++ part ∷ [])) ≡ Some (take (groups + 1) (set beats groups n))
 more_parts parts part beats groups n h e g =
     ap groups_of (map-append (λ (p : Bor (List ℕ)). p.now) parts (part ∷ []))
     ∙ groups_of-push (map (λ p. p.now) parts) part.now (take groups beats) n e g
@@ -289,9 +323,11 @@ pub none_read : {E : Type 0} (r : Result (List ℕ) E) → IsErr r → result_ok
 none_read (Ok code) e = absurd cc
 none_read (Err f) e = refl
 
-pub zeros_behind : (beats : List ℕ) (groups n : ℕ) → drop groups beats ≡ replicate (5 - groups) 0 → drop (groups + 1) (set beats groups n) ≡ replicate (5 - (groups + 1)) 0
+pub zeros_behind : (beats : List ℕ) (groups n : ℕ) → drop groups beats ≡ replicate (5 - groups) 0
+    → drop (groups + 1) (set beats groups n) ≡ replicate (5 - (groups + 1)) 0
 zeros_behind beats groups n e =
-    let kept : drop (groups + 1) (set beats groups n) ≡ drop (groups + 1) beats = drop-set-lt (groups + 1) beats groups n (omega arith) in
+    let kept : drop (groups + 1) (set beats groups n) ≡ drop (groups + 1) beats =
+    drop-set-lt (groups + 1) beats groups n (omega arith) in
     let one : drop 1 (drop groups beats) ≡ drop (groups + 1) beats = drop-drop 1 groups beats in
     let zeros : drop 1 (drop groups beats) ≡ replicate (5 - groups - 1) 0 = rw e (drop-replicate 1 (5 - groups) 0) in
     let less : 5 - groups - 1 ≡ 5 - (groups + 1) = omega arith in
@@ -302,12 +338,16 @@ zeros_behind beats groups n e =
 abbrev pub IsReading : {E : Type 0} → List ℕ → Result (List ℕ) E → Type 0
 IsReading word r = result_ok r ≡ code_of word
 
-pub reading_spelled : {E : Type 0} (word : List ℕ) (r : Result (List ℕ) E) → IsReading word r → IfOk r (λ code. Spells word code)
+pub reading_spelled : {E : Type 0} (word : List ℕ) (r : Result (List ℕ) E) → IsReading word r
+    → IfOk r (λ code. Spells word code)
 reading_spelled word (Ok code) e = read_spelled word code (sym e)
 reading_spelled word (Err f) e = tt
 
-pub reading_bad : {E : Type 0} (word : List ℕ) (r : Result (List ℕ) E) → IsReading word r → IsErr r ↔ ((code : List ℕ) → ¬ Spells word code)
+pub reading_bad : {E : Type 0} (word : List ℕ) (r : Result (List ℕ) E) → IsReading word r
+    → IsErr r ↔ ((code : List ℕ) → ¬ Spells word code)
 reading_bad word (Ok code) e = (λ bad. absurd cc, λ none. absurd (none code (read_spelled word code (sym e))))
-reading_bad word (Err f) e = (λ _ code spells. not_read code (sym (read_text code spells.0) ∙ ap code_of (sym spells.1) ∙ sym e), λ _. refl) where
-  not_read : (code : List ℕ) → Some code ≡ None → ⊥
-  not_read code h = cc
+reading_bad word (Err f) e =
+    (λ _ code spells. not_read code (sym (read_text code spells.0) ∙ ap code_of (sym spells.1) ∙ sym e), λ _. refl)
+  where
+    not_read : (code : List ℕ) → Some code ≡ None → ⊥
+    not_read code h = cc

@@ -12,7 +12,8 @@ bell_count-bell_word k code small = omega arith
 pub bell_code-bell_word : (k code : ℕ) → code < 256 → bell_code (bell_word k code) ≡ code
 bell_code-bell_word k code small = omega arith
 
-pub block_turns-block_word : (v : ℕ) (spent : Bool) (position : Position) → block_turns (block_word v spent position) ≡ v
+pub block_turns-block_word : (v : ℕ) (spent : Bool) (position : Position)
+    → block_turns (block_word v spent position) ≡ v
 block_turns-block_word v true Normal = omega arith
 block_turns-block_word v true LineClear = omega arith
 block_turns-block_word v true TrainOnLine = omega arith
@@ -20,7 +21,8 @@ block_turns-block_word v false Normal = omega arith
 block_turns-block_word v false LineClear = omega arith
 block_turns-block_word v false TrainOnLine = omega arith
 
-pub block_spent-block_word : (v : ℕ) (spent : Bool) (position : Position) → block_spent (block_word v spent position) ≡ spent
+pub block_spent-block_word : (v : ℕ) (spent : Bool) (position : Position)
+    → block_spent (block_word v spent position) ≡ spent
 block_spent-block_word v true Normal = grind (arith, nat_tests)
 block_spent-block_word v true LineClear = grind (arith, nat_tests)
 block_spent-block_word v true TrainOnLine = grind (arith, nat_tests)
@@ -28,7 +30,8 @@ block_spent-block_word v false Normal = grind (arith, nat_tests)
 block_spent-block_word v false LineClear = grind (arith, nat_tests)
 block_spent-block_word v false TrainOnLine = grind (arith, nat_tests)
 
-pub block_position-block_word : (v : ℕ) (spent : Bool) (position : Position) → block_position (block_word v spent position) ≡ position
+pub block_position-block_word : (v : ℕ) (spent : Bool) (position : Position)
+    → block_position (block_word v spent position) ≡ position
 block_position-block_word v true Normal = grind (arith, nat_tests)
 block_position-block_word v true LineClear = grind (arith, nat_tests)
 block_position-block_word v true TrainOnLine = grind (arith, nat_tests)

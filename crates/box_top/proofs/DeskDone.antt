@@ -79,7 +79,8 @@ plan_is held name plan e = told_plan_is IsPlan plan_of_is_plan held name plan e
 upgrade_is_read : (held : Held) (name : List ℕ) (plan : PlanFields) → plan_told held name ≡ Gives plan
     → plan_of (plan_text (upgraded plan)) ≡ Ok (upgraded plan)
 upgrade_is_read held name plan e = told_plan_is (λ p. plan_of (plan_text (upgraded p)) ≡ Ok (upgraded p))
-    (λ bytes p read. upgrade_back bytes p (plan_of_is_plan bytes p read) (read_is_spelled bytes p read)) held name plan e
+    (λ bytes p read. upgrade_back bytes p (plan_of_is_plan bytes p read) (read_is_spelled bytes p read)) held name plan
+    e
 
 -- the text of this name spells a plan, and the bytes taken are what is told of it
 record PrintsOf (held : Held) (name : List ℕ) (told : PlanFields → FromTexts (List ℕ))

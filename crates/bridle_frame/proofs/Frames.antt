@@ -1,5 +1,6 @@
 -- What a frame's type keeps as a lever is moved, and what holds a lever.
-use Rattle.std.proofs.Common.{◌≡◌, ◌≢◌, ℕ, suc, ◌+◌, ◌-◌, ◌<◌, ◌≤◌, ◌^◌, List, [], ◌∷◌, length, replicate, Bool, true, false, ◌==◌, if◌then◌else◌, ◌⊎◌, inl, inr, refl, sym, ap, ◌∙◌, subst, arith}
+use Rattle.std.proofs.Common.{◌≡◌, ◌≢◌, ℕ, suc, ◌+◌, ◌-◌, ◌<◌, ◌≤◌, ◌^◌, List, [], ◌∷◌, length, replicate, Bool, true}
+use Rattle.std.proofs.Common.{false, ◌==◌, if◌then◌else◌, ◌⊎◌, inl, inr, refl, sym, ap, ◌∙◌, subst, arith}
 use Rattle.std.specs.Prelude.{Option, Some, None, All, slice_index_or, slice_set}
 use Rattle.std.proofs.Math.ListN.{length-set}
 use Rattle.std.proofs.lemmas.Bool.Decides.{eqb_tells}
@@ -18,26 +19,35 @@ use Rattle.bridle_frame.proofs.Indexes.{first_of-naming, is_index, named, within
 use Rattle.bridle_frame.proofs.Seats.{all_alike, all_moved, all_seated}
 
 -- the levers stand as before but for the one that was moved
-moved_place : (ends : List End) (lever : ℕ) (e : End) (n : ℕ) (test : Bool) → IsLever (length ends) lever → IsLever (length ends) n
-    → ((test ≡ true) × (n ≡ lever)) ⊎ ((test ≡ false) × (n ≢ lever)) → (if test then stand_at e else at_ends ends n) ≡ at_ends (slice_set ends (lever - 1) e) n
+moved_place : (ends : List End) (lever : ℕ) (e : End) (n : ℕ) (test : Bool) → IsLever (length ends) lever
+    → IsLever (length ends) n
+    → ((test ≡ true) × (n ≡ lever)) ⊎ ((test ≡ false) × (n ≢ lever))
+    → (if test then stand_at e else at_ends ends n) ≡ at_ends (slice_set ends (lever - 1) e) n
 moved_place ends lever e n test is own (inl here) =
     rw (here.0, here.1) (sym (ap stand_at (get_or-set_same ends (lever - 1) e NormalEnd (let l = is in omega arith))))
 moved_place ends lever e n test is own (inr away) =
-    rw away.0 (sym (ap stand_at (get_or-set_other ends (lever - 1) (n - 1) e NormalEnd (let l = is in let o = own in λ h. away.1 (omega (arith, h))))))
+    rw away.0
+    (sym (ap stand_at
+    (get_or-set_other ends (lever - 1) (n - 1) e NormalEnd
+    (let l = is in let o = own in λ h. away.1 (omega (arith, h))))))
 
 none_of : (o : Option ℕ) → reply_of o ≡ Shifted → o ≡ None
 none_of None h = refl
 none_of (Some n) h = cc
 
-pub moved_frame : (ends : List End) (bridles : List Bridle) (uses : List (List ℕ)) (lever : ℕ) (e : End) → IsFrame ends bridles uses → IsLever (length ends) lever
+pub moved_frame : (ends : List End) (bridles : List Bridle) (uses : List (List ℕ)) (lever : ℕ) (e : End)
+    → IsFrame ends bridles uses → IsLever (length ends) lever
     → shift_of ends lever bridles ≡ Shifted → IsFrame (slice_set ends (lever - 1) e) bridles uses
 moved_frame ends bridles uses lever e frame is told =
     let same : length ends ≡ length (slice_set ends (lever - 1) e) = sym (length-set ends (lever - 1) e) in
-    let mid = all_seated (stand_of ends lever AtMid) 1 bridles (none_of (first_unseated (stand_of ends lever AtMid) 1 bridles) told) in
+    let mid =
+    all_seated (stand_of ends lever AtMid) 1 bridles
+    (none_of (first_unseated (stand_of ends lever AtMid) 1 bridles) told) in
     record {
       few = frame.few;
       fits = subst (λ (n : ℕ). All (BridleFits n) bridles) same frame.fits;
-      seated = all_alike (length ends) (stand_of ends lever (stand_at e)) (at_ends (slice_set ends (lever - 1) e)) (λ n own. moved_place ends lever e n (n == lever) is own (eqb_tells n lever))
+      seated = all_alike (length ends) (stand_of ends lever (stand_at e)) (at_ends (slice_set ends (lever - 1) e))
+          (λ n own. moved_place ends lever e n (n == lever) is own (eqb_tells n lever))
           bridles frame.fits (all_moved ends lever (stand_at e) bridles mid);
       index = subst (λ (n : ℕ). IsIndex n bridles uses) same frame.index;
     }
@@ -46,16 +56,23 @@ moved_frame ends bridles uses lever e frame is told =
 pub record HeldAt (places : LeverPlace) (lever from n : ℕ) (bs : List Bridle) : Type 0 where
   pub above : from ≤ n
   pub within : n < from + length bs
-  pub is : first_holder places lever bs ≡ Some (record { lever = holding_lever_in (slice_index_or bs (n - from) no_bridle).dogs lever; row = (slice_index_or bs (n - from) no_bridle).row })
+  pub is : first_holder places lever bs
+      ≡ Some (record {
+        lever = holding_lever_in (slice_index_or bs (n - from) no_bridle).dogs lever;
+        row =
+            (slice_index_or bs (n - from) no_bridle).row;
+      })
 
-at_next : (b : Bridle) (bs : List Bridle) (n from : ℕ) → from < n → slice_index_or (b ∷ bs) (n - from) no_bridle ≡ slice_index_or bs (n - (from + 1)) no_bridle
+at_next : (b : Bridle) (bs : List Bridle) (n from : ℕ) → from < n
+    → slice_index_or (b ∷ bs) (n - from) no_bridle ≡ slice_index_or bs (n - (from + 1)) no_bridle
 at_next b bs n from h = let e : n - from ≡ suc (n - (from + 1)) = omega arith in rw e refl
 
 abbrev holder_by : Bridle → ℕ → Holder
 holder_by b lever = record { lever = holding_lever_in b.dogs lever; row = b.row }
 
 held_step : (ok : Bool) (places : LeverPlace) (lever from n : ℕ) (b : Bridle) (bs : List Bridle) → seated places b ≡ ok
-    → (first_unseated places (from + 1) bs ≡ Some n → HeldAt places lever (from + 1) n bs) → (if ok then first_unseated places (from + 1) bs else Some from) ≡ Some n → HeldAt places lever from n (b ∷ bs)
+    → (first_unseated places (from + 1) bs ≡ Some n → HeldAt places lever (from + 1) n bs)
+    → (if ok then first_unseated places (from + 1) bs else Some from) ≡ Some n → HeldAt places lever from n (b ∷ bs)
 held_step true places lever from n b bs is more h =
     let m = more h in
     let a = m.above in let w = m.within in
@@ -65,32 +82,44 @@ held_step false places lever from n b bs is more h =
     let z : n - from ≡ 0 = omega arith in
     record { above = omega arith; within = omega arith; is = rw (is, z) refl }
 
-pub held_at : (places : LeverPlace) (lever from n : ℕ) (bs : List Bridle) → first_unseated places from bs ≡ Some n → HeldAt places lever from n bs
+pub held_at : (places : LeverPlace) (lever from n : ℕ) (bs : List Bridle) → first_unseated places from bs ≡ Some n
+    → HeldAt places lever from n bs
 held_at places lever from n [] h = cc
-held_at places lever from n (b ∷ bs) h = held_step (seated places b) places lever from n b bs refl (held_at places lever (from + 1) n bs) h
+held_at places lever from n (b ∷ bs) h =
+    held_step (seated places b) places lever from n b bs refl (held_at places lever (from + 1) n bs) h
 
-free_step : (ok : Bool) (places : LeverPlace) (lever from : ℕ) (b : Bridle) (bs : List Bridle) → (first_unseated places (from + 1) bs ≡ None → first_holder places lever bs ≡ None)
-    → (if ok then first_unseated places (from + 1) bs else Some from) ≡ None → (if ok then first_holder places lever bs else Some (holder_by b lever)) ≡ None
+free_step : (ok : Bool) (places : LeverPlace) (lever from : ℕ) (b : Bridle) (bs : List Bridle)
+    → (first_unseated places (from + 1) bs ≡ None → first_holder places lever bs ≡ None)
+    → (if ok then first_unseated places (from + 1) bs else Some from) ≡ None
+    → (if ok then first_holder places lever bs else Some (holder_by b lever)) ≡ None
 free_step true places lever from b bs more h = more h
 free_step false places lever from b bs more h = cc
 
-free_from : (places : LeverPlace) (lever from : ℕ) (bs : List Bridle) → first_unseated places from bs ≡ None → first_holder places lever bs ≡ None
+free_from : (places : LeverPlace) (lever from : ℕ) (bs : List Bridle) → first_unseated places from bs ≡ None
+    → first_holder places lever bs ≡ None
 free_from places lever from [] h = refl
-free_from places lever from (b ∷ bs) h = free_step (seated places b) places lever from b bs (free_from places lever (from + 1) bs) h
+free_from places lever from (b ∷ bs) h =
+    free_step (seated places b) places lever from b bs (free_from places lever (from + 1) bs) h
 
-pub free : (ends : List End) (lever : ℕ) (bs : List Bridle) → shift_of ends lever bs ≡ Shifted → first_holder (stand_of ends lever AtMid) lever bs ≡ None
-free ends lever bs h = free_from (stand_of ends lever AtMid) lever 1 bs (none_of (first_unseated (stand_of ends lever AtMid) 1 bs) h)
+pub free : (ends : List End) (lever : ℕ) (bs : List Bridle) → shift_of ends lever bs ≡ Shifted
+    → first_holder (stand_of ends lever AtMid) lever bs ≡ None
+free ends lever bs h =
+    free_from (stand_of ends lever AtMid) lever 1 bs (none_of (first_unseated (stand_of ends lever AtMid) 1 bs) h)
 
 some_of : (o : Option ℕ) (n : ℕ) → reply_of o ≡ HeldBy n → o ≡ Some n
 some_of None n h = cc
 some_of (Some m) n h = let e : m ≡ n = cc in ap (λ (k : ℕ). Some k) e
 
-pub held : (ends : List End) (lever n : ℕ) (bs : List Bridle) → shift_of ends lever bs ≡ HeldBy n → HeldAt (stand_of ends lever AtMid) lever 1 n bs
-held ends lever n bs h = held_at (stand_of ends lever AtMid) lever 1 n bs (some_of (first_unseated (stand_of ends lever AtMid) 1 bs) n h)
+pub held : (ends : List End) (lever n : ℕ) (bs : List Bridle) → shift_of ends lever bs ≡ HeldBy n
+    → HeldAt (stand_of ends lever AtMid) lever 1 n bs
+held ends lever n bs h =
+    held_at (stand_of ends lever AtMid) lever 1 n bs (some_of (first_unseated (stand_of ends lever AtMid) 1 bs) n h)
 
 -- a frame with all its levers normal
-pub new_frame : (levers : ℕ) (bridles : List Bridle) (ends : List End) (uses : List (List ℕ)) → ends ≡ replicate levers NormalEnd → uses ≡ used_by_all (replicate levers []) 0 bridles
-    → length bridles < 2 ^ 32 → All (BridleFits levers) bridles → All (IsSeated (at_ends (replicate levers NormalEnd))) bridles → IsFrame ends bridles uses
+pub new_frame : (levers : ℕ) (bridles : List Bridle) (ends : List End) (uses : List (List ℕ))
+    → ends ≡ replicate levers NormalEnd → uses ≡ used_by_all (replicate levers []) 0 bridles
+    → length bridles < 2 ^ 32 → All (BridleFits levers) bridles
+    → All (IsSeated (at_ends (replicate levers NormalEnd))) bridles → IsFrame ends bridles uses
 new_frame levers bridles ends uses normal made few fits seated =
     let wide : levers ≡ length ends = rw normal (sym (length-replicate levers NormalEnd)) in
     record {
@@ -101,25 +130,33 @@ new_frame levers bridles ends uses normal made few fits seated =
     }
 
 -- what the index gives for a lever
-used_of : (ends : List End) (bridles : List Bridle) (uses : List (List ℕ)) (lever : ℕ) (of numbers : List ℕ) → IsFrame ends bridles uses → IsLever (length ends) lever
+used_of : (ends : List End) (bridles : List Bridle) (uses : List (List ℕ)) (lever : ℕ) (of numbers : List ℕ)
+    → IsFrame ends bridles uses → IsLever (length ends) lever
     → of ≡ slice_index_or uses (lever - 1) of → numbers ≡ of → numbers ≡ naming 0 lever bridles
 used_of ends bridles uses lever of numbers frame is read same =
     let wide = frame.index.wide in
     let less : lever - 1 < length uses = let l = is in omega arith in
     same ∙ (read ∙ (get_or_default uses (lever - 1) of [] less ∙ named (length ends) lever bridles uses frame.index is))
 
-pub tested_within : (ends : List End) (bridles : List Bridle) (uses : List (List ℕ)) (lever : ℕ) (bs : List Bridle) (of numbers : List ℕ) → IsFrame ends bridles uses → IsLever (length ends) lever
+pub tested_within : (ends : List End) (bridles : List Bridle) (uses : List (List ℕ)) (lever : ℕ) (bs : List Bridle)
+    (of numbers : List ℕ) → IsFrame ends bridles uses → IsLever (length ends) lever
     → bs ≡ bridles → of ≡ slice_index_or uses (lever - 1) of → numbers ≡ of → All (λ n. n < length bs) numbers
-tested_within ends bridles uses lever bs of numbers frame is whole read same = rw (used_of ends bridles uses lever of numbers frame is read same, whole) (within lever bridles)
+tested_within ends bridles uses lever bs of numbers frame is whole read same =
+    rw (used_of ends bridles uses lever of numbers frame is read same, whole) (within lever bridles)
 
-pub tested : (ends : List End) (bridles : List Bridle) (uses : List (List ℕ)) (lever : ℕ) (es : List End) (bs : List Bridle) (of numbers : List ℕ) → IsFrame ends bridles uses → IsLever (length ends) lever
-    → es ≡ ends → bs ≡ bridles → of ≡ slice_index_or uses (lever - 1) of → numbers ≡ of → first_of (stand_of es lever AtMid) bs numbers ≡ shift_of ends lever bridles
+pub tested : (ends : List End) (bridles : List Bridle) (uses : List (List ℕ)) (lever : ℕ) (es : List End)
+    (bs : List Bridle) (of numbers : List ℕ) → IsFrame ends bridles uses → IsLever (length ends) lever
+    → es ≡ ends → bs ≡ bridles → of ≡ slice_index_or uses (lever - 1) of → numbers ≡ of
+    → first_of (stand_of es lever AtMid) bs numbers ≡ shift_of ends lever bridles
 tested ends bridles uses lever es bs of numbers frame is same_ends whole read same =
-    rw (used_of ends bridles uses lever of numbers frame is read same, whole, same_ends) (first_of-naming ends lever bridles frame.seated)
+    rw (used_of ends bridles uses lever of numbers frame is read same, whole, same_ends)
+    (first_of-naming ends lever bridles frame.seated)
 
 -- the holder that the first unseated bridle names
-pub holding : (lever n : ℕ) (bridles : List Bridle) (b : Bridle) (named : ℕ) → 1 ≤ n → n < 1 + length bridles → slice_index_or bridles (n - 1) b ≡ b → named ≡ holding_lever_in b.dogs lever
+pub holding : (lever n : ℕ) (bridles : List Bridle) (b : Bridle) (named : ℕ) → 1 ≤ n → n < 1 + length bridles
+    → slice_index_or bridles (n - 1) b ≡ b → named ≡ holding_lever_in b.dogs lever
     → Some (record { lever = named; row = b.row }) ≡ Some (holder_by (slice_index_or bridles (n - 1) no_bridle) lever)
 holding lever n bridles b named above within at is =
-    let same : slice_index_or bridles (n - 1) no_bridle ≡ b = get_or_default bridles (n - 1) no_bridle b (omega arith) ∙ at in
+    let same : slice_index_or bridles (n - 1) no_bridle ≡ b =
+    get_or_default bridles (n - 1) no_bridle b (omega arith) ∙ at in
     rw (same, is) refl

@@ -18,24 +18,33 @@ few_journal_bytes version = go (version == 1) where
   go true = omega arith
   go false = omega arith
 
-pub case_given : (held other : Held) (plan_name journal_name : List ℕ) (plan : PlanFields) (entries : List Entry) → other ≡ held → IsGiven plan (text_told 1 plan_of (held plan_name))
-    → IsGiven entries (text_told 2 (journal_of plan) (other journal_name)) → IsGiven (record { plan = plan; entries = entries }) (case_told held plan_name journal_name)
+pub case_given : (held other : Held) (plan_name journal_name : List ℕ) (plan : PlanFields) (entries : List Entry)
+    → other ≡ held → IsGiven plan (text_told 1 plan_of (held plan_name))
+    → IsGiven entries (text_told 2 (journal_of plan) (other journal_name))
+    → IsGiven (record { plan = plan; entries = entries }) (case_told held plan_name journal_name)
 case_given held other plan_name journal_name plan entries same h k =
     let case : Case = record { plan = plan; entries = entries } in
     let read = subst (λ (x : Held). IsGiven entries (text_told 2 (journal_of plan) (x journal_name))) same k in
-    given_then plan case (text_told 1 plan_of (held plan_name)) _ h (given_then entries case (text_told 2 (journal_of plan) (held journal_name)) (λ found. Gives (record { plan = plan; entries = found })) read refl)
+    given_then plan case (text_told 1 plan_of (held plan_name)) _ h
+    (given_then entries case (text_told 2 (journal_of plan) (held journal_name))
+    (λ found. Gives (record { plan = plan; entries = found })) read refl)
 
-pub case_stop : (held other : Held) (plan_name journal_name : List ℕ) (plan : PlanFields) (stop : Stop) → other ≡ held → IsGiven plan (text_told 1 plan_of (held plan_name))
-    → StopsAt stop (text_told 2 (journal_of plan) (other journal_name)) → StopsAt stop (case_told held plan_name journal_name)
+pub case_stop : (held other : Held) (plan_name journal_name : List ℕ) (plan : PlanFields) (stop : Stop) → other ≡ held
+    → IsGiven plan (text_told 1 plan_of (held plan_name))
+    → StopsAt stop (text_told 2 (journal_of plan) (other journal_name))
+    → StopsAt stop (case_told held plan_name journal_name)
 case_stop held other plan_name journal_name plan stop same h k =
     let read = subst (λ (x : Held). StopsAt stop (text_told 2 (journal_of plan) (x journal_name))) same k in
-    stops_then plan stop (text_told 1 plan_of (held plan_name)) _ h (stops_first stop (text_told 2 (journal_of plan) (held journal_name)) _ read)
+    stops_then plan stop (text_told 1 plan_of (held plan_name)) _ h
+    (stops_first stop (text_told 2 (journal_of plan) (held journal_name)) _ read)
 
 abbrev done : FromTexts (Unit {0})
 done = Gives tt
 
-pub case_fault : (held : Held) (before mid now : List ℕ → ℕ) (plan_name journal_name : List ℕ) (plan : PlanFields) → ((n : List ℕ) → before n ≤ mid n)
-    → IsGiven plan (text_told 1 plan_of (held plan_name)) → Rose (mid journal_name) (now journal_name) → HasShelfFault before now (plan_name ∷ journal_name ∷ []) (case_told_before held plan_name)
+pub case_fault : (held : Held) (before mid now : List ℕ → ℕ) (plan_name journal_name : List ℕ) (plan : PlanFields)
+    → ((n : List ℕ) → before n ≤ mid n)
+    → IsGiven plan (text_told 1 plan_of (held plan_name)) → Rose (mid journal_name) (now journal_name)
+    → HasShelfFault before now (plan_name ∷ journal_name ∷ []) (case_told_before held plan_name)
 case_fault held before mid now plan_name journal_name plan later h rose = record {
   place = 1;
   within = omega arith;

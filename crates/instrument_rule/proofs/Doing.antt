@@ -515,7 +515,8 @@ module _ (plan : PlanFields) (is : IsPlan plan) where
                 subst (λ (m : ℕ). Kept plan
                     (stepped s (word_place (length plan.boxes)
                     (op_word (caller_of me.0.posts) call.act op)) m id me.1 x keeps))
-                    (same (get_or s.words (word_place (length plan.boxes) (op_word (caller_of me.0.posts) call.act op)) 0))
+                    (same (get_or s.words (word_place (length plan.boxes) (op_word (caller_of me.0.posts) call.act op))
+                    0))
                     (extends plan s k id me.0 (op_word (caller_of me.0.posts) call.act op) _ (looks_by call.act op) me.1
                     (entry_of plan (state_of plan k.log) (caller_of me.0.posts) call) at sits.0
                     (caller_held me.0.posts may.holds) g),
@@ -523,14 +524,17 @@ module _ (plan : PlanFields) (is : IsPlan plan) where
                   refl,
                   refl,
                   subst (λ (d : Bool). MadeOrSaw d plan call op me.0
-                      (get_or s.words (word_place (length plan.boxes) (op_word (caller_of me.0.posts) call.act op)) 0) x)
+                      (get_or s.words (word_place (length plan.boxes) (op_word (caller_of me.0.posts) call.act op)) 0)
+                      x)
                       (sym h)
                       (record {
                         log = k.log;
                         met = met;
                         legal = g.legal;
-                        its_word = same_word plan is call op last me.0 may fits k.log (get_or s.words 0 0) k.legal k.short fit;
-                        sure = sure plan is call op last me.0 may fits k.log (get_or s.words 0 0) k.legal k.short fit _ found h;
+                        its_word =
+                            same_word plan is call op last me.0 may fits k.log (get_or s.words 0 0) k.legal k.short fit;
+                        sure = sure plan is call op last me.0 may fits k.log (get_or s.words 0 0) k.legal k.short fit _
+                            found h;
                         now = refl;
                       }),
                 ),
@@ -559,7 +563,8 @@ module _ (plan : PlanFields) (is : IsPlan plan) where
                   refl,
                   refl,
                   subst (λ (d : Bool). MadeOrSaw d plan call op me.0
-                      (get_or s.words (word_place (length plan.boxes) (op_word (caller_of me.0.posts) call.act op)) 0) x)
+                      (get_or s.words (word_place (length plan.boxes) (op_word (caller_of me.0.posts) call.act op)) 0)
+                      x)
                       (sym h)
                       (record { log = k.log; met = met; now = refl }),
                 ),

@@ -1,6 +1,6 @@
-//! What a test tells. An assertion is proved where it stands, with all that its function then owns, and so is the end of
-//! what is owned, wherever a function may be left. So helpers compare and own little, each value ends in a `drop` of its
-//! own, and what holds is asserted here.
+//! What a test tells. An assertion is proved where it stands, with all that its function then owns, and so is the end
+//! of what is owned, wherever a function may be left. So helpers compare and own little, each value ends in a `drop` of
+//! its own, and what holds is asserted here.
 
 use std::fmt::Debug;
 use std::process::Abort;

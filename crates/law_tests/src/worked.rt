@@ -1,5 +1,5 @@
-//! Two lines: the calls that they know, their section, and worked journals, with each reply, the trains that the section
-//! holds in the end, and the most that it held. What is printed of them is shown by the worked cases.
+//! Two lines: the calls that they know, their section, and worked journals, with each reply, the trains that the
+//! section holds in the end, and the most that it held. What is printed of them is shown by the worked cases.
 
 ghost use Rattle.std.specs.Prelude.{◌↔◌, IsTrue};
 ghost use Rattle.line_law.specs.Lines.{IsLineOf};

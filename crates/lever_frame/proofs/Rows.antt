@@ -35,12 +35,14 @@ row_with row kind when = record { subject = row.subject; kind = kind; object = r
 rows_back : (from : ℕ) (rows : List Row) → rows_of (compiled from rows) ≡ rows
 rows_back from [] = refl
 rows_back from (row ∷ rows) =
-    ap (λ (k : RowKind). row_with row k (map cond_by (map cond_dog row.when)) ∷ rows_of (compiled (from + 1) rows)) (kind_back row.kind)
+    ap (λ (k : RowKind). row_with row k (map cond_by (map cond_dog row.when)) ∷ rows_of (compiled (from + 1) rows))
+    (kind_back row.kind)
     ∙ (ap (λ (cs : List Cond). row_with row row.kind cs ∷ rows_of (compiled (from + 1) rows)) (conds_back row.when)
     ∙ ap (λ (rest : List Row). row ∷ rest) (rows_back (from + 1) rows))
 
 pub rows_are : (bridles : List Bridle) (rows : List Row) → bridles ≡ compiled 1 rows → rows_of bridles ≡ rows
 rows_are bridles rows made = ap (λ (bs : List Bridle). rows_of bs) made ∙ rows_back 1 rows
 
-pub made_of : (bridles : List Bridle) (rows : List Row) → bridles ≡ compiled 1 rows → bridles ≡ compiled 1 (rows_of bridles)
+pub made_of : (bridles : List Bridle) (rows : List Row) → bridles ≡ compiled 1 rows
+    → bridles ≡ compiled 1 (rows_of bridles)
 made_of bridles rows made = made ∙ ap (compiled 1) (sym (rows_are bridles rows made))

@@ -16,9 +16,12 @@ room_by None (Permissive out) few fits = absurd fits
 room_by (Some n) (Absolute state) few fits = absurd fits
 room_by (Some n) (Permissive out) few fits = omega (arith, few, fits)
 
-pub room_out : (levers places : ℕ) (berth : Berth) (control : Control) → BerthFits levers places berth → IsControlOf (Some berth) control → HasRoomOut control
+pub room_out : (levers places : ℕ) (berth : Berth) (control : Control) → BerthFits levers places berth
+    → IsControlOf (Some berth) control → HasRoomOut control
 room_out levers places berth control fits is = room_by berth.permissive control fits.few is
 
 -- a berth's places and levers are of the box's state
-pub berth_here : (trains : List TrainPlan) (box_plan : BoxFields) (here : BoxState) (way : Way) (berth : Berth) → IsSound box_plan → IsBoxOf trains box_plan here → berth_of box_plan way ≡ Some berth → BerthFits (length here.ends) (length here.places) berth
+pub berth_here : (trains : List TrainPlan) (box_plan : BoxFields) (here : BoxState) (way : Way) (berth : Berth)
+    → IsSound box_plan → IsBoxOf trains box_plan here → berth_of box_plan way ≡ Some berth
+    → BerthFits (length here.ends) (length here.places) berth
 berth_here trains box_plan here way berth sound is e = rw (is.frame.ends, is.frame.places) (sound.berth way berth e)

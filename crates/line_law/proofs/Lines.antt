@@ -27,20 +27,28 @@ has_places plan state b call is h known =
     let within = call_within plan b call is known in
     record { box = omega (arith, h.boxes, within.box); pair = omega (arith, h.pairs, within.pair) }
 
-pub box_fits : (plan : PlanFields) (plain : PlainState) (b : ℕ) (call : Call) → IsLineOf plan plain → KnowsCall plan b call → b < length plain.line.boxes
+pub box_fits : (plan : PlanFields) (plain : PlainState) (b : ℕ) (call : Call) → IsLineOf plan plain
+    → KnowsCall plan b call → b < length plain.line.boxes
 box_fits plan plain b call line known = omega (arith, line.shape.boxes, known_box plan b call known)
 
-pub pair_fits : (plan : PlanFields) (plain : PlainState) (b : ℕ) (call : Call) → IsPlan plan → IsLineOf plan plain → KnowsCall plan b call → pair_of plan b call < length plain.line.pairs
+pub pair_fits : (plan : PlanFields) (plain : PlainState) (b : ℕ) (call : Call) → IsPlan plan → IsLineOf plan plain
+    → KnowsCall plan b call → pair_of plan b call < length plain.line.pairs
 pair_fits plan plain b call is line known = omega (arith, line.shape.pairs, (call_within plan b call is known).pair)
 
 -- the place of a section's berth is one of its box
-pub berth_place : (plan : PlanFields) (plain : PlainState) (x : Section) (berth : Berth) → IsPlan plan → IsLineOf plan plain → IsSection plan x → section_berth plan x ≡ Some berth → berth.place < length (box_at plain.line (advance_of x)).places
+pub berth_place : (plan : PlanFields) (plain : PlainState) (x : Section) (berth : Berth) → IsPlan plan
+    → IsLineOf plan plain → IsSection plan x → section_berth plan x ≡ Some berth
+    → berth.place < length (box_at plain.line (advance_of x)).places
 berth_place plan plain x berth is line in_line e =
     let has = has_boxes (length plan.boxes) x.rear x.way in_line in
     let says = (plan_sound plan (advance_of x) is has.advance).berth x.way berth e in
     omega (arith, says.place, (line.boxes (advance_of x) has.advance).shape.frame.places)
 
 -- a call that may be made
-pub may_exactly : (plan : PlanFields) (state : LineState) (b moment : ℕ) (call : Call) → KnowsCall plan b call → moment ≡ (box_at state b).moment → IsTrue (nat_le moment call.moment) ↔ MayCall plan state b call
-may_exactly plan state b moment call known same =
-    (λ h. record { known = known; later = subst (λ (m : ℕ). m ≤ call.moment) same (leb-true moment call.moment h) }, λ may. let later : moment ≤ call.moment = subst (λ (m : ℕ). m ≤ call.moment) (sym same) may.later in grind (arith, nat_tests))
+pub may_exactly : (plan : PlanFields) (state : LineState) (b moment : ℕ) (call : Call) → KnowsCall plan b call
+    → moment ≡ (box_at state b).moment → IsTrue (nat_le moment call.moment) ↔ MayCall plan state b call
+may_exactly plan state b moment call known same = (
+  λ h. record { known = known; later = subst (λ (m : ℕ). m ≤ call.moment) same (leb-true moment call.moment h) },
+  λ may. let later : moment ≤ call.moment =
+      subst (λ (m : ℕ). m ≤ call.moment) (sym same) may.later in grind (arith, nat_tests),
+)

@@ -1,5 +1,6 @@
 -- A line of a plan opens as one.
-use Rattle.std.proofs.Common.{◌≡◌, ℕ, ◌-◌, ◌<◌, ◌≤◌, ◌&&◌, true, false, not, IsTrue, List, [], ◌∷◌, Option, Some, None, All, length, replicate, refl, sym, ap, subst, ◌∙◌, arith, inl, inr, slice_index_or}
+use Rattle.std.proofs.Common.{◌≡◌, ℕ, ◌-◌, ◌<◌, ◌≤◌, ◌&&◌, true, false, not, IsTrue, List, [], ◌∷◌, Option, Some, None}
+use Rattle.std.proofs.Common.{All, length, replicate, refl, sym, ap, subst, ◌∙◌, arith, inl, inr, slice_index_or}
 use Rattle.std.specs.List.{list_all}
 use Rattle.std.proofs.lemmas.Bool.{cases_lt}
 use Rattle.std.proofs.lemmas.List.{length-map, length-replicate, get_or-map, get_or-replicate, get_or_past}
@@ -22,8 +23,10 @@ use Rattle.line_law.specs.declared.state.BoxState.{BoxState}
 use Rattle.line_law.specs.declared.state.PairState.{PairState}
 use Rattle.line_law.specs.declared.state.Passage.{Passage}
 use Rattle.line_law.specs.Law.{box_plan_of}
-use Rattle.line_law.specs.Lines.{FitsLine, IsBoxAfter, IsControlOf, IsLineOf, IsPairAfter, IsSectionBetween, IsSectionIn}
-use Rattle.line_law.specs.States.{IsStateOf, box_at, control_of, no_state, opening_box, opening_control, opening_pair, opening_state, pair_at}
+use Rattle.line_law.specs.Lines.{FitsLine, IsBoxAfter, IsControlOf, IsLineOf, IsPairAfter, IsSectionBetween}
+use Rattle.line_law.specs.Lines.{IsSectionIn}
+use Rattle.line_law.specs.States.{IsStateOf, box_at, control_of, no_state, opening_box, opening_control, opening_pair}
+use Rattle.line_law.specs.States.{opening_state, pair_at}
 use Rattle.line_law.specs.Ways.{of_way}
 use Rattle.line_law.proofs.Boxes.{MayStand}
 use Rattle.line_law.proofs.SectionSteps.{has_boxes}
@@ -47,23 +50,32 @@ normal_holds : (n : ℕ) (row : Row) → RowHolds (at_ends (replicate n ends.Nor
 normal_holds n row =
     let places = at_ends (replicate n ends.Normal) in
     let normal : places row.subject ≡ AtNormal = ap stand_at (all_one n (row.subject - 1) ends.Normal) in
-    subst (λ (s : Stand). IsTrue (not (not (is_normal s) && list_all (acts places) row.when && breaks row.kind (places row.object)))) (sym normal) refl
+    subst (λ (s : Stand). IsTrue
+    (not (not (is_normal s) && list_all (acts places) row.when && breaks row.kind (places row.object))))
+    (sym normal) refl
 
 rows_open : (n : ℕ) (rows : List Row) → All (RowHolds (at_ends (replicate n ends.Normal))) rows
 rows_open n [] = All-nil (RowHolds (at_ends (replicate n ends.Normal)))
-rows_open n (row ∷ rows) = All-cons (RowHolds (at_ends (replicate n ends.Normal))) row rows (normal_holds n row) (rows_open n rows)
+rows_open n (row ∷ rows) =
+    All-cons (RowHolds (at_ends (replicate n ends.Normal))) row rows (normal_holds n row) (rows_open n rows)
 
 -- a box begins so
 pub box_opens : (trains : List TrainPlan) (bp : BoxFields) → IsBoxAfter trains bp 0 (opening_box (length trains) bp)
 box_opens trains bp =
     record {
       shape = record {
-        frame = record { ends = length-replicate (frame_size bp.levers) ends.Normal; off = length-replicate (frame_size bp.levers) false; places = length-replicate (length bp.places) None };
+        frame = record {
+          ends = length-replicate (frame_size bp.levers) ends.Normal;
+          off =
+              length-replicate (frame_size bp.levers) false;
+          places = length-replicate (length bp.places) None;
+        };
         brought = length-replicate (length trains) false;
         occupants = All-replicate (MayStand trains) (length bp.places) None tt;
         controls = controls;
       };
-      arms = λ lever is. absurd (let e : true ≡ false = sym is ∙ all_one (frame_size bp.levers) (lever - 1) false in cc);
+      arms = λ lever is.
+          absurd (let e : true ≡ false = sym is ∙ all_one (frame_size bp.levers) (lever - 1) false in cc);
       rows = rows_open (frame_size bp.levers) bp.rows;
       counts = record { sent = sent; taken = taken };
     } where
@@ -93,12 +105,17 @@ pair_opens trains = record { bells = bells; blocks = blocks; lines = lines } whe
   lines Up = All-nil (λ (p : Passage). IsTrue (is_train trains p.train))
   lines Down = All-nil (λ (p : Passage). IsTrue (is_train trains p.train))
 
-between : (n : ℕ) (bp other : BoxFields) (w : Way) → IsSectionBetween w (opening_box n bp) (opening_box n other) (of_way opening_pair.bells w) (of_way opening_pair.blocks w) (of_way opening_pair.lines w)
-between n bp other Up = record { rung = refl; turns = refl; position = refl; numbered = refl; four = omega arith; portion = tt }
-between n bp other Down = record { rung = refl; turns = refl; position = refl; numbered = refl; four = omega arith; portion = tt }
+between : (n : ℕ) (bp other : BoxFields) (w : Way)
+    → IsSectionBetween w (opening_box n bp) (opening_box n other) (of_way opening_pair.bells w)
+    (of_way opening_pair.blocks w) (of_way opening_pair.lines w)
+between n bp other Up =
+    record { rung = refl; turns = refl; position = refl; numbered = refl; four = omega arith; portion = tt }
+between n bp other Down =
+    record { rung = refl; turns = refl; position = refl; numbered = refl; four = omega arith; portion = tt }
 
 -- the boxes and pairs of the opening state
-pub opening_at : (plan : PlanFields) (b : ℕ) → b < length plan.boxes → box_at (opening_state plan) b ≡ opening_box (length plan.trains) (box_plan_of plan b)
+pub opening_at : (plan : PlanFields) (b : ℕ) → b < length plan.boxes
+    → box_at (opening_state plan) b ≡ opening_box (length plan.trains) (box_plan_of plan b)
 unfolding opening_state
 opening_at plan b within = get_or-map (λ bp. opening_box (length plan.trains) bp) plan.boxes b no_box no_state within
 
@@ -108,15 +125,23 @@ opening_pair_at plan p = all_one (length plan.boxes - 1) p opening_pair
 
 pub opening_shape : (plan : PlanFields) → IsStateOf plan (opening_state plan)
 unfolding opening_state
-opening_shape plan = record { boxes = length-map plan.boxes (λ bp. opening_box (length plan.trains) bp); pairs = length-replicate (length plan.boxes - 1) opening_pair }
+opening_shape plan =
+    record {
+      boxes = length-map plan.boxes (λ bp. opening_box (length plan.trains) bp);
+      pairs =
+          length-replicate (length plan.boxes - 1) opening_pair;
+    }
 
-along : (w : Way) (r r' a a' : BoxState) (p p' : PairState) → r' ≡ r → a' ≡ a → p' ≡ p → IsSectionBetween w r a (of_way p.bells w) (of_way p.blocks w) (of_way p.lines w) → IsSectionBetween w r' a' (of_way p'.bells w) (of_way p'.blocks w) (of_way p'.lines w)
+along : (w : Way) (r r' a a' : BoxState) (p p' : PairState) → r' ≡ r → a' ≡ a → p' ≡ p
+    → IsSectionBetween w r a (of_way p.bells w) (of_way p.blocks w) (of_way p.lines w)
+    → IsSectionBetween w r' a' (of_way p'.bells w) (of_way p'.blocks w) (of_way p'.lines w)
 along w r r' a a' p p' er ea ep h = rw (er, ea, ep) h
 
 section_opens : (plan : PlanFields) (x : Section) → IsSection plan x → IsSectionIn (opening_state plan) x
 section_opens plan x is =
     let has = has_boxes (length plan.boxes) x.rear x.way is in
-    along x.way _ _ _ _ _ _ (opening_at plan x.rear has.rear) (opening_at plan (advance_of x) has.advance) (opening_pair_at plan _)
+    along x.way _ _ _ _ _ _ (opening_at plan x.rear has.rear) (opening_at plan (advance_of x) has.advance)
+    (opening_pair_at plan _)
     (between (length plan.trains) (box_plan_of plan x.rear) (box_plan_of plan (advance_of x)) x.way)
 
 -- a line of a plan opens as one
@@ -124,7 +149,9 @@ pub opens : (plan : PlanFields) → IsLineOf plan (record { line = opening_state
 opens plan =
     record {
       shape = opening_shape plan;
-      boxes = λ b within. subst (λ (here : BoxState). IsBoxAfter plan.trains (box_plan_of plan b) 0 here) (sym (opening_at plan b within)) (box_opens plan.trains (box_plan_of plan b));
-      pairs = λ p. subst (λ (pair : PairState). IsPairAfter plan.trains 0 pair) (sym (opening_pair_at plan p)) (pair_opens plan.trains);
+      boxes = λ b within. subst (λ (here : BoxState). IsBoxAfter plan.trains (box_plan_of plan b) 0 here)
+          (sym (opening_at plan b within)) (box_opens plan.trains (box_plan_of plan b));
+      pairs = λ p. subst (λ (pair : PairState). IsPairAfter plan.trains 0 pair) (sym (opening_pair_at plan p))
+          (pair_opens plan.trains);
       sections = λ x is. section_opens plan x is;
     }

@@ -1,5 +1,6 @@
 -- What a plan's conditions say of the things that a call names.
-use Rattle.std.proofs.Common.{◌≡◌, ℕ, ◌<◌, ◌≤◌, ◌++◌, IsTrue, List, [], ◌∷◌, Option, Some, None, All, IfSome, length, map, refl, subst, arith, eqb-true}
+use Rattle.std.proofs.Common.{◌≡◌, ℕ, ◌<◌, ◌≤◌, ◌++◌, IsTrue, List, [], ◌∷◌, Option, Some, None, All, IfSome, length}
+use Rattle.std.proofs.Common.{map, refl, subst, arith, eqb-true}
 use Rattle.std.specs.Prelude.{nat_lt, is_some, option_map, ◌==◌}
 use Rattle.std.specs.List.{find}
 use Rattle.std.proofs.lemmas.Bool.Decides.{nat_tests}
@@ -10,8 +11,10 @@ use Rattle.locking_table.specs.Places.{IsLever}
 use Rattle.locking_table.specs.Sound.{CondFits, RowFits}
 use Rattle.locking_table.specs.declared.row.Row.{Row}
 use Rattle.locking_table.specs.declared.row.Cond.{Cond}
-use Rattle.line_plan.specs.Frames.{BoxFields, are_rising, berth_of, frame_size, homes_of, is_working, kind_of, last_number, lever_of, locked_places, signal_of, track_of}
-use Rattle.line_plan.specs.Plans.{IsBerth, IsBox, IsBoxRow, IsPlace, IsPlan, IsSignal, IsTrackLock, IsWorking, PlanFields, box_at}
+use Rattle.line_plan.specs.Frames.{BoxFields, are_rising, berth_of, frame_size, homes_of, is_working, kind_of}
+use Rattle.line_plan.specs.Frames.{last_number, lever_of, locked_places, signal_of, track_of}
+use Rattle.line_plan.specs.Plans.{IsBerth, IsBox, IsBoxRow, IsPlace, IsPlan, IsSignal, IsTrackLock, IsWorking}
+use Rattle.line_plan.specs.Plans.{PlanFields, box_at}
 use Rattle.line_plan.specs.declared.berth.Berth.{Berth}
 use Rattle.line_plan.specs.declared.frame.Kind.{Kind}
 use Rattle.line_plan.specs.declared.frame.Lever.{Lever}
@@ -36,13 +39,16 @@ last_above before (lever ∷ levers) h =
     let rest = last_above lever.number levers parts.1 in
     omega (arith, less, rest)
 
-wider : (low lower high : ℕ) (levers : List Lever) → lower ≤ low → All (Within low high) levers → All (Within lower high) levers
+wider : (low lower high : ℕ) (levers : List Lever) → lower ≤ low → All (Within low high) levers
+    → All (Within lower high) levers
 wider low lower high [] h all = All-nil (Within lower high)
 wider low lower high (lever ∷ levers) h all =
     let first : Within low high lever = All-head (Within low high) lever levers all in
-    All-cons (Within lower high) lever levers (omega (arith, first.0, h), first.1) (wider low lower high levers h (All-tail (Within low high) lever levers all))
+    All-cons (Within lower high) lever levers (omega (arith, first.0, h), first.1)
+    (wider low lower high levers h (All-tail (Within low high) lever levers all))
 
-levers_within : (before : ℕ) (levers : List Lever) → IsTrue (are_rising before levers) → All (Within before (last_number before levers)) levers
+levers_within : (before : ℕ) (levers : List Lever) → IsTrue (are_rising before levers)
+    → All (Within before (last_number before levers)) levers
 levers_within before [] h = All-nil (Within before before)
 levers_within before (lever ∷ levers) h =
     let parts = both (nat_lt before lever.number) (are_rising lever.number levers) h in
@@ -53,26 +59,33 @@ levers_within before (lever ∷ levers) h =
     (wider lever.number before high levers (omega (arith, less)) (levers_within lever.number levers parts.1))
 
 -- a lever that the frame has lies within it
-pub lever_fits : (boxes b : ℕ) (box_plan : BoxFields) (n : ℕ) (lever : Lever) → IsBox boxes b box_plan → lever_of box_plan n ≡ Some lever → IsLever (frame_size box_plan.levers) n
+pub lever_fits : (boxes b : ℕ) (box_plan : BoxFields) (n : ℕ) (lever : Lever) → IsBox boxes b box_plan
+    → lever_of box_plan n ≡ Some lever → IsLever (frame_size box_plan.levers) n
 lever_fits boxes b box_plan n lever is e =
-    let within : Within 0 (frame_size box_plan.levers) lever = found_All (Within 0 (frame_size box_plan.levers)) (λ l. l.number == n) box_plan.levers lever e (levers_within 0 box_plan.levers is.rising) in
+    let within : Within 0 (frame_size box_plan.levers) lever =
+    found_All (Within 0 (frame_size box_plan.levers)) (λ l. l.number == n) box_plan.levers lever e
+    (levers_within 0 box_plan.levers is.rising) in
     let same : lever.number ≡ n = eqb-true lever.number n (found_test (λ l. l.number == n) box_plan.levers lever e) in
     (omega (arith, within.0, same), omega (arith, within.1, same))
 
-pub known_lever : (boxes b : ℕ) (box_plan : BoxFields) (n : ℕ) → IsBox boxes b box_plan → IsTrue (is_some (lever_of box_plan n)) → IsLever (frame_size box_plan.levers) n
+pub known_lever : (boxes b : ℕ) (box_plan : BoxFields) (n : ℕ) → IsBox boxes b box_plan
+    → IsTrue (is_some (lever_of box_plan n)) → IsLever (frame_size box_plan.levers) n
 known_lever boxes b box_plan n is h = go (lever_of box_plan n) refl h where
   go : (l : Option Lever) → lever_of box_plan n ≡ l → IsTrue (is_some l) → IsLever (frame_size box_plan.levers) n
   go None e some = absurd cc
   go (Some lever) e some = lever_fits boxes b box_plan n lever is e
 
 -- a lever of some kind lies within the frame
-kind_fits : (boxes b : ℕ) (box_plan : BoxFields) (n : ℕ) (kind : Kind) → IsBox boxes b box_plan → kind_of box_plan n ≡ Some kind → IsLever (frame_size box_plan.levers) n
+kind_fits : (boxes b : ℕ) (box_plan : BoxFields) (n : ℕ) (kind : Kind) → IsBox boxes b box_plan
+    → kind_of box_plan n ≡ Some kind → IsLever (frame_size box_plan.levers) n
 kind_fits boxes b box_plan n kind is h = go (lever_of box_plan n) refl h where
-  go : (l : Option Lever) → lever_of box_plan n ≡ l → option_map (λ lever. lever.kind) l ≡ Some kind → IsLever (frame_size box_plan.levers) n
+  go : (l : Option Lever) → lever_of box_plan n ≡ l → option_map (λ lever. lever.kind) l ≡ Some kind
+      → IsLever (frame_size box_plan.levers) n
   go None e some = absurd cc
   go (Some lever) e some = lever_fits boxes b box_plan n lever is e
 
-working_fits : (boxes b : ℕ) (box_plan : BoxFields) (n : ℕ) → IsBox boxes b box_plan → IsWorking box_plan n → IsLever (frame_size box_plan.levers) n
+working_fits : (boxes b : ℕ) (box_plan : BoxFields) (n : ℕ) → IsBox boxes b box_plan → IsWorking box_plan n
+    → IsLever (frame_size box_plan.levers) n
 working_fits boxes b box_plan n is h = go (kind_of box_plan n) refl h where
   go : (k : Option Kind) → kind_of box_plan n ≡ k → IsTrue (is_working k) → IsLever (frame_size box_plan.levers) n
   go None e some = absurd cc
@@ -80,37 +93,49 @@ working_fits boxes b box_plan n is h = go (kind_of box_plan n) refl h where
 
 -- ---- rows
 
-conds_fit : (boxes b : ℕ) (box_plan : BoxFields) (conds : List Cond) → IsBox boxes b box_plan → All (IsWorking box_plan) (map (λ cond. cond.lever) conds) → All (CondFits (frame_size box_plan.levers)) conds
+conds_fit : (boxes b : ℕ) (box_plan : BoxFields) (conds : List Cond) → IsBox boxes b box_plan
+    → All (IsWorking box_plan) (map (λ cond. cond.lever) conds) → All (CondFits (frame_size box_plan.levers)) conds
 conds_fit boxes b box_plan [] is h = All-nil (CondFits (frame_size box_plan.levers))
 conds_fit boxes b box_plan (c ∷ cs) is h =
     All-cons (CondFits (frame_size box_plan.levers)) c cs
     (working_fits boxes b box_plan c.lever is (All-head (IsWorking box_plan) c.lever (map (λ cond. cond.lever) cs) h))
     (conds_fit boxes b box_plan cs is (All-tail (IsWorking box_plan) c.lever (map (λ cond. cond.lever) cs) h))
 
-row_fits : (boxes b : ℕ) (box_plan : BoxFields) (row : Row) → IsBox boxes b box_plan → IsBoxRow box_plan row → RowFits (frame_size box_plan.levers) row
+row_fits : (boxes b : ℕ) (box_plan : BoxFields) (row : Row) → IsBox boxes b box_plan → IsBoxRow box_plan row
+    → RowFits (frame_size box_plan.levers) row
 row_fits boxes b box_plan row is h =
     let later : List ℕ = map (λ cond. cond.lever) row.when in
-    let rest : All (IsWorking box_plan) (row.object ∷ later) = All-tail (IsWorking box_plan) row.subject (row.object ∷ later) h.levers in
+    let rest : All (IsWorking box_plan) (row.object ∷ later) =
+    All-tail (IsWorking box_plan) row.subject (row.object ∷ later) h.levers in
     record {
-      subject = working_fits boxes b box_plan row.subject is (All-head (IsWorking box_plan) row.subject (row.object ∷ later) h.levers);
+      subject =
+          working_fits boxes b box_plan row.subject is
+          (All-head (IsWorking box_plan) row.subject (row.object ∷ later) h.levers);
       object = working_fits boxes b box_plan row.object is (All-head (IsWorking box_plan) row.object later rest);
       when = conds_fit boxes b box_plan row.when is (All-tail (IsWorking box_plan) row.object later rest);
     }
 
-rows_fit : (boxes b : ℕ) (box_plan : BoxFields) (rows : List Row) → IsBox boxes b box_plan → All (IsBoxRow box_plan) rows → All (RowFits (frame_size box_plan.levers)) rows
+rows_fit : (boxes b : ℕ) (box_plan : BoxFields) (rows : List Row) → IsBox boxes b box_plan
+    → All (IsBoxRow box_plan) rows → All (RowFits (frame_size box_plan.levers)) rows
 rows_fit boxes b box_plan [] is h = All-nil (RowFits (frame_size box_plan.levers))
 rows_fit boxes b box_plan (row ∷ rows) is h =
-    All-cons (RowFits (frame_size box_plan.levers)) row rows (row_fits boxes b box_plan row is (All-head (IsBoxRow box_plan) row rows h)) (rows_fit boxes b box_plan rows is (All-tail (IsBoxRow box_plan) row rows h))
+    All-cons (RowFits (frame_size box_plan.levers)) row rows
+    (row_fits boxes b box_plan row is (All-head (IsBoxRow box_plan) row rows h))
+    (rows_fit boxes b box_plan rows is (All-tail (IsBoxRow box_plan) row rows h))
 
 -- ---- signals
 
 -- what the plan says of the signal of a lever
-pub signal_is : (boxes b : ℕ) (box_plan : BoxFields) (lever : ℕ) (signal : Signal) → IsBox boxes b box_plan → signal_of box_plan lever ≡ Some signal → IsSignal boxes b box_plan signal
-signal_is boxes b box_plan lever signal is e = found_All (IsSignal boxes b box_plan) (λ s. s.lever == lever) box_plan.signals signal e is.signals
+pub signal_is : (boxes b : ℕ) (box_plan : BoxFields) (lever : ℕ) (signal : Signal) → IsBox boxes b box_plan
+    → signal_of box_plan lever ≡ Some signal → IsSignal boxes b box_plan signal
+signal_is boxes b box_plan lever signal is e =
+    found_All (IsSignal boxes b box_plan) (λ s. s.lever == lever) box_plan.signals signal e is.signals
 
 -- the lever of the signal that a lever works
-pub signal_lever : (box_plan : BoxFields) (lever : ℕ) (signal : Signal) → signal_of box_plan lever ≡ Some signal → signal.lever ≡ lever
-signal_lever box_plan lever signal e = eqb-true signal.lever lever (found_test (λ s. s.lever == lever) box_plan.signals signal e)
+pub signal_lever : (box_plan : BoxFields) (lever : ℕ) (signal : Signal) → signal_of box_plan lever ≡ Some signal
+    → signal.lever ≡ lever
+signal_lever box_plan lever signal e =
+    eqb-true signal.lever lever (found_test (λ s. s.lever == lever) box_plan.signals signal e)
 
 ends_fit : (P : ℕ → Type 0) (to : To) (front : List ℕ) → All P (front ++ end_of to) → All P (end_of to)
 ends_fit P to [] h = h
@@ -118,12 +143,15 @@ ends_fit P to (x ∷ xs) h = ends_fit P to xs (All-tail P x (xs ++ end_of to) h)
 
 over_fit : (P : ℕ → Type 0) (front back : List ℕ) → All P (front ++ back) → All P front
 over_fit P [] back h = All-nil P
-over_fit P (x ∷ xs) back h = All-cons P x xs (All-head P x (xs ++ back) h) (over_fit P xs back (All-tail P x (xs ++ back) h))
+over_fit P (x ∷ xs) back h =
+    All-cons P x xs (All-head P x (xs ++ back) h) (over_fit P xs back (All-tail P x (xs ++ back) h))
 
-pub signal_fits : (boxes b : ℕ) (box_plan : BoxFields) (lever : ℕ) (signal : Signal) → IsBox boxes b box_plan → signal_of box_plan lever ≡ Some signal → SignalFits (frame_size box_plan.levers) (length box_plan.places) signal
+pub signal_fits : (boxes b : ℕ) (box_plan : BoxFields) (lever : ℕ) (signal : Signal) → IsBox boxes b box_plan
+    → signal_of box_plan lever ≡ Some signal → SignalFits (frame_size box_plan.levers) (length box_plan.places) signal
 signal_fits boxes b box_plan lever signal is e =
     let says = signal_is boxes b box_plan lever signal is e in
-    let rest : All (IsPlace box_plan) (signal.over ++ end_of signal.to) = All-tail (IsPlace box_plan) signal.from _ says.places in
+    let rest : All (IsPlace box_plan) (signal.over ++ end_of signal.to) =
+    All-tail (IsPlace box_plan) signal.from _ says.places in
     record {
       lever = kind_fits boxes b box_plan signal.lever _ is says.lever;
       from = All-head (IsPlace box_plan) signal.from _ says.places;
@@ -133,37 +161,54 @@ signal_fits boxes b box_plan lever signal is e =
 
 -- ---- track circuits
 
-track_fits : (box_plan : BoxFields) (lever : ℕ) → All (IsTrackLock box_plan) box_plan.tracks → All (IsPlace box_plan) (track_of box_plan lever)
+track_fits : (box_plan : BoxFields) (lever : ℕ) → All (IsTrackLock box_plan) box_plan.tracks
+    → All (IsPlace box_plan) (track_of box_plan lever)
 track_fits box_plan lever h = go (find (λ track. track.lever == lever) box_plan.tracks) refl where
-  go : (t : Option TrackLock) → find (λ track. track.lever == lever) box_plan.tracks ≡ t → All (IsPlace box_plan) (locked_places t)
+  go : (t : Option TrackLock) → find (λ track. track.lever == lever) box_plan.tracks ≡ t
+      → All (IsPlace box_plan) (locked_places t)
   go None e = All-nil (IsPlace box_plan)
   go (Some track) e = (found_All (IsTrackLock box_plan) (λ t. t.lever == lever) box_plan.tracks track e h).places
 
 -- ---- berths
 
-homes_fit : (boxes b : ℕ) (box_plan : BoxFields) (place : ℕ) → IsBox boxes b box_plan → All (IsLever (frame_size box_plan.levers)) (homes_of box_plan place)
+homes_fit : (boxes b : ℕ) (box_plan : BoxFields) (place : ℕ) → IsBox boxes b box_plan
+    → All (IsLever (frame_size box_plan.levers)) (homes_of box_plan place)
 homes_fit boxes b box_plan place is =
     let size : ℕ = frame_size box_plan.levers in
-    All-map (IsLever size) (λ (lever : Lever). lever.number) _ (All-filter _ (λ (lever : Lever). IsLever size lever.number) box_plan.levers (go 0 box_plan.levers (levers_within 0 box_plan.levers is.rising))) where
-      go : (low : ℕ) (levers : List Lever) → All (Within low (frame_size box_plan.levers)) levers → All (λ (lever : Lever). IsLever (frame_size box_plan.levers) lever.number) levers
+    All-map (IsLever size) (λ (lever : Lever). lever.number) _
+    (All-filter _ (λ (lever : Lever). IsLever size lever.number) box_plan.levers
+    (go 0 box_plan.levers (levers_within 0 box_plan.levers is.rising))) where
+      go : (low : ℕ) (levers : List Lever) → All (Within low (frame_size box_plan.levers)) levers
+          → All (λ (lever : Lever). IsLever (frame_size box_plan.levers) lever.number) levers
       go low [] h = All-nil (λ (lever : Lever). IsLever (frame_size box_plan.levers) lever.number)
       go low (l ∷ ls) h =
           let first = All-head (Within low (frame_size box_plan.levers)) l ls h in
-          All-cons (λ (lever : Lever). IsLever (frame_size box_plan.levers) lever.number) l ls (omega (arith, first.0), first.1) (go low ls (All-tail (Within low (frame_size box_plan.levers)) l ls h))
+          All-cons (λ (lever : Lever). IsLever (frame_size box_plan.levers) lever.number) l ls
+          (omega (arith, first.0), first.1) (go low ls (All-tail (Within low (frame_size box_plan.levers)) l ls h))
 
 -- what the plan says of a berth
-pub berth_is : (boxes b : ℕ) (box_plan : BoxFields) (way : Way) (berth : Berth) → IsBox boxes b box_plan → berth_of box_plan way ≡ Some berth → IsBerth boxes b box_plan way berth
-berth_is boxes b box_plan Up berth is e = subst (λ (o : Option Berth). IfSome o (IsBerth boxes b box_plan Up)) e is.berth_up
-berth_is boxes b box_plan Down berth is e = subst (λ (o : Option Berth). IfSome o (IsBerth boxes b box_plan Down)) e is.berth_down
+pub berth_is : (boxes b : ℕ) (box_plan : BoxFields) (way : Way) (berth : Berth) → IsBox boxes b box_plan
+    → berth_of box_plan way ≡ Some berth → IsBerth boxes b box_plan way berth
+berth_is boxes b box_plan Up berth is e =
+    subst (λ (o : Option Berth). IfSome o (IsBerth boxes b box_plan Up)) e is.berth_up
+berth_is boxes b box_plan Down berth is e =
+    subst (λ (o : Option Berth). IfSome o (IsBerth boxes b box_plan Down)) e is.berth_down
 
 few_out : (n : Option ℕ) → IfSome n (λ n. (1 ≤ n) × (n ≤ 3)) → IfSome n (λ n. n ≤ 3)
 few_out None h = h
 few_out (Some n) h = h.1
 
-pub berth_fits : (boxes b : ℕ) (box_plan : BoxFields) (way : Way) (berth : Berth) → IsBox boxes b box_plan → berth_of box_plan way ≡ Some berth → BerthFits (frame_size box_plan.levers) (length box_plan.places) berth
+pub berth_fits : (boxes b : ℕ) (box_plan : BoxFields) (way : Way) (berth : Berth) → IsBox boxes b box_plan
+    → berth_of box_plan way ≡ Some berth → BerthFits (frame_size box_plan.levers) (length box_plan.places) berth
 berth_fits boxes b box_plan way berth is e =
     let says = berth_is boxes b box_plan way berth is e in
-    record { place = says.place; homes = rw says.homes (homes_fit boxes b box_plan berth.place is); clearing = says.clearing; few = few_out berth.permissive says.permissive }
+    record {
+      place = says.place;
+      homes = rw says.homes (homes_fit boxes b box_plan berth.place is);
+      clearing =
+          says.clearing;
+      few = few_out berth.permissive says.permissive;
+    }
 
 -- ---- a box
 

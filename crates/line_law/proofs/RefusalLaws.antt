@@ -52,7 +52,8 @@ either_stays true here word x y p q = p
 either_stays false here word x y p q = q
 
 rung_stays : (here : BoxState) (side : Way) (code count : ℕ) (unheard : Option ℕ)
-    → Stays here (let bell : Bell = record { count = count; unheard = unheard } in bell) (rung here side code count unheard)
+    → Stays here (let bell : Bell = record { count = count; unheard = unheard } in bell)
+    (rung here side code count unheard)
 rung_stays here side code count (Some held) = (refl, λ r. (refl, refl))
 rung_stays here side code count None = (refl, λ r. absurd cc)
 
@@ -62,12 +63,14 @@ heard_stays here count (Some code) = (refl, λ r. absurd cc)
 heard_stays here count None = (refl, λ r. (refl, refl))
 
 awaited_stays : (here : BoxState) (code count : ℕ) (unheard : Option ℕ)
-    → Stays here (let bell : Bell = record { count = count; unheard = unheard } in bell) (awaited here code count unheard)
+    → Stays here (let bell : Bell = record { count = count; unheard = unheard } in bell)
+    (awaited here code count unheard)
 awaited_stays here code count (Some held) =
     either_stays (held == code) here _ _ _ (refl, λ r. absurd cc) (refl, λ r. (refl, refl))
 awaited_stays here code count None = (refl, λ r. (refl, refl))
 
-block_stays : (here : BoxState) (position : Position) (block : Block) → Stays here block (await_block here position block)
+block_stays : (here : BoxState) (position : Position) (block : Block)
+    → Stays here block (await_block here position block)
 block_stays here position block =
     either_stays (same_position block.position position) here block _ _ (refl, λ r. absurd cc) (refl, λ r. (refl, refl))
 
@@ -76,7 +79,8 @@ enter_stays : (here left : BoxState) (way : Way) (train : ℕ) (line : List Pass
 enter_stays here left way train line =
     either_stays (holds line (of_way here.sent way + 1)) here line _ _ (refl, λ r. (refl, refl)) (refl, λ r. absurd cc)
 
-awaits_stays : (t : Option ℕ) (here : BoxState) (j : ℕ) (line : List Passage) → Stays here line (train_awaited t here j line)
+awaits_stays : (t : Option ℕ) (here : BoxState) (j : ℕ) (line : List Passage)
+    → Stays here line (train_awaited t here j line)
 awaits_stays None here j line = (refl, λ r. (refl, refl))
 awaits_stays (Some train) here j line = (refl, λ r. absurd cc)
 
@@ -108,7 +112,8 @@ bell_in here pair v f h = (
   λ r. let kept = h.1 r in (
     kept.0,
     ap (λ (bell : Bell). (let p : PairState = record pair { bells = with_way pair.bells v bell } in p)) kept.1
-        ∙ ap (λ (bells : ByWay Bell). (let p : PairState = record pair { bells = bells } in p)) (same_with pair.bells v),
+        ∙ ap (λ (bells : ByWay Bell). (let p : PairState = record pair { bells = bells } in p))
+        (same_with pair.bells v),
   ),
 )
 
@@ -119,7 +124,8 @@ block_in here pair v f h = (
   λ r. let kept = h.1 r in (
     kept.0,
     ap (λ (block : Block). (let p : PairState = record pair { blocks = with_way pair.blocks v block } in p)) kept.1
-        ∙ ap (λ (blocks : ByWay Block). (let p : PairState = record pair { blocks = blocks } in p)) (same_with pair.blocks v),
+        ∙ ap (λ (blocks : ByWay Block). (let p : PairState = record pair { blocks = blocks } in p))
+        (same_with pair.blocks v),
   ),
 )
 
@@ -141,7 +147,8 @@ not_held : (reply : Reply) → IsTrue (is_refused_here reply) → is_held_by_ins
 not_held (replies.HeldByInstrument way shown spent v) h = absurd cc
 not_held reply h = refl
 
--- what a call leaves that is refused: its box and the pair; or, where an instrument holds it, the box, and the pair with
+-- what a call leaves that is refused: its box and the pair; or, where an instrument holds it, the box, and the pair
+-- with
 -- that instrument spent
 record Leaves (bp : BoxFields) (act : Act) (here : BoxState) (pair : PairState) (v : Way) (told : Told PairState)
     : Type 0 where
@@ -183,13 +190,15 @@ pair_leaves plan bp here pair v act d (Refused a reply refused) =
     no_instrument bp a here pair v _ (not_held reply refused, λ r. (refl, refl))
 pair_leaves plan bp here pair v act d (Rings side code) =
     no_instrument bp (acts.Ring side code) here pair v _
-    (bell_in here pair v (ring here side code) (rung_stays here side code (of_way pair.bells v).count (of_way pair.bells v).unheard))
+    (bell_in here pair v (ring here side code)
+    (rung_stays here side code (of_way pair.bells v).count (of_way pair.bells v).unheard))
 pair_leaves plan bp here pair v act d (Hears side) =
     no_instrument bp (acts.Hear side) here pair v _
     (bell_in here pair v (hear here) (heard_stays here (of_way pair.bells v).count (of_way pair.bells v).unheard))
 pair_leaves plan bp here pair v act d (AwaitsBell side code) =
     no_instrument bp (acts.AwaitBell side code) here pair v _
-    (bell_in here pair v (await_bell here code) (awaited_stays here code (of_way pair.bells v).count (of_way pair.bells v).unheard))
+    (bell_in here pair v (await_bell here code)
+    (awaited_stays here code (of_way pair.bells v).count (of_way pair.bells v).unheard))
 pair_leaves plan bp here pair v act d (Turns way position berth e free) =
     no_instrument bp (acts.Turn way position) here pair v _ (refl, λ r. absurd cc)
 pair_leaves plan bp here pair v act d (AwaitsBlock way position) =
@@ -210,18 +219,21 @@ pair_leaves plan bp here pair v act d (GoesAway a lever signal train e to there 
     no_instrument bp a here pair v _ (refl, λ r. absurd cc)
 pair_leaves plan bp here pair v act d (Enters a lever signal train way e to there moves) =
     no_instrument bp a here pair v _
-    (line_in here pair v (enter here (left_by bp here signal) way train) (enter_stays here (left_by bp here signal) way train (of_way pair.lines v)))
+    (line_in here pair v (enter here (left_by bp here signal) way train)
+    (enter_stays here (left_by bp here signal) way train (of_way pair.lines v)))
 pair_leaves plan bp here pair v act d (AwaitsTrain way) =
     no_instrument bp (acts.AwaitTrain way) here pair v _
     (line_in here pair v (await_train here way)
     (awaits_stays (next_train here way (of_way pair.lines v)) here (next_number here way) (of_way pair.lines v)))
 pair_leaves plan bp here pair v act d (Berths way berth e free) =
     no_instrument bp (acts.Berth way) here pair v _
-    (line_in here pair v (berthed here way berth.place) (berthed_stays (next_train here way (of_way pair.lines v)) here way berth.place
+    (line_in here pair v (berthed here way berth.place)
+    (berthed_stays (next_train here way (of_way pair.lines v)) here way berth.place
     (next_number here way) (of_way pair.lines v)))
 pair_leaves plan bp here pair v act d (Parts way berth e free) =
     no_instrument bp (acts.BerthPart way) here pair v _
-    (line_in here pair v (parted here way berth.place) (parted_stays (next_train here way (of_way pair.lines v)) here way berth.place
+    (line_in here pair v (parted here way berth.place)
+    (parted_stays (next_train here way (of_way pair.lines v)) here way berth.place
     (next_number here way) (of_way pair.lines v)))
 pair_leaves plan bp here pair v act d (Clears way free) =
     no_instrument bp (acts.ClearPortion way) here pair v _

@@ -1,5 +1,6 @@
 -- A reply is found again from its number and the numbers that it tells; so replies with the same are one.
-use Rattle.std.proofs.Common.{ℕ, ◌+◌, ◌-◌, ◌≡◌, List, [], ◌∷◌, Bool, true, false, Option, Some, None, IsTrue, refl, sym, ap, subst, ◌∙◌, arith, eqb-true, slice_index_or}
+use Rattle.std.proofs.Common.{ℕ, ◌+◌, ◌-◌, ◌≡◌, List, [], ◌∷◌, Bool, true, false, Option, Some, None, IsTrue, refl, sym}
+use Rattle.std.proofs.Common.{ap, subst, ◌∙◌, arith, eqb-true, slice_index_or}
 use Rattle.std.specs.Prelude.{◌==◌, ◌↔◌, nat_eq, if◌then◌else◌}
 use Rattle.std.specs.Cmp.Lexicographic.{pointwise, same_text, nat_list_eq_equiv}
 use Rattle.std.proofs.lemmas.Bool.{eq-eqb}
@@ -10,7 +11,16 @@ use Rattle.block_words.specs.declared.Way.TheVariants.{Up, Down}
 use Rattle.block_words.specs.declared.WelwynState.{WelwynState}
 use Rattle.block_words.specs.declared.WelwynState.TheVariants as welwyn
 use Rattle.line_law.specs.declared.call.Reply.{Reply}
-use Rattle.line_law.specs.declared.call.Reply.TheVariants.{Rung, BellBusy, Heard, Silent, BellNotYet, Turned, AlreadyThere, NotFromNormal, HomeReversed, TrackOccupied, WelwynHolds, CountFull, Seen, BlockNotYet, Pulled, PulledUnder, AlreadyReversed, Spare, HeldByLever, HeldByTrack, HeldByInstrument, Put, AlreadyNormal, Brought, AlreadyBrought, Occupied, Passed, Entered, NoTrain, AtDanger, ArmOff, SectionFull, Approaching, TrainNotYet, Berthed, PartBerthed, NoTrainAt, BerthOccupied, PortionAhead, Cleared, NoPortion, Winding, AlreadyWinding, NotAtNormal, Released, NotWinding, TooSoon}
+use Rattle.line_law.specs.declared.call.Reply.TheVariants.{Rung, BellBusy, Heard, Silent, BellNotYet, Turned}
+use Rattle.line_law.specs.declared.call.Reply.TheVariants.{AlreadyThere, NotFromNormal, HomeReversed, TrackOccupied}
+use Rattle.line_law.specs.declared.call.Reply.TheVariants.{WelwynHolds, CountFull, Seen, BlockNotYet, Pulled}
+use Rattle.line_law.specs.declared.call.Reply.TheVariants.{PulledUnder, AlreadyReversed, Spare, HeldByLever}
+use Rattle.line_law.specs.declared.call.Reply.TheVariants.{HeldByTrack, HeldByInstrument, Put, AlreadyNormal, Brought}
+use Rattle.line_law.specs.declared.call.Reply.TheVariants.{AlreadyBrought, Occupied, Passed, Entered, NoTrain, AtDanger}
+use Rattle.line_law.specs.declared.call.Reply.TheVariants.{ArmOff, SectionFull, Approaching, TrainNotYet, Berthed}
+use Rattle.line_law.specs.declared.call.Reply.TheVariants.{PartBerthed, NoTrainAt, BerthOccupied, PortionAhead, Cleared}
+use Rattle.line_law.specs.declared.call.Reply.TheVariants.{NoPortion, Winding, AlreadyWinding, NotAtNormal, Released}
+use Rattle.line_law.specs.declared.call.Reply.TheVariants.{NotWinding, TooSoon}
 use Rattle.line_law.specs.Replies.{numbers_told, reply_no, same_reply}
 use Rattle.line_law.proofs.Found.{both}
 
@@ -56,7 +66,8 @@ makers =
     ∷ (λ (told : List ℕ). Spare)
     ∷ (λ (told : List ℕ). HeldByLever (at told 0) (at told 1))
     ∷ (λ (told : List ℕ). HeldByTrack (at told 0) (at told 1))
-    ∷ (λ (told : List ℕ). HeldByInstrument (way_of (at told 0)) (position_of (at told 2)) (mark_of (at told 3)) (at told 1))
+    ∷ (λ (told : List ℕ). HeldByInstrument (way_of (at told 0)) (position_of (at told 2)) (mark_of (at told 3))
+    (at told 1))
     ∷ (λ (told : List ℕ). Put)
     ∷ (λ (told : List ℕ). AlreadyNormal)
     ∷ (λ (told : List ℕ). Brought)
@@ -92,7 +103,8 @@ reply_from n told = slice_index_or makers n (λ (told : List ℕ). Put) told
 some_again : (k code : ℕ) → BellNotYet (shown_of (code + 1)) k ≡ BellNotYet (Some code) k
 unfolding shown_of
 some_again k code = by ((code + 1) == 0) refl where
-  by : (b : Bool) → ((code + 1) == 0) ≡ b → BellNotYet (if b then None else Some (code + 1 - 1)) k ≡ BellNotYet (Some code) k
+  by : (b : Bool) → ((code + 1) == 0) ≡ b
+      → BellNotYet (if b then None else Some (code + 1 - 1)) k ≡ BellNotYet (Some code) k
   by true e = absurd (let z : code + 1 ≡ 0 = eqb-true (code + 1) 0 e in omega arith)
   by false e = let c : code + 1 - 1 ≡ code = omega arith in rw c refl
 
@@ -164,22 +176,30 @@ found_again NotWinding = refl
 found_again (TooSoon ready_at) = refl
 
 -- replies with the same number that tell the same numbers are one
-one_reply : (reply other : Reply) → reply_no reply ≡ reply_no other → numbers_told reply ≡ numbers_told other → reply ≡ other
-one_reply reply other n told = sym (found_again reply) ∙ (ap (λ (k : ℕ). reply_from k (numbers_told reply)) n ∙ (ap (λ (told : List ℕ). reply_from (reply_no other) told) told ∙ found_again other))
+one_reply : (reply other : Reply) → reply_no reply ≡ reply_no other → numbers_told reply ≡ numbers_told other
+    → reply ≡ other
+one_reply reply other n told =
+    sym (found_again reply)
+    ∙ (ap (λ (k : ℕ). reply_from k (numbers_told reply)) n
+    ∙ (ap (λ (told : List ℕ). reply_from (reply_no other) told) told ∙ found_again other))
 
 -- the test of two replies tells that they are one
 pub same_reply-true : (reply other : Reply) → IsTrue (same_reply reply other) → reply ≡ other
 same_reply-true reply other same =
-    let parts = both (reply_no reply == reply_no other) (pointwise nat_eq (numbers_told reply) (numbers_told other)) same in
-    one_reply reply other (eqb-true (reply_no reply) (reply_no other) parts.0) (same_text (numbers_told reply) (numbers_told other) (sym parts.1))
+    let parts =
+    both (reply_no reply == reply_no other) (pointwise nat_eq (numbers_told reply) (numbers_told other)) same in
+    one_reply reply other (eqb-true (reply_no reply) (reply_no other) parts.0)
+    (same_text (numbers_told reply) (numbers_told other) (sym parts.1))
 
 -- a reply is the same as itself
 pub same_reply-itself : (reply : Reply) → IsTrue (same_reply reply reply)
 same_reply-itself reply =
     let n : (reply_no reply == reply_no reply) ≡ true = eq-eqb (reply_no reply) (reply_no reply) refl in
-    let told : pointwise nat_eq (numbers_told reply) (numbers_told reply) ≡ true = nat_list_eq_equiv.refl (numbers_told reply) in
+    let told : pointwise nat_eq (numbers_told reply) (numbers_told reply) ≡ true =
+    nat_list_eq_equiv.refl (numbers_told reply) in
     rw (n, told) refl
 
 -- the test of two replies holds exactly where they are one
 pub same_reply_is : (reply other : Reply) → IsTrue (same_reply reply other) ↔ (reply ≡ other)
-same_reply_is reply other = (same_reply-true reply other, λ e. subst (λ (r : Reply). IsTrue (same_reply reply r)) e (same_reply-itself reply))
+same_reply_is reply other =
+    (same_reply-true reply other, λ e. subst (λ (r : Reply). IsTrue (same_reply reply r)) e (same_reply-itself reply))

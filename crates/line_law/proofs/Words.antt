@@ -12,11 +12,13 @@ of_way-with both Up x = refl
 of_way-with both Down x = refl
 
 -- the other word stays
-pub of_way-with_other : {A : Type 0} → (both : ByWay A) (way : Way) (x : A) → of_way both (opposite way) ≡ of_way (with_way both way x) (opposite way)
+pub of_way-with_other : {A : Type 0} → (both : ByWay A) (way : Way) (x : A)
+    → of_way both (opposite way) ≡ of_way (with_way both way x) (opposite way)
 of_way-with_other both Up x = refl
 of_way-with_other both Down x = refl
 
 -- the same, of the word of the opposite way
-pub of_way-with_opposite : {A : Type 0} → (both : ByWay A) (way : Way) (x : A) → of_way (with_way both (opposite way) x) way ≡ of_way both way
+pub of_way-with_opposite : {A : Type 0} → (both : ByWay A) (way : Way) (x : A)
+    → of_way (with_way both (opposite way) x) way ≡ of_way both way
 of_way-with_opposite both Up x = refl
 of_way-with_opposite both Down x = refl

@@ -75,7 +75,8 @@ with_moment state b call = record state { boxes = slice_set state.boxes b (at_mo
 
 -- two neighbours with the instrument of that way spent, and all else as it was
 abbrev pub pair_spent : PairState → Way → PairState
-pair_spent pair way = record pair { blocks = with_way pair.blocks way (record (of_way pair.blocks way) { spent = true }) }
+pair_spent pair way =
+    record pair { blocks = with_way pair.blocks way (record (of_way pair.blocks way) { spent = true }) }
 
 -- the line with the instrument of the section that leaves box b that way spent, and all else as it was
 abbrev pub with_spent : LineState → ℕ → Way → LineState

@@ -20,7 +20,8 @@ pub calls_none : (at : MadeBox) → made_calls at 0 ≡ []
 unfolding made_calls
 calls_none at = refl
 
-pub calls_next : (at : MadeBox) (n : ℕ) → made_calls at (n + 1) ≡ made_calls at n ++ calls_at (train_moment (n + 1)) (acts_for at (n + 1))
+pub calls_next : (at : MadeBox) (n : ℕ)
+    → made_calls at (n + 1) ≡ made_calls at n ++ calls_at (train_moment (n + 1)) (acts_for at (n + 1))
 unfolding made_calls
 calls_next at n = rw add-one refl
 
@@ -28,7 +29,8 @@ abbrev call_at : ℕ → Act → Call
 call_at moment act = record { moment = moment; act = act }
 
 -- acts behind others are calls behind theirs
-pub calls_at-append : (moment : ℕ) (front acts : List Act) → calls_at moment (front ++ acts) ≡ calls_at moment front ++ calls_at moment acts
+pub calls_at-append : (moment : ℕ) (front acts : List Act)
+    → calls_at moment (front ++ acts) ≡ calls_at moment front ++ calls_at moment acts
 calls_at-append moment front acts = map-append (λ (act : Act). call_at moment act) front acts
 
 pub ruleset joining = (calls_at-append, append_assoc, append-nil)

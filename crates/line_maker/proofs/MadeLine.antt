@@ -54,7 +54,8 @@ beech = record {
   name = codes "Beech";
   places = codes "DB" ∷ codes "DP" ∷ codes "UB" ∷ codes "UP" ∷ [];
   levers = stop 1 ∷ stop 2 ∷ stop 3 ∷ stop 4 ∷ points 5 ∷ [];
-  signals = arm 1 0 (ends.Place 1) ∷ arm 3 2 (ends.Place 3) ∷ arm 2 1 (ends.Section Down) ∷ arm 4 3 (ends.Section Up) ∷ [];
+  signals =
+      arm 1 0 (ends.Place 1) ∷ arm 3 2 (ends.Place 3) ∷ arm 2 1 (ends.Section Down) ∷ arm 4 3 (ends.Section Up) ∷ [];
   berth_up = Some (berth_at 2 3 3);
   berth_down = Some (berth_at 0 1 1);
   tracks = record { lever = 5; places = 1 ∷ [] } ∷ [];
@@ -75,7 +76,17 @@ cedar = record {
 
 -- the plan of the made line with these boxes and trains
 abbrev pub plan_with : List BoxFields → List TrainPlan → PlanFields
-plan_with boxes trains = record { version = 1; delay = 2; looks = 1000000000; codes = opening_codes; classes = opening_classes; boxes = boxes; trains = trains }
+plan_with boxes trains =
+    record {
+      version = 1;
+      delay = 2;
+      looks = 1000000000;
+      codes = opening_codes;
+      classes = opening_classes;
+      boxes =
+          boxes;
+      trains = trains;
+    }
 
 -- its draft, in a box or outside
 abbrev pub draft_with : Stage → List BoxFields → BoxFields → List TrainPlan → DraftFields

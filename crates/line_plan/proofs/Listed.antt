@@ -1,5 +1,6 @@
 -- What is in a list, and what is not.
-use Rattle.std.proofs.Common.{◌≡◌, ℕ, ◌+◌, ◌<◌, ◌≤◌, Bool, true, false, cond, not, ◌||◌, eqb, ltb, List, [], ◌∷◌, ◌++◌, length, map, None, Some, IsTrue, is_some, refl, sym, ap, ◌∙◌, arith, position}
+use Rattle.std.proofs.Common.{◌≡◌, ℕ, ◌+◌, ◌<◌, ◌≤◌, Bool, true, false, cond, not, ◌||◌, eqb, ltb, List, [], ◌∷◌, ◌++◌}
+use Rattle.std.proofs.Common.{length, map, None, Some, IsTrue, is_some, refl, sym, ap, ◌∙◌, arith, position}
 use Rattle.std.specs.List.{find, list_any, position_or_len}
 use Rattle.std.proofs.lemmas.Bool.Decides.{nat_tests}
 use Rattle.std.proofs.lemmas.List.{map-append}
@@ -8,7 +9,8 @@ use Rattle.rail_text.proofs.PrintedLines.{both}
 use Rattle.line_plan.specs.declared.frame.Lever.{Lever}
 use Rattle.line_plan.specs.Frames.{are_rising, last_number}
 
-pub any_map : {A B : Type 0} (p : B → Bool) (f : A → B) (xs : List A) → list_any p (map f xs) ≡ list_any (λ x. p (f x)) xs
+pub any_map : {A B : Type 0} (p : B → Bool) (f : A → B) (xs : List A)
+    → list_any p (map f xs) ≡ list_any (λ x. p (f x)) xs
 any_map p f [] = refl
 any_map p f (x ∷ xs) = ap (λ (b : Bool). p (f x) || b) (any_map p f xs)
 
@@ -34,7 +36,8 @@ position_less p (x ∷ xs) =
 pub any_front : {A : Type 0} (p : A → Bool) (xs ys : List A) → list_any p xs ≡ true → true ≡ list_any p (xs ++ ys)
 any_front p xs ys e = sym (list_any-append p xs ys ∙ rw e refl)
 
-pub any_behind : {A : Type 0} (p : A → Bool) (xs ys : List A) (b : Bool) → list_any p xs ≡ false → b ≡ list_any p ys → b ≡ list_any p (xs ++ ys)
+pub any_behind : {A : Type 0} (p : A → Bool) (xs ys : List A) (b : Bool) → list_any p xs ≡ false → b ≡ list_any p ys
+    → b ≡ list_any p (xs ++ ys)
 any_behind p xs ys b e f = f ∙ sym (list_any-append p xs ys ∙ rw e refl)
 
 some_of : {A : Type 0} (b : Bool) (x : A) → is_some (cond b (Some x) None) ≡ b
@@ -46,14 +49,17 @@ pub position_any : {A : Type 0} (p : A → Bool) (xs : List A) → is_some (posi
 position_any p xs = some_of (ltb (position_or_len p xs) (length xs)) (position_or_len p xs) ∙ position_less p xs
 
 -- the number of an item has a place exactly where an item has the number
-pub position_map_any : {A : Type 0} (f : A → ℕ) (p : ℕ → Bool) (xs : List A) → is_some (position p (map f xs)) ≡ list_any (λ x. p (f x)) xs
+pub position_map_any : {A : Type 0} (f : A → ℕ) (p : ℕ → Bool) (xs : List A)
+    → is_some (position p (map f xs)) ≡ list_any (λ x. p (f x)) xs
 position_map_any f p xs = position_any p (map f xs) ∙ any_map p f xs
 
 -- no number of these is this one
-pub absent_map : {A : Type 0} (f : A → ℕ) (n : ℕ) (xs : List A) → is_some (find (λ x. eqb (f x) n) xs) ≡ false → list_any (λ k. eqb k n) (map f xs) ≡ false
+pub absent_map : {A : Type 0} (f : A → ℕ) (n : ℕ) (xs : List A) → is_some (find (λ x. eqb (f x) n) xs) ≡ false
+    → list_any (λ k. eqb k n) (map f xs) ≡ false
 absent_map f n xs e = any_map (λ k. eqb k n) f xs ∙ sym (found_any (λ x. eqb (f x) n) xs) ∙ e
 
-pub absent_any : {A : Type 0} (f : A → ℕ) (n : ℕ) (xs : List A) → list_any (λ x. eqb (f x) n) xs ≡ false → list_any (λ k. eqb k n) (map f xs) ≡ false
+pub absent_any : {A : Type 0} (f : A → ℕ) (n : ℕ) (xs : List A) → list_any (λ x. eqb (f x) n) xs ≡ false
+    → list_any (λ k. eqb k n) (map f xs) ≡ false
 absent_any f n xs e = any_map (λ k. eqb k n) f xs ∙ e
 
 -- ---- rising numbers
@@ -71,7 +77,8 @@ last_above before (lever ∷ levers) h =
     omega (arith, less_is before lever.number b.0, last_above lever.number levers b.1)
 
 -- a number above the last is none of them
-pub rising_absent : (before n : ℕ) (levers : List Lever) → IsTrue (are_rising before levers) → last_number before levers < n → list_any (λ k. eqb k n) (map (λ lever. lever.number) levers) ≡ false
+pub rising_absent : (before n : ℕ) (levers : List Lever) → IsTrue (are_rising before levers)
+    → last_number before levers < n → list_any (λ k. eqb k n) (map (λ lever. lever.number) levers) ≡ false
 rising_absent before n [] h l = refl
 rising_absent before n (lever ∷ levers) h l =
     let b = both (ltb before lever.number) (are_rising lever.number levers) h in
@@ -80,7 +87,8 @@ rising_absent before n (lever ∷ levers) h l =
     rw (other, rising_absent lever.number n levers b.1 l) refl
 
 -- a lever more, whose number is above the last
-pub rising_more : (before : ℕ) (levers : List Lever) (lever : Lever) → IsTrue (are_rising before levers) → last_number before levers < lever.number → IsTrue (are_rising before (levers ++ lever ∷ []))
+pub rising_more : (before : ℕ) (levers : List Lever) (lever : Lever) → IsTrue (are_rising before levers)
+    → last_number before levers < lever.number → IsTrue (are_rising before (levers ++ lever ∷ []))
 rising_more before [] lever h l = rw (is_less before lever.number l) refl
 rising_more before (first ∷ levers) lever h l =
     let b = both (ltb before first.number) (are_rising first.number levers) h in

@@ -1,5 +1,5 @@
-//! The plan of a line: its boxes, their levers, signals, berths and track circuits, its trains, and the limits under which
-//! the signalmen work.
+//! The plan of a line: its boxes, their levers, signals, berths and track circuits, its trains, and the limits under
+//! which the signalmen work.
 #![tactic(auto)]
 
 mod berth;

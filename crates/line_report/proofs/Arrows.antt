@@ -1,5 +1,6 @@
 -- The first word `->` among words, and what stands before and behind it.
-use Rattle.std.proofs.Common.{◌≡◌, ℕ, zero, suc, ◌+◌, ◌-◌, ◌<◌, ◌≤◌, Bool, true, false, not, ltb, cond, List, [], ◌∷◌, length}
+use Rattle.std.proofs.Common.{◌≡◌, ℕ, zero, suc, ◌+◌, ◌-◌, ◌<◌, ◌≤◌, Bool, true, false, not, ltb, cond, List, [], ◌∷◌}
+use Rattle.std.proofs.Common.{length}
 use Rattle.std.proofs.Common.{take, drop, Option, Some, None, option_map, Result, Ok, Err, min, refl, sym, ap, ◌∙◌}
 use Rattle.std.proofs.Common.{arith, codes, bytes_eq, position, ◌&&◌}
 use Rattle.std.specs.List.{join_with_byte, list_all, prefix_len}
@@ -28,7 +29,8 @@ eq_turned a b = go (bytes_eq a b) (bytes_eq b a) refl refl where
   go true false e f = sym ((bytes_eq-Decides b a).1 (sym ((bytes_eq-Decides a b).0 e))) ∙ f
   go false true e f = sym e ∙ (bytes_eq-Decides a b).1 (sym ((bytes_eq-Decides b a).0 f))
 
-first_or_later : (there : Bool) (n m : ℕ) → ltb n m ≡ there → cond (ltb (1 + n) (suc m)) (Some (1 + n)) None ≡ option_map suc (cond there (Some n) None)
+first_or_later : (there : Bool) (n m : ℕ) → ltb n m ≡ there
+    → cond (ltb (1 + n) (suc m)) (Some (1 + n)) None ≡ option_map suc (cond there (Some n) None)
 first_or_later true n m e =
     let lt : n < m = ltb-true n m e in
     let more : ltb (1 + n) (suc m) ≡ true = lt-ltb (1 + n) (suc m) (omega (arith, lt)) in
@@ -99,7 +101,8 @@ whole (word ∷ words) e = go (λ is. whole words is) (bytes_eq word (codes "->"
   later None is h = is
   later (Some k) is h = absurd cc
 
-  go : (arrow_number words ≡ None → AreWhole words) → (t : Bool) → bytes_eq word (codes "->") ≡ t → AreWhole (word ∷ words)
+  go : (arrow_number words ≡ None → AreWhole words) → (t : Bool) → bytes_eq word (codes "->") ≡ t
+      → AreWhole (word ∷ words)
   go ih true same =
       absurd (never (arrow_number (word ∷ words))
       (place_on (bytes_eq (codes "->")) word words true (eq_turned (codes "->") word ∙ same)) e)
@@ -164,7 +167,8 @@ single_before [] h = refl
 single_before (word ∷ words) h =
     let p = both (lacks 32 word) (list_all (lacks 32) words) h in
     go (bytes_eq word (codes "->")) p.0 (single_before words p.1) where
-      go : (t : Bool) → lacks 32 word ≡ true → single (before_arrow words) → single (cond t [] (word ∷ before_arrow words))
+      go : (t : Bool) → lacks 32 word ≡ true → single (before_arrow words)
+          → single (cond t [] (word ∷ before_arrow words))
       go true here later = refl
       go false here later = rw (here, later) refl
 
@@ -209,7 +213,8 @@ told_reply plan b act words h = go (behind_arrow (drop 2 words)) refl where
   go : (o : Option (List (List ℕ))) → behind_arrow (drop 2 words) ≡ o
       → told_reply_in plan b act o ≡ reply_behind plan b act (option_map (λ behind. join_with_byte 32 behind) o)
   go None e = refl
-  go (Some behind) e = reply_told_alike plan b act behind (single_behind (drop 2 words) behind (single_drop words 2 h) e)
+  go (Some behind) e =
+      reply_told_alike plan b act behind (single_behind (drop 2 words) behind (single_drop words 2 h) e)
 
 pub ruleset told_rules = (told_call, told_reply)
 

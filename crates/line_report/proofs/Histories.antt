@@ -15,7 +15,8 @@ use Rattle.line_report.proofs.Spellings.{told_spelled}
 abbrev Tells : PlanFields → ℕ → Entry → Type 0
 Tells plan calls e = IsTold plan e.box_no calls e.reply
 
-spelled_from : (plan : PlanFields) (state : LineState) (calls : ℕ) (es : List Entry) → IsPlan plan → calls < 10 ^ 10 → IsLegalFrom plan state es → All (Tells plan calls) es → All (IsSpelled plan) es
+spelled_from : (plan : PlanFields) (state : LineState) (calls : ℕ) (es : List Entry) → IsPlan plan → calls < 10 ^ 10
+    → IsLegalFrom plan state es → All (Tells plan calls) es → All (IsSpelled plan) es
 spelled_from plan state calls [] is few legal told = All-nil (IsSpelled plan)
 spelled_from plan state calls (e ∷ es) is few legal told =
     All-cons (IsSpelled plan) e es
@@ -26,5 +27,7 @@ spelled_from plan state calls (e ∷ es) is few legal told =
     })
     (spelled_from plan (after_entry plan state e) calls es is few legal.2 (All-tail (Tells plan calls) e es told))
 
-pub legal_spelled : (plan : PlanFields) (es : List Entry) → IsPlan plan → length es < 10 ^ 10 → IsLegal plan es → All (IsSpelled plan) es
-legal_spelled plan es is few legal = spelled_from plan (opening_state plan) (length es) es is few legal (all_told plan es is legal)
+pub legal_spelled : (plan : PlanFields) (es : List Entry) → IsPlan plan → length es < 10 ^ 10 → IsLegal plan es
+    → All (IsSpelled plan) es
+legal_spelled plan es is few legal =
+    spelled_from plan (opening_state plan) (length es) es is few legal (all_told plan es is legal)

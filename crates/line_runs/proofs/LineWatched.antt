@@ -34,7 +34,8 @@ all_filled plan old new rounds blank e count = record {
 
 pub rounds_shown : (table_id : TableId) (plan key : PlanFields) (men written : List Man)
     (rounds all : List (List Sight)) (log : List Entry) (registers : List RegisterFields) → IsPlan plan → key ≡ plan
-    → written ≡ men → all ≡ rounds → AreMen table_id key written → IsWatched key men rounds log → Closed key written registers
+    → written ≡ men → all ≡ rounds → AreMen table_id key written → IsWatched key men rounds log
+    → Closed key written registers
     → AreRoundsOf plan registers all
 rounds_shown table_id plan key men written rounds all log registers is of back same are watched closed =
     subst (λ (rs : List (List Sight)). AreRoundsOf plan registers rs) (sym same)

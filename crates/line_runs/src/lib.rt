@@ -1,5 +1,5 @@
-//! Runs: a line is worked by the scripts of its boxes, each on a thread of its own, and may be watched meanwhile. What is
-//! printed of it is built whole.
+//! Runs: a line is worked by the scripts of its boxes, each on a thread of its own, and may be watched meanwhile. What
+//! is printed of it is built whole.
 #![tactic(auto)]
 
 mod look;

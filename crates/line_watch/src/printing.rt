@@ -112,8 +112,8 @@ fn put_rounds(out: &mut String, plan: &Plan, rounds: &[Round]) -> Result<(), All
     Ok(())
 }
 
-/// Puts a board, as far as its rounds are filled, behind a text, by the plan for which it was made: [`print_board`] says
-/// how.
+/// Puts a board, as far as its rounds are filled, behind a text, by the plan for which it was made: [`print_board`]
+/// says how.
 #[tactic(auto, unfolding(crate::specs::Boards::board_text))]
 pub fn put_board(out: &mut String, plan: &Plan, board: &Board) -> Result<(), AllocError>
     requires { board.now.boxes ≡ length plan.now.boxes }

@@ -1,5 +1,6 @@
 -- Two rows clash exactly where the test of them is met.
-use Rattle.std.proofs.Common.{◌≡◌, ◌≢◌, ℕ, ◌-◌, ◌&&◌, ◌||◌, ◌↔◌, Bool, true, false, not, IsTrue, List, [], ◌∷◌, All, length, replicate, map, refl, sym, ap, subst, ◌∙◌, arith, inl, inr, eqb, slice_set}
+use Rattle.std.proofs.Common.{◌≡◌, ◌≢◌, ℕ, ◌-◌, ◌&&◌, ◌||◌, ◌↔◌, Bool, true, false, not, IsTrue, List, [], ◌∷◌, All}
+use Rattle.std.proofs.Common.{length, replicate, map, refl, sym, ap, subst, ◌∙◌, arith, inl, inr, eqb, slice_set}
 use Rattle.std.specs.List.{list_all}
 use Rattle.std.proofs.lemmas.Bool.Decides.{eqb_tells, nat_tests}
 use Rattle.std.proofs.lemmas.List.{get_or-set_same, get_or-set_other, length-replicate, length-set}
@@ -22,10 +23,15 @@ use Rattle.plan_check.specs.Clashes.{Clash, do_clash, opposed}
 one_end : (levers a : ℕ) (e : End) → IsLever levers a → (xs : List End) × (length xs ≡ levers) × (end_at xs a ≡ e)
 one_end levers a e is =
     let all : List End = replicate levers ends.Normal in
-    let size : length all ≡ levers = length-replicate levers ends.Normal in
-    (slice_set all (a - 1) e, length-set all (a - 1) e ∙ size, get_or-set_same all (a - 1) e ends.Normal (omega (arith, is.0, is.1, size)))
+    let size : length all ≡ levers = length-replicate levers ends.Normal in (
+      slice_set all (a - 1) e,
+      length-set all (a - 1) e
+          ∙ size,
+      get_or-set_same all (a - 1) e ends.Normal (omega (arith, is.0, is.1, size)),
+    )
 
-two_ends : (levers a b : ℕ) (e f : End) → IsLever levers a → IsLever levers b → a ≢ b → (xs : List End) × (length xs ≡ levers) × (end_at xs a ≡ e) × (end_at xs b ≡ f)
+two_ends : (levers a b : ℕ) (e f : End) → IsLever levers a → IsLever levers b → a ≢ b
+    → (xs : List End) × (length xs ≡ levers) × (end_at xs a ≡ e) × (end_at xs b ≡ f)
 two_ends levers a b e f is other differ =
     let first = one_end levers a e is in
     let xs : List End = first.0 in
@@ -45,7 +51,8 @@ record LetsHold (levers subject : ℕ) (row : Row) (lever : ℕ) (e : End) : Typ
   holds : (xs : List End) → end_at xs lever ≡ e → RowHolds (stand_of xs subject AtMid) row
 
 -- a lever that isn't the subject stands at its end
-stands_at : (xs : List End) (subject lever : ℕ) (e : End) → lever ≢ subject → end_at xs lever ≡ e → stand_of xs subject AtMid lever ≡ stand_at e
+stands_at : (xs : List End) (subject lever : ℕ) (e : End) → lever ≢ subject → end_at xs lever ≡ e
+    → stand_of xs subject AtMid lever ≡ stand_at e
 stands_at xs subject lever e differ h = elim (eqb_tells lever subject) [
   | inl same ↦ absurd (differ same.1)
   | inr apart ↦ let test : eqb lever subject ≡ false = apart.0 in rw (test, h) refl
@@ -73,12 +80,16 @@ wanted_unbroken ReleasedBy = refl
 wanted_unbroken LocksBoth = refl
 
 -- the object at an end that doesn't break the kind
-by_object : (levers subject : ℕ) (row : Row) (e : End) → IsLever levers row.object → row.object ≢ subject → breaks row.kind (stand_at e) ≡ false → LetsHold levers subject row row.object e
+by_object : (levers subject : ℕ) (row : Row) (e : End) → IsLever levers row.object → row.object ≢ subject
+    → breaks row.kind (stand_at e) ≡ false → LetsHold levers subject row row.object e
 by_object levers subject row e is differ sound = record {
   is = is;
   holds = λ xs h.
       let stand : stand_of xs subject AtMid row.object ≡ stand_at e = stands_at xs subject row.object e differ h in
-      unbroken (not (is_normal (stand_of xs subject AtMid row.subject))) (list_all (acts (stand_of xs subject AtMid)) row.when) (breaks row.kind (stand_of xs subject AtMid row.object)) (ap (λ (s : Stand). breaks row.kind s) stand ∙ sound);
+      unbroken (not (is_normal (stand_of xs subject AtMid row.subject)))
+      (list_all (acts (stand_of xs subject AtMid)) row.when)
+      (breaks row.kind (stand_of xs subject AtMid row.object))
+      (ap (λ (s : Stand). breaks row.kind s) stand ∙ sound);
 }
 
 put_off : (e : End) → acts_at e (stand_at (other_end e)) ≡ false
@@ -86,25 +97,32 @@ put_off ends.Normal = refl
 put_off ends.Reversed = refl
 
 -- the lever of a condition at the other end
-by_cond : (levers subject : ℕ) (row : Row) (cond : Cond) (conds : List Cond) → row.when ≡ cond ∷ conds → IsLever levers cond.lever → cond.lever ≢ subject → LetsHold levers subject row cond.lever (other_end cond.end)
+by_cond : (levers subject : ℕ) (row : Row) (cond : Cond) (conds : List Cond) → row.when ≡ cond ∷ conds
+    → IsLever levers cond.lever → cond.lever ≢ subject → LetsHold levers subject row cond.lever (other_end cond.end)
 by_cond levers subject row cond conds when is differ = record {
   is = is;
   holds = λ xs h.
       let places : LeverPlace = stand_of xs subject AtMid in
-      let stand : places cond.lever ≡ stand_at (other_end cond.end) = stands_at xs subject cond.lever (other_end cond.end) differ h in
+      let stand : places cond.lever ≡ stand_at (other_end cond.end) =
+      stands_at xs subject cond.lever (other_end cond.end) differ h in
       let off : acts places cond ≡ false = ap (λ (s : Stand). acts_at cond.end s) stand ∙ put_off cond.end in
-      subst (λ (w : List Cond). IsTrue (not (not (is_normal (places row.subject)) && list_all (acts places) w && breaks row.kind (places row.object)))) (sym when)
-      (inactive (not (is_normal (places row.subject))) (acts places cond) (list_all (acts places) conds) (breaks row.kind (places row.object)) off);
+      subst (λ (w : List Cond). IsTrue
+      (not (not (is_normal (places row.subject)) && list_all (acts places) w
+      && breaks row.kind (places row.object)))) (sym when)
+      (inactive (not (is_normal (places row.subject))) (acts places cond) (list_all (acts places) conds)
+      (breaks row.kind (places row.object)) off);
 }
 
 -- two levers that let one row hold each: the rows don't clash
-no_clash : (levers : ℕ) (first second : Row) (a b : ℕ) (e f : End) → LetsHold levers first.subject first a e → LetsHold levers first.subject second b f → a ≢ b → ¬ Clash levers first second
+no_clash : (levers : ℕ) (first second : Row) (a b : ℕ) (e f : End) → LetsHold levers first.subject first a e
+    → LetsHold levers first.subject second b f → a ≢ b → ¬ Clash levers first second
 no_clash levers first second a b e f one other differ clash =
     let xs = two_ends levers a b e f one.is other.is differ in
     clash.never xs.0 xs.1 (one.holds xs.0 xs.2, other.holds xs.0 xs.3)
 
 -- one lever that lets both hold at the same end
-no_clash_one : (levers : ℕ) (first second : Row) (a : ℕ) (e : End) → LetsHold levers first.subject first a e → LetsHold levers first.subject second a e → ¬ Clash levers first second
+no_clash_one : (levers : ℕ) (first second : Row) (a : ℕ) (e : End) → LetsHold levers first.subject first a e
+    → LetsHold levers first.subject second a e → ¬ Clash levers first second
 no_clash_one levers first second a e one other clash =
     let xs = one_end levers a e one.is in
     clash.never xs.0 xs.1 (one.holds xs.0 xs.2, other.holds xs.0 xs.2)
@@ -139,7 +157,8 @@ record CondApart (row : Row) (cond : Cond) : Type 0 where
   object : cond.lever ≢ row.object
 
 -- the lever of the first condition is neither
-cond_apart : (row : Row) (cond : Cond) (conds : List Cond) → row.when ≡ cond ∷ conds → IsTrue (all_differ (levers_of row)) → CondApart row cond
+cond_apart : (row : Row) (cond : Cond) (conds : List Cond) → row.when ≡ cond ∷ conds
+    → IsTrue (all_differ (levers_of row)) → CondApart row cond
 cond_apart row cond conds when h =
     let all : IsTrue (all_differ (row.subject ∷ row.object ∷ cond.lever ∷ map (λ c. c.lever) conds)) =
     subst (λ (w : List Cond). IsTrue (all_differ (row.subject ∷ row.object ∷ map (λ c. c.lever) w))) when h in
@@ -149,8 +168,10 @@ cond_apart row cond conds when h =
     let object = first_not _ _ (not_of _ second.0) in
     record { subject = eqb_apart cond.lever row.subject subject.0; object = eqb_apart cond.lever row.object object.0 }
 
-cond_is : (levers : ℕ) (row : Row) (cond : Cond) (conds : List Cond) → row.when ≡ cond ∷ conds → RowFits levers row → IsLever levers cond.lever
-cond_is levers row cond conds when fits = All-head (CondFits levers) cond conds (subst (λ (w : List Cond). All (CondFits levers) w) when fits.when)
+cond_is : (levers : ℕ) (row : Row) (cond : Cond) (conds : List Cond) → row.when ≡ cond ∷ conds → RowFits levers row
+    → IsLever levers cond.lever
+cond_is levers row cond conds when fits =
+    All-head (CondFits levers) cond conds (subst (λ (w : List Cond). All (CondFits levers) w) when fits.when)
 
 -- ---- rows that clash meet the test
 
@@ -158,7 +179,8 @@ five : (a b c d e : Bool) → a ≡ true → b ≡ true → c ≡ true → d ≡
 five a b c d e p q r s t = rw (p, q, r, s, t) refl
 
 -- two kinds that aren't opposed want some end in common
-common : (k l : RowKind) → opposed k l ≡ false → (e : End) × (breaks k (stand_at e) ≡ false) × (breaks l (stand_at e) ≡ false)
+common : (k l : RowKind) → opposed k l ≡ false
+    → (e : End) × (breaks k (stand_at e) ≡ false) × (breaks l (stand_at e) ≡ false)
 common LocksNormal LocksNormal h = (ends.Normal, refl, refl)
 common LocksNormal ReleasedBy h = cc
 common LocksNormal LocksBoth h = (ends.Normal, refl, refl)
@@ -178,21 +200,32 @@ record ArePair (levers : ℕ) (first second : Row) : Type 0 where
   subject : first.subject ≡ second.subject
 
 other_apart : (levers : ℕ) (first second : Row) → ArePair levers first second → second.object ≢ first.subject
-other_apart levers first second pair = subst (λ (s : ℕ). second.object ≢ s) (sym pair.subject) (object_apart second pair.other_spelled)
+other_apart levers first second pair =
+    subst (λ (s : ℕ). second.object ≢ s) (sym pair.subject) (object_apart second pair.other_spelled)
 
 -- the object of the first row where it is wanted
-first_held : (levers : ℕ) (first second : Row) → ArePair levers first second → LetsHold levers first.subject first first.object (wanted first.kind)
-first_held levers first second pair = by_object levers first.subject first (wanted first.kind) pair.fits.object (object_apart first pair.spelled) (wanted_unbroken first.kind)
+first_held : (levers : ℕ) (first second : Row) → ArePair levers first second
+    → LetsHold levers first.subject first first.object (wanted first.kind)
+first_held levers first second pair =
+    by_object levers first.subject first (wanted first.kind) pair.fits.object (object_apart first pair.spelled)
+    (wanted_unbroken first.kind)
 
-second_held : (levers : ℕ) (first second : Row) → ArePair levers first second → LetsHold levers first.subject second second.object (wanted second.kind)
-second_held levers first second pair = by_object levers first.subject second (wanted second.kind) pair.other_fits.object (other_apart levers first second pair) (wanted_unbroken second.kind)
+second_held : (levers : ℕ) (first second : Row) → ArePair levers first second
+    → LetsHold levers first.subject second second.object (wanted second.kind)
+second_held levers first second pair =
+    by_object levers first.subject second (wanted second.kind) pair.other_fits.object
+    (other_apart levers first second pair) (wanted_unbroken second.kind)
 
 -- two objects: each is put where it is wanted
-objects_differ : (levers : ℕ) (first second : Row) → ArePair levers first second → first.object ≢ second.object → ¬ Clash levers first second
-objects_differ levers first second pair differ = no_clash levers first second first.object second.object (wanted first.kind) (wanted second.kind) (first_held levers first second pair) (second_held levers first second pair) differ
+objects_differ : (levers : ℕ) (first second : Row) → ArePair levers first second → first.object ≢ second.object
+    → ¬ Clash levers first second
+objects_differ levers first second pair differ =
+    no_clash levers first second first.object second.object (wanted first.kind) (wanted second.kind)
+    (first_held levers first second pair) (second_held levers first second pair) differ
 
 -- one object, and a condition of the first row: its lever is put off, and the object where the second row wants it
-first_has_cond : (levers : ℕ) (first second : Row) (cond : Cond) (conds : List Cond) → ArePair levers first second → first.object ≡ second.object → first.when ≡ cond ∷ conds → ¬ Clash levers first second
+first_has_cond : (levers : ℕ) (first second : Row) (cond : Cond) (conds : List Cond) → ArePair levers first second
+    → first.object ≡ second.object → first.when ≡ cond ∷ conds → ¬ Clash levers first second
 first_has_cond levers first second cond conds pair same when =
     let apart = cond_apart first cond conds when pair.spelled.differ in
     no_clash levers first second cond.lever second.object (other_end cond.end) (wanted second.kind)
@@ -200,21 +233,26 @@ first_has_cond levers first second cond conds pair same when =
     (second_held levers first second pair)
     (subst (λ (o : ℕ). cond.lever ≢ o) same apart.object)
 
-second_has_cond : (levers : ℕ) (first second : Row) (cond : Cond) (conds : List Cond) → ArePair levers first second → first.object ≡ second.object → second.when ≡ cond ∷ conds → ¬ Clash levers first second
+second_has_cond : (levers : ℕ) (first second : Row) (cond : Cond) (conds : List Cond) → ArePair levers first second
+    → first.object ≡ second.object → second.when ≡ cond ∷ conds → ¬ Clash levers first second
 second_has_cond levers first second cond conds pair same when =
     let apart = cond_apart second cond conds when pair.other_spelled.differ in
     no_clash levers first second first.object cond.lever (wanted first.kind) (other_end cond.end)
     (first_held levers first second pair)
-    (by_cond levers first.subject second cond conds when (cond_is levers second cond conds when pair.other_fits) (subst (λ (s : ℕ). cond.lever ≢ s) (sym pair.subject) apart.subject))
+    (by_cond levers first.subject second cond conds when (cond_is levers second cond conds when pair.other_fits)
+    (subst (λ (s : ℕ). cond.lever ≢ s) (sym pair.subject) apart.subject))
     (λ e. apart.object (sym e ∙ same))
 
 -- one object that the kinds want at one end
-agreed : (levers : ℕ) (first second : Row) → ArePair levers first second → first.object ≡ second.object → opposed first.kind second.kind ≡ false → ¬ Clash levers first second
+agreed : (levers : ℕ) (first second : Row) → ArePair levers first second → first.object ≡ second.object
+    → opposed first.kind second.kind ≡ false → ¬ Clash levers first second
 agreed levers first second pair same free =
     let end = common first.kind second.kind free in
     no_clash_one levers first second first.object end.0
     (by_object levers first.subject first end.0 pair.fits.object (object_apart first pair.spelled) end.1)
-    (subst (λ (o : ℕ). LetsHold levers first.subject second o end.0) (sym same) (by_object levers first.subject second end.0 pair.other_fits.object (other_apart levers first second pair) end.2))
+    (subst (λ (o : ℕ). LetsHold levers first.subject second o end.0) (sym same)
+    (by_object levers first.subject second end.0 pair.other_fits.object (other_apart levers first second pair)
+    end.2))
 
 same_test : (a b : ℕ) → a ≡ b → eqb a b ≡ true
 same_test a b e = grind (arith, nat_tests)
@@ -223,18 +261,28 @@ no_conds : (w : List Cond) → w ≡ [] → eqb (length w) 0 ≡ true
 no_conds w e = rw e refl
 
 -- by the conditions of both, and whether the kinds are opposed
-by_parts : (levers : ℕ) (first second : Row) (w v : List Cond) (b : Bool) → ArePair levers first second → Clash levers first second → first.object ≡ second.object → first.when ≡ w → second.when ≡ v → opposed first.kind second.kind ≡ b → IsTrue (do_clash first second)
-by_parts levers first second (cond ∷ conds) v b pair clash same when other kinds = absurd (first_has_cond levers first second cond conds pair same when clash)
-by_parts levers first second [] (cond ∷ conds) b pair clash same when other kinds = absurd (second_has_cond levers first second cond conds pair same other clash)
-by_parts levers first second [] [] false pair clash same when other kinds = absurd (agreed levers first second pair same kinds clash)
+by_parts : (levers : ℕ) (first second : Row) (w v : List Cond) (b : Bool) → ArePair levers first second
+    → Clash levers first second → first.object ≡ second.object → first.when ≡ w → second.when ≡ v
+    → opposed first.kind second.kind ≡ b → IsTrue (do_clash first second)
+by_parts levers first second (cond ∷ conds) v b pair clash same when other kinds =
+    absurd (first_has_cond levers first second cond conds pair same when clash)
+by_parts levers first second [] (cond ∷ conds) b pair clash same when other kinds =
+    absurd (second_has_cond levers first second cond conds pair same other clash)
+by_parts levers first second [] [] false pair clash same when other kinds =
+    absurd (agreed levers first second pair same kinds clash)
 by_parts levers first second [] [] true pair clash same when other kinds =
-    five _ _ _ _ _ (same_test first.subject second.subject pair.subject) (no_conds first.when when) (no_conds second.when other) (same_test first.object second.object same) kinds
+    five _ _ _ _ _ (same_test first.subject second.subject pair.subject) (no_conds first.when when)
+    (no_conds second.when other) (same_test first.object second.object same) kinds
 
-clash_meets : (levers : ℕ) (first second : Row) → IsRow first → IsRow second → RowFits levers first → RowFits levers second → Clash levers first second → IsTrue (do_clash first second)
+clash_meets : (levers : ℕ) (first second : Row) → IsRow first → IsRow second → RowFits levers first
+    → RowFits levers second → Clash levers first second → IsTrue (do_clash first second)
 clash_meets levers first second spelled other fits too clash =
-    let pair : ArePair levers first second = record { spelled = spelled; other_spelled = other; fits = fits; other_fits = too; subject = clash.subject } in
+    let pair : ArePair levers first second =
+    record { spelled = spelled; other_spelled = other; fits = fits; other_fits = too; subject = clash.subject } in
     elim (eqb_tells first.object second.object) [
-      | inl same ↦ by_parts levers first second first.when second.when (opposed first.kind second.kind) pair clash same.1 refl refl refl
+      | inl same ↦
+          by_parts levers first second first.when second.when (opposed first.kind second.kind) pair clash same.1 refl
+          refl refl
       | inr differ ↦ absurd (objects_differ levers first second pair differ.1 clash)
     ]
 
@@ -261,13 +309,23 @@ meets first second h =
     let d = both_of _ _ e.0 in
     let c = both_of _ _ d.0 in
     let b = both_of _ _ c.0 in
-    record { subject = test_same _ _ b.0; plain = conds_none first.when b.1; other = conds_none second.when c.1; object = test_same _ _ d.1; kinds = e.1 }
+    record {
+      subject = test_same _ _ b.0;
+      plain = conds_none first.when b.1;
+      other =
+          conds_none second.when c.1;
+      object = test_same _ _ d.1;
+      kinds = e.1;
+    }
 
 -- a row without conditions, its subject at mid, holds only where its object doesn't break its kind
-holds_plain : (places : LeverPlace) (row : Row) → row.when ≡ [] → places row.subject ≡ AtMid → RowHolds places row → breaks row.kind (places row.object) ≡ false
+holds_plain : (places : LeverPlace) (row : Row) → row.when ≡ [] → places row.subject ≡ AtMid → RowHolds places row
+    → breaks row.kind (places row.object) ≡ false
 holds_plain places row when mid h =
     let alone : not (not (is_normal (places row.subject)) && true && breaks row.kind (places row.object)) ≡ true =
-    subst (λ (w : List Cond). not (not (is_normal (places row.subject)) && list_all (acts places) w && breaks row.kind (places row.object)) ≡ true) when h in
+    subst (λ (w : List Cond). not
+    (not (is_normal (places row.subject)) && list_all (acts places) w && breaks row.kind (places row.object))
+    ≡ true) when h in
     let moved : not (breaks row.kind (places row.object)) ≡ true =
     subst (λ (s : Stand). not (not (is_normal s) && true && breaks row.kind (places row.object)) ≡ true) mid alone in
     not_of _ moved
@@ -304,5 +362,7 @@ meets_clash levers first second h =
           (holds_plain places second m.other (at_mid xs first.subject second.subject (sym m.subject)) both.1));
     }
 
-pub clashes_exactly : (levers : ℕ) (first second : Row) → IsRow first → IsRow second → RowFits levers first → RowFits levers second → (IsTrue (do_clash first second) ↔ Clash levers first second)
-clashes_exactly levers first second spelled other fits too = (meets_clash levers first second, clash_meets levers first second spelled other fits too)
+pub clashes_exactly : (levers : ℕ) (first second : Row) → IsRow first → IsRow second → RowFits levers first
+    → RowFits levers second → (IsTrue (do_clash first second) ↔ Clash levers first second)
+clashes_exactly levers first second spelled other fits too =
+    (meets_clash levers first second, clash_meets levers first second spelled other fits too)

@@ -1,5 +1,6 @@
 -- Lines that are read one behind the other.
-use Rattle.std.proofs.Common.{◌≡◌, ℕ, ◌≤◌, true, false, ◌&&◌, eqb, leb, List, [], ◌∷◌, ◌++◌, length, map, Some, Result, Ok, refl, sym, ◌∙◌, arith, append_assoc}
+use Rattle.std.proofs.Common.{◌≡◌, ℕ, ◌≤◌, true, false, ◌&&◌, eqb, leb, List, [], ◌∷◌, ◌++◌, length, map, Some, Result}
+use Rattle.std.proofs.Common.{Ok, refl, sym, ◌∙◌, arith, append_assoc}
 use Rattle.std.specs.List.{list_all, join_with_byte}
 use Rattle.std.proofs.lemmas.Bool.Decides.{nat_tests}
 use Rattle.std.proofs.lemmas.List.{append-nil}
@@ -9,7 +10,8 @@ use Rattle.rail_text.specs.Forms.{is_word, is_skipped}
 use Rattle.rail_text.specs.declared.cause.Cause.{Cause}
 use Rattle.line_plan.specs.Frames.{BoxFields}
 use Rattle.plan_draft.specs.Drafts.{DraftFields, rank}
-use Rattle.plan_draft.specs.Reading.{line_kind, between, may_follow, box_with, here_onto, kind_onto, has_ended, words_onto}
+use Rattle.plan_draft.specs.Reading.{line_kind, between, may_follow, box_with, here_onto, kind_onto, has_ended}
+use Rattle.plan_draft.specs.Reading.{words_onto}
 use Rattle.plan_draft.specs.declared.draft.Stage.{Stage}
 use Rattle.plan_draft.specs.declared.draft.Stage.TheVariants as stages
 
@@ -36,11 +38,13 @@ pub record AreRead (draft : DraftFields) (lines : List (List (List ℕ))) (last 
 pub read_none : (draft : DraftFields) → AreRead draft [] draft
 read_none draft = record { stand = tt; onto = refl }
 
-pub read_line : (draft next last : DraftFields) (words : List (List ℕ)) (lines : List (List (List ℕ))) → IsLine words → words_onto draft words ≡ Ok next → AreRead next lines last → AreRead draft (words ∷ lines) last
+pub read_line : (draft next last : DraftFields) (words : List (List ℕ)) (lines : List (List (List ℕ))) → IsLine words
+    → words_onto draft words ≡ Ok next → AreRead next lines last → AreRead draft (words ∷ lines) last
 read_line draft next last words lines is e r = record { stand = (is, r.stand); onto = rw e r.onto }
 
 -- the same lines
-pub read_same : (draft last : DraftFields) (lines others : List (List (List ℕ))) → lines ≡ others → AreRead draft others last → AreRead draft lines last
+pub read_same : (draft last : DraftFields) (lines others : List (List (List ℕ))) → lines ≡ others
+    → AreRead draft others last → AreRead draft lines last
 read_same draft last lines others e r = rw e r
 
 -- ---- the lines of a box
@@ -104,12 +108,15 @@ not_ended : (n : ℕ) → n ≤ 16 → eqb n 17 ≡ false
 not_ended n h = grind (arith, nat_tests)
 
 -- a line of the kind makes of the draft what its words make of the box
-pub here_read : (draft : DraftFields) (stage kind : Stage) (here next : BoxFields) (words : List (List ℕ)) → IsBoxKind kind → InBox stage (rank kind) → line_kind (keyword words) ≡ Some kind
-    → box_with kind draft.count (length draft.plan.boxes) here words ≡ Ok next → words_onto (hold draft stage here) words ≡ Ok (hold draft kind next)
+pub here_read : (draft : DraftFields) (stage kind : Stage) (here next : BoxFields) (words : List (List ℕ))
+    → IsBoxKind kind → InBox stage (rank kind) → line_kind (keyword words) ≡ Some kind
+    → box_with kind draft.count (length draft.plan.boxes) here words ≡ Ok next
+    → words_onto (hold draft stage here) words ≡ Ok (hold draft kind next)
 unfolding words_onto here_onto
 here_read draft stage kind here next words is in_box k e =
     let going : has_ended stage ≡ false = not_ended (rank stage) (omega (arith, in_box.most, is.high)) in
-    let may : may_follow kind stage ≡ true = is.follows stage ∙ is_between 6 (rank kind) (rank stage) in_box.low in_box.most in
+    let may : may_follow kind stage ≡ true =
+    is.follows stage ∙ is_between 6 (rank kind) (rank stage) in_box.low in_box.most in
     rw (going, k, may, is.onto (hold draft stage here) words, e) refl
 
 pub in_own : (kind : Stage) → IsBoxKind kind → InBox kind (rank kind)
@@ -123,19 +130,26 @@ abbrev pub GoesOn : DraftFields → ℕ → BoxFields → List (List (List ℕ))
 GoesOn draft high here more last = (stage : Stage) → InBox stage high → AreRead (hold draft stage here) more last
 
 -- one line of the kind, and then those behind it
-pub then_read : (draft : DraftFields) (kind : Stage) (here next : BoxFields) (words : List (List ℕ)) (more : List (List (List ℕ))) (last : DraftFields) → IsBoxKind kind → line_kind (keyword words) ≡ Some kind
-    → IsLine words → box_with kind draft.count (length draft.plan.boxes) here words ≡ Ok next → GoesOn draft (rank kind) next more last → GoesOn draft (rank kind) here (words ∷ more) last
+pub then_read : (draft : DraftFields) (kind : Stage) (here next : BoxFields) (words : List (List ℕ))
+    (more : List (List (List ℕ))) (last : DraftFields) → IsBoxKind kind → line_kind (keyword words) ≡ Some kind
+    → IsLine words → box_with kind draft.count (length draft.plan.boxes) here words ≡ Ok next
+    → GoesOn draft (rank kind) next more last → GoesOn draft (rank kind) here (words ∷ more) last
 then_read draft kind here next words more last is k line e go stage in_box =
-    read_line (hold draft stage here) (hold draft kind next) last words more line (here_read draft stage kind here next words is in_box k e) (go kind (in_own kind is))
+    read_line (hold draft stage here) (hold draft kind next) last words more line
+    (here_read draft stage kind here next words is in_box k e) (go kind (in_own kind is))
 
 -- a lower kind's lines may stand before
-pub goes_on : (draft : DraftFields) (low high : ℕ) (here : BoxFields) (more : List (List (List ℕ))) (last : DraftFields) → low ≤ high → GoesOn draft high here more last → GoesOn draft low here more last
+pub goes_on : (draft : DraftFields) (low high : ℕ) (here : BoxFields) (more : List (List (List ℕ))) (last : DraftFields)
+    → low ≤ high → GoesOn draft high here more last → GoesOn draft low here more last
 goes_on draft low high here more last l go stage in_box = go stage (in_later stage low high l in_box)
 
 -- the lines of a list of things of one kind, one thing after the other
-pub all_read : {V : Type 0} (draft : DraftFields) (kind : Stage) (line : V → List (List ℕ)) (state : List V → BoxFields) (more : List (List (List ℕ))) (last : DraftFields) (whole : List V) → IsBoxKind kind
+pub all_read : {V : Type 0} (draft : DraftFields) (kind : Stage) (line : V → List (List ℕ)) (state : List V → BoxFields)
+    (more : List (List (List ℕ))) (last : DraftFields) (whole : List V) → IsBoxKind kind
     → ((v : V) → line_kind (keyword (line v)) ≡ Some kind)
-    → ((front rest : List V) (v : V) → whole ≡ front ++ v ∷ rest → IsLine (line v) × (box_with kind draft.count (length draft.plan.boxes) (state front) (line v) ≡ Ok (state (front ++ v ∷ []))))
+    → ((front rest : List V) (v : V) → whole ≡ front ++ v ∷ rest
+    → IsLine (line v)
+    × (box_with kind draft.count (length draft.plan.boxes) (state front) (line v) ≡ Ok (state (front ++ v ∷ []))))
     → GoesOn draft (rank kind) (state whole) more last
     → (front vs : List V) → whole ≡ front ++ vs → GoesOn draft (rank kind) (state front) (map line vs ++ more) last
 all_read draft kind line state more last whole is k step go front [] e =
@@ -144,6 +158,7 @@ all_read draft kind line state more last whole is k step go front [] e =
 all_read draft kind line state more last whole is k step go front (v ∷ vs) e =
     let s = step front vs v e in
     then_read draft kind (state front) (state (front ++ v ∷ [])) (line v) (map line vs ++ more) last is (k v) s.0 s.1
-    (all_read draft kind line state more last whole is k step go (front ++ v ∷ []) vs (e ∙ sym (append_assoc front (v ∷ []) vs)))
+    (all_read draft kind line state more last whole is k step go (front ++ v ∷ []) vs
+    (e ∙ sym (append_assoc front (v ∷ []) vs)))
 
 pub ruleset read_rules = (all_read)

@@ -1,5 +1,6 @@
 -- A draft and the lines that made it.
-use Rattle.std.proofs.Common.{◌≡◌, ℕ, ◌≤◌, Bool, true, false, cond, ◌&&◌, eqb, leb, List, [], ◌∷◌, ◌++◌, length, map, Result, Ok, Err, refl, sym, ap, ◌∙◌, arith, codes, decimal, append_assoc}
+use Rattle.std.proofs.Common.{◌≡◌, ℕ, ◌≤◌, Bool, true, false, cond, ◌&&◌, eqb, leb, List, [], ◌∷◌, ◌++◌, length, map}
+use Rattle.std.proofs.Common.{Result, Ok, Err, refl, sym, ap, ◌∙◌, arith, codes, decimal, append_assoc}
 use Rattle.std.proofs.lemmas.Bool.Decides.{nat_tests}
 use Rattle.std.proofs.lemmas.List.{append-nil, length-append}
 use Rattle.rail_text.specs.Gives.{◌>>=◌}
@@ -22,24 +23,33 @@ class_lines [] classes = []
 class_lines (code ∷ table) [] = []
 class_lines (code ∷ table) (c ∷ classes) = (codes "class" ∷ c.name ∷ code_text code ∷ []) ∷ class_lines table classes
 
-pub class_lines-more : (table : List (List ℕ)) (classes : List Class) (code : List ℕ) (c : Class) → length table ≡ length classes → class_lines (table ++ code ∷ []) (classes ++ c ∷ []) ≡ class_lines table classes ++ (codes "class" ∷ c.name ∷ code_text code ∷ []) ∷ []
+pub class_lines-more : (table : List (List ℕ)) (classes : List Class) (code : List ℕ) (c : Class)
+    → length table ≡ length classes
+    → class_lines (table ++ code ∷ []) (classes ++ c ∷ [])
+    ≡ class_lines table classes ++ (codes "class" ∷ c.name ∷ code_text code ∷ []) ∷ []
 class_lines-more [] [] code c e = refl
 class_lines-more [] (d ∷ classes) code c e = absurd (omega (arith, e))
 class_lines-more (x ∷ table) [] code c e = absurd (omega (arith, e))
-class_lines-more (x ∷ table) (d ∷ classes) code c e = ap (λ (ls : List (List (List ℕ))). (codes "class" ∷ d.name ∷ code_text x ∷ []) ∷ ls) (class_lines-more table classes code c (omega (arith, e)))
+class_lines-more (x ∷ table) (d ∷ classes) code c e =
+    ap (λ (ls : List (List (List ℕ))). (codes "class" ∷ d.name ∷ code_text x ∷ []) ∷ ls)
+    (class_lines-more table classes code c (omega (arith, e)))
 
-pub boxes_lines-more : (firsts : List FirstWays) (boxes : List BoxFields) (first : FirstWays) (b : BoxFields) → length firsts ≡ length boxes → boxes_lines_by (firsts ++ first ∷ []) (boxes ++ b ∷ []) ≡ boxes_lines_by firsts boxes ++ box_lines_by first b
+pub boxes_lines-more : (firsts : List FirstWays) (boxes : List BoxFields) (first : FirstWays) (b : BoxFields)
+    → length firsts ≡ length boxes
+    → boxes_lines_by (firsts ++ first ∷ []) (boxes ++ b ∷ []) ≡ boxes_lines_by firsts boxes ++ box_lines_by first b
 boxes_lines-more [] [] first b e = append-nil (box_lines_by first b)
 boxes_lines-more [] (x ∷ boxes) first b e = absurd (omega (arith, e))
 boxes_lines-more (f ∷ firsts) [] first b e = absurd (omega (arith, e))
 boxes_lines-more (f ∷ firsts) (x ∷ boxes) first b e =
-    ap (λ (ls : List (List (List ℕ))). box_lines_by f x ++ ls) (boxes_lines-more firsts boxes first b (omega (arith, e)))
+    ap (λ (ls : List (List (List ℕ))). box_lines_by f x ++ ls)
+    (boxes_lines-more firsts boxes first b (omega (arith, e)))
     ∙ sym (append_assoc (box_lines_by f x) (boxes_lines_by firsts boxes) (box_lines_by first b))
 
 -- the first four lines
 abbrev pub heads : ℕ → ℕ → ℕ → ℕ → List (List (List ℕ))
 heads version count delay looks =
-    (codes "plan" ∷ decimal version ∷ []) ∷ (codes "boxes" ∷ decimal count ∷ []) ∷ (codes "delay" ∷ decimal delay ∷ []) ∷ (codes "looks" ∷ decimal looks ∷ []) ∷ []
+    (codes "plan" ∷ decimal version ∷ []) ∷ (codes "boxes" ∷ decimal count ∷ []) ∷ (codes "delay" ∷ decimal delay ∷ [])
+    ∷ (codes "looks" ∷ decimal looks ∷ []) ∷ []
 
 abbrev pub end_lines : Bool → List (List (List ℕ))
 end_lines true = (codes "end" ∷ []) ∷ []
@@ -62,21 +72,29 @@ pub record Body (d : DraftFields) (texts : List (List (List ℕ))) : Type 0 wher
   pub full : rank d.stage ≡ 17 → d.count ≤ length d.plan.boxes
   pub open_box : in_box d.stage ≡ true → BoxGrown (rank d.stage) d.here here
   pub no_open : in_box d.stage ≡ false → here ≡ []
-  pub lines : texts ≡ heads d.plan.version d.count d.plan.delay d.plan.looks ++ (class_lines table classes ++ (boxes_lines_by firsts d.plan.boxes ++ (here ++ (map (train_line d.plan) d.plan.trains ++ end_lines (eqb (rank d.stage) 17)))))
+  pub lines : texts
+      ≡ heads d.plan.version d.count d.plan.delay d.plan.looks
+      ++ (class_lines table classes
+      ++ (boxes_lines_by firsts d.plan.boxes
+      ++ (here ++ (map (train_line d.plan) d.plan.trains ++ end_lines (eqb (rank d.stage) 17)))))
 
 abbrev pub BodyBy : List (List (List ℕ)) → List (List ℕ) → DraftFields → Type 0
 BodyBy texts words next = Body next (texts ++ words ∷ [])
 
 -- ---- where a line comes to stand
 
-pub whole_more : {W : Type 0} (w : W) (h c b o t e : List W) → (h ++ (c ++ (b ++ (o ++ (t ++ e))))) ++ w ∷ [] ≡ h ++ (c ++ (b ++ (o ++ (t ++ (e ++ w ∷ [])))))
+pub whole_more : {W : Type 0} (w : W) (h c b o t e : List W)
+    → (h ++ (c ++ (b ++ (o ++ (t ++ e))))) ++ w ∷ [] ≡ h ++ (c ++ (b ++ (o ++ (t ++ (e ++ w ∷ [])))))
 whole_more w h c b o t e = simp append_assoc
 
-more_here : {W : Type 0} (w : W) (h c b o t e e' : List W) → t ≡ [] → e ≡ [] → e' ≡ [] → (h ++ (c ++ (b ++ (o ++ (t ++ e))))) ++ w ∷ [] ≡ h ++ (c ++ (b ++ ((o ++ w ∷ []) ++ (t ++ e'))))
+more_here : {W : Type 0} (w : W) (h c b o t e e' : List W) → t ≡ [] → e ≡ [] → e' ≡ []
+    → (h ++ (c ++ (b ++ (o ++ (t ++ e))))) ++ w ∷ [] ≡ h ++ (c ++ (b ++ ((o ++ w ∷ []) ++ (t ++ e'))))
 more_here {W} w h c b o t e e' et ee ee' =
     let none : t ++ e' ≡ [] = rw (et, ee') refl in
     let one : t ++ (e ++ w ∷ []) ≡ w ∷ [] = rw (et, ee) refl in
-    whole_more w h c b o t e ∙ ap (λ (z : List W). h ++ (c ++ (b ++ (o ++ z)))) one ∙ ap (λ (z : List W). h ++ (c ++ (b ++ z))) (sym (append-nil (o ++ w ∷ []))) ∙ ap (λ (z : List W). h ++ (c ++ (b ++ ((o ++ w ∷ []) ++ z)))) (sym none)
+    whole_more w h c b o t e ∙ ap (λ (z : List W). h ++ (c ++ (b ++ (o ++ z)))) one
+    ∙ ap (λ (z : List W). h ++ (c ++ (b ++ z))) (sym (append-nil (o ++ w ∷ [])))
+    ∙ ap (λ (z : List W). h ++ (c ++ (b ++ ((o ++ w ∷ []) ++ z)))) (sym none)
 
 -- ---- ranks
 
@@ -91,7 +109,9 @@ in_between n a b = grind (arith, nat_tests)
 
 -- ---- a line of a box
 
-pub here_more : (kind : Stage) (d : DraftFields) (texts : List (List (List ℕ))) (words : List (List ℕ)) (h : Body d texts) → IsBoxKind kind → InBox d.stage (rank kind) → (r : Result BoxFields Cause) → OfOk (BoxBy (rank kind) h.here words) r
+pub here_more : (kind : Stage) (d : DraftFields) (texts : List (List (List ℕ))) (words : List (List ℕ))
+    (h : Body d texts) → IsBoxKind kind → InBox d.stage (rank kind) → (r : Result BoxFields Cause)
+    → OfOk (BoxBy (rank kind) h.here words) r
     → OfOk (BodyBy texts words) (r >>= (λ here. Ok (record d { stage = kind; here = here })))
 here_more kind d texts words h is i (Err e) g = tt
 here_more kind d texts words h is i (Ok b) g =
@@ -115,11 +135,18 @@ here_more kind d texts words h is i (Ok b) g =
       open_box = λ _. g;
       no_open = λ e. absurd (let f = sym kind_in ∙ e in cc);
       lines = ap (λ (ls : List (List (List ℕ))). ls ++ words ∷ []) h.lines
-          ∙ more_here words (heads d.plan.version d.count d.plan.delay d.plan.looks) (class_lines h.table h.classes) (boxes_lines_by h.firsts d.plan.boxes) h.here (map (train_line d.plan) d.plan.trains) (end_lines (eqb (rank d.stage) 17)) (end_lines (eqb (rank kind) 17))
-          (ap (map (train_line d.plan)) trains) (ap end_lines (not_seventeen (rank d.stage) (omega (arith, i.most, is.high)))) (ap end_lines (not_seventeen (rank kind) (omega (arith, is.high))));
+          ∙ more_here words (heads d.plan.version d.count d.plan.delay d.plan.looks) (class_lines h.table h.classes)
+          (boxes_lines_by h.firsts d.plan.boxes) h.here (map (train_line d.plan) d.plan.trains)
+          (end_lines (eqb (rank d.stage) 17)) (end_lines (eqb (rank kind) 17))
+          (ap (map (train_line d.plan)) trains)
+          (ap end_lines (not_seventeen (rank d.stage) (omega (arith, i.most, is.high))))
+          (ap end_lines (not_seventeen (rank kind) (omega (arith, is.high))));
     } where
-      grow_room : (p q : Bool) → p ≡ true → q ≡ true → length (cond q (d.plan.boxes ++ d.here ∷ []) d.plan.boxes) ≤ d.count → length (cond p (d.plan.boxes ++ b ∷ []) d.plan.boxes) ≤ d.count
-      grow_room true true e f l = omega (arith, l, length-append d.plan.boxes (d.here ∷ []), length-append d.plan.boxes (b ∷ []))
+      grow_room : (p q : Bool) → p ≡ true → q ≡ true
+          → length (cond q (d.plan.boxes ++ d.here ∷ []) d.plan.boxes) ≤ d.count
+          → length (cond p (d.plan.boxes ++ b ∷ []) d.plan.boxes) ≤ d.count
+      grow_room true true e f l =
+          omega (arith, l, length-append d.plan.boxes (d.here ∷ []), length-append d.plan.boxes (b ∷ []))
       grow_room false q e f l = absurd cc
       grow_room p false e f l = absurd cc
 

@@ -12,7 +12,8 @@ use Rattle.plan_text.proofs.ReadSpelled.{read_spells}
 pub read_is_spelled : (bytes : List ℕ) (plan : PlanFields) → plan_of bytes ≡ Ok plan → Spells bytes plan
 read_is_spelled bytes plan e = read_spells bytes plan (plan_of_is_plan bytes plan e) e
 
-pub reader_spelled : (bytes : List ℕ) (r : Result PlanFields ReadError) → GivesText (λ plan. plan) r (plan_of bytes) → IfOk r (λ plan. Spells bytes plan)
+pub reader_spelled : (bytes : List ℕ) (r : Result PlanFields ReadError) → GivesText (λ plan. plan) r (plan_of bytes)
+    → IfOk r (λ plan. Spells bytes plan)
 reader_spelled bytes (Ok plan) gives = read_is_spelled bytes plan gives
 reader_spelled bytes (Err e) gives = tt
 

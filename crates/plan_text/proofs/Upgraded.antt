@@ -36,12 +36,27 @@ upgraded_is plan is = go (eqb plan.version 1) refl where
 
 shape : (plan : PlanFields) → IsPlan plan → upgraded plan ≡ record plan { version = 2; delay = (upgraded plan).delay }
 shape plan is = go (eqb plan.version 1) refl where
-  go : (b : Bool) → eqb plan.version 1 ≡ b → cond b (plan_in_seconds plan) plan ≡ record plan { version = 2; delay = (cond b (plan_in_seconds plan) plan).delay }
+  go : (b : Bool) → eqb plan.version 1 ≡ b
+      → cond b (plan_in_seconds plan) plan
+      ≡ record plan { version = 2; delay = (cond b (plan_in_seconds plan) plan).delay }
   go true e = refl
   go false e =
       let two : plan.version ≡ 2 = grind (arith, nat_tests, is.version_low, is.version_high) in
       ap (λ (version : ℕ). record plan { version = version }) two
 
 -- a plan with the fields of the upgraded one
-pub newer_is : (plan : PlanFields) (delay looks : ℕ) (codes : List (List ℕ)) (classes : List Class) (boxes : List BoxFields) (trains : List TrainPlan) → IsPlan plan → delay ≡ (upgraded plan).delay → looks ≡ plan.looks → codes ≡ plan.codes → classes ≡ plan.classes → boxes ≡ plan.boxes → trains ≡ plan.trains → IsPlan (record { version = 2; delay = delay; looks = looks; codes = codes; classes = classes; boxes = boxes; trains = trains })
-newer_is plan delay looks codes classes boxes trains is d l c k b t = rw (d, l, c, k, b, t) (subst IsPlan (shape plan is) (upgraded_is plan is))
+pub newer_is : (plan : PlanFields) (delay looks : ℕ) (codes : List (List ℕ)) (classes : List Class)
+    (boxes : List BoxFields) (trains : List TrainPlan) → IsPlan plan → delay ≡ (upgraded plan).delay
+    → looks ≡ plan.looks → codes ≡ plan.codes → classes ≡ plan.classes → boxes ≡ plan.boxes → trains ≡ plan.trains
+    → IsPlan (record {
+      version = 2;
+      delay = delay;
+      looks = looks;
+      codes = codes;
+      classes = classes;
+      boxes =
+          boxes;
+      trains = trains;
+    })
+newer_is plan delay looks codes classes boxes trains is d l c k b t =
+    rw (d, l, c, k, b, t) (subst IsPlan (shape plan is) (upgraded_is plan is))

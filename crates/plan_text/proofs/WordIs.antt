@@ -1,5 +1,7 @@
 -- What is read of a word determines the word: it is the printed one.
-use Rattle.std.proofs.Common.{◌≡◌, ◌≢◌, ℕ, ◌≤◌, Bool, true, false, cond, not, eqb, List, [], ◌∷◌, ◌++◌, length, drop, Option, Some, is_some, Result, Ok, Err, refl, sym, ap, ◌∙◌, arith, codes, decimal, bytes_eq, position, append_assoc}
+use Rattle.std.proofs.Common.{◌≡◌, ◌≢◌, ℕ, ◌≤◌, Bool, true, false, cond, not, eqb, List, [], ◌∷◌, ◌++◌, length, drop}
+use Rattle.std.proofs.Common.{Option, Some, is_some, Result, Ok, Err, refl, sym, ap, ◌∙◌, arith, codes, decimal}
+use Rattle.std.proofs.Common.{bytes_eq, position, append_assoc}
 use Rattle.std.specs.Prelude.{IfSome}
 use Rattle.std.specs.List.{find}
 use Rattle.std.proofs.lemmas.Bool.Decides.{nat_tests}
@@ -19,7 +21,8 @@ use Rattle.line_plan.specs.declared.signal.To.TheVariants as ends
 use Rattle.plan_draft.specs.declared.draft.Stage.{Stage}
 use Rattle.plan_draft.specs.declared.draft.Stage.TheVariants as stages
 use Rattle.line_plan.specs.Frames.{BoxFields, lever_of, is_working, signal_of, starter_of}
-use Rattle.plan_draft.specs.LineWords.{counted, word, number_in_names, places_onto, way_in, kind_in, end_in, lever_in, working_in, code_in}
+use Rattle.plan_draft.specs.LineWords.{counted, word, number_in_names, places_onto, way_in, kind_in, end_in, lever_in}
+use Rattle.plan_draft.specs.LineWords.{working_in, code_in}
 use Rattle.plan_draft.specs.BoxLines.{is_signal_kind, arm_in, over_in, counted_over, leaving_in}
 use Rattle.line_plan.specs.Ways.{leaves}
 use Rattle.plan_draft.specs.Reading.{line_kind}
@@ -33,22 +36,30 @@ is_same a b e = (bytes_eq-Decides a b).0 e
 
 -- ---- names and places
 
-pub name_word_is : (names : List (List ℕ)) (text : List ℕ) → OfOk (λ n. text ≡ name_word names n) (number_in_names names text)
+pub name_word_is : (names : List (List ℕ)) (text : List ℕ)
+    → OfOk (λ n. text ≡ name_word names n) (number_in_names names text)
 unfolding number_in_names
 name_word_is names text =
     if_keeps (λ n. text ≡ name_word names n) (is_name text) _ _
-    (λ _. known_keeps (λ n. text ≡ name_word names n) causes.UnknownName (position (bytes_eq text) names) (λ n e. sym (get_or_from_slice_get names n text [] (position-found names n text e))))
+    (λ _. known_keeps (λ n. text ≡ name_word names n) causes.UnknownName (position (bytes_eq text) names)
+    (λ n e. sym (get_or_from_slice_get names n text [] (position-found names n text e))))
     (λ _. tt)
 
-pub places_are : (names : List (List ℕ)) (front : List ℕ) (texts : List (List ℕ)) → OfOk (λ ps. place_words names ps ≡ place_words names front ++ texts) (places_onto names front texts)
+pub places_are : (names : List (List ℕ)) (front : List ℕ) (texts : List (List ℕ))
+    → OfOk (λ ps. place_words names ps ≡ place_words names front ++ texts) (places_onto names front texts)
 unfolding places_onto
 places_are names front [] = sym (append-nil (place_words names front))
 places_are names front (text ∷ texts) =
-    bind_keeps (λ n. text ≡ name_word names n) (λ ps. place_words names ps ≡ place_words names front ++ text ∷ texts) (number_in_names names text) (λ place. places_onto names (front ++ place ∷ []) texts) (name_word_is names text)
-    (λ place e. more place e (places_onto names (front ++ place ∷ []) texts) (places_are names (front ++ place ∷ []) texts)) where
-      more : (place : ℕ) → text ≡ name_word names place → (r : Result (List ℕ) Cause) → OfOk (λ ps. place_words names ps ≡ place_words names (front ++ place ∷ []) ++ texts) r → OfOk (λ ps. place_words names ps ≡ place_words names front ++ text ∷ texts) r
+    bind_keeps (λ n. text ≡ name_word names n) (λ ps. place_words names ps ≡ place_words names front ++ text ∷ texts)
+    (number_in_names names text) (λ place. places_onto names (front ++ place ∷ []) texts) (name_word_is names text)
+    (λ place e. more place e (places_onto names (front ++ place ∷ []) texts)
+    (places_are names (front ++ place ∷ []) texts)) where
+      more : (place : ℕ) → text ≡ name_word names place → (r : Result (List ℕ) Cause)
+          → OfOk (λ ps. place_words names ps ≡ place_words names (front ++ place ∷ []) ++ texts) r
+          → OfOk (λ ps. place_words names ps ≡ place_words names front ++ text ∷ texts) r
       more place e (Ok ps) h =
-          h ∙ ap (λ (ws : List (List ℕ)). ws ++ texts) (map-append (name_word names) front (place ∷ [])) ∙ append_assoc (place_words names front) (name_word names place ∷ []) texts
+          h ∙ ap (λ (ws : List (List ℕ)). ws ++ texts) (map-append (name_word names) front (place ∷ []))
+          ∙ append_assoc (place_words names front) (name_word names place ∷ []) texts
           ∙ ap (λ (w : List ℕ). place_words names front ++ w ∷ texts) (sym e)
       more place e (Err cause) h = tt
 
@@ -56,7 +67,10 @@ places_are names front (text ∷ texts) =
 
 pub way_is : (text : List ℕ) → OfOk (λ way. text ≡ way_word way) (way_in text)
 unfolding way_in
-way_is text = if_keeps (λ way. text ≡ way_word way) (bytes_eq text (codes "up")) _ _ (is_same text (codes "up")) (λ _. if_keeps (λ way. text ≡ way_word way) (bytes_eq text (codes "down")) _ _ (is_same text (codes "down")) (λ _. tt))
+way_is text =
+    if_keeps (λ way. text ≡ way_word way) (bytes_eq text (codes "up")) _ _ (is_same text (codes "up"))
+    (λ _. if_keeps (λ way. text ≡ way_word way) (bytes_eq text (codes "down")) _ _ (is_same text (codes "down"))
+    (λ _. tt))
 
 pub kind_is : (text : List ℕ) → OfOk (λ kind. text ≡ kind_word kind) (kind_in text)
 unfolding kind_in
@@ -64,8 +78,10 @@ kind_is text =
     if_keeps (λ kind. text ≡ kind_word kind) (bytes_eq text (codes "signal")) _ _ (is_same text (codes "signal")) (λ _.
     if_keeps (λ kind. text ≡ kind_word kind) (bytes_eq text (codes "points")) _ _ (is_same text (codes "points")) (λ _.
     if_keeps (λ kind. text ≡ kind_word kind) (bytes_eq text (codes "lock")) _ _ (is_same text (codes "lock")) (λ _.
-    if_keeps (λ kind. text ≡ kind_word kind) (bytes_eq text (codes "distant")) _ _ (is_same text (codes "distant")) (λ _.
-    if_keeps (λ kind. text ≡ kind_word kind) (bytes_eq text (codes "spare")) _ _ (is_same text (codes "spare")) (λ _. tt)))))
+    if_keeps (λ kind. text ≡ kind_word kind) (bytes_eq text (codes "distant")) _ _ (is_same text (codes "distant"))
+    (λ _.
+    if_keeps (λ kind. text ≡ kind_word kind) (bytes_eq text (codes "spare")) _ _ (is_same text (codes "spare"))
+    (λ _. tt)))))
 
 -- the word of an end that is no section
 abbrev pub end_word : List (List ℕ) → To → List ℕ
@@ -79,14 +95,18 @@ is_end (ends.Place place) = true
 is_end ends.Away = true
 is_end (ends.Section way) = false
 
-pub end_is : (names : List (List ℕ)) (text : List ℕ) → OfOk (λ to. (text ≡ end_word names to) × (is_end to ≡ true)) (end_in names text)
+pub end_is : (names : List (List ℕ)) (text : List ℕ)
+    → OfOk (λ to. (text ≡ end_word names to) × (is_end to ≡ true)) (end_in names text)
 unfolding end_in
 end_is names text =
-    if_keeps (λ to. (text ≡ end_word names to) × (is_end to ≡ true)) (bytes_eq text (codes "away")) _ _ (λ e. (is_same text (codes "away") e, refl)) (λ _.
-    bind_keeps (λ n. text ≡ name_word names n) (λ to. (text ≡ end_word names to) × (is_end to ≡ true)) (number_in_names names text) _ (name_word_is names text) (λ place e. (e, refl)))
+    if_keeps (λ to. (text ≡ end_word names to) × (is_end to ≡ true)) (bytes_eq text (codes "away")) _ _
+    (λ e. (is_same text (codes "away") e, refl)) (λ _.
+    bind_keeps (λ n. text ≡ name_word names n) (λ to. (text ≡ end_word names to) × (is_end to ≡ true))
+    (number_in_names names text) _ (name_word_is names text) (λ place e. (e, refl)))
 
 pub code_is : (text : List ℕ) → OfOk (λ code. text ≡ code_text code) (code_in text)
-code_is text = known_keeps (λ code. text ≡ code_text code) causes.BadCode (code_of text) (λ code e. (read_spelled text code e).1)
+code_is text =
+    known_keeps (λ code. text ≡ code_text code) causes.BadCode (code_of text) (λ code e. (read_spelled text code e).1)
 
 -- ---- levers
 
@@ -103,24 +123,28 @@ eqb_is a b e = grind (arith, nat_tests)
 pub lever_is : (b : BoxFields) (text : List ℕ) → OfOk (λ lever. text ≡ decimal lever.number) (lever_in b text)
 unfolding lever_in
 lever_is b text =
-    bind_keeps (InRange 1 120 text) (λ lever. text ≡ decimal lever.number) (number_in 1 120 text) _ (number_in_is 1 120 text) (λ n r.
+    bind_keeps (InRange 1 120 text) (λ lever. text ≡ decimal lever.number) (number_in 1 120 text) _
+    (number_in_is 1 120 text) (λ n r.
     known_keeps (λ lever. text ≡ decimal lever.number) causes.UnknownLever (lever_of b n) (λ lever e.
     r.0 ∙ ap decimal (sym (eqb_is lever.number n (find_passes (λ l. eqb l.number n) b.levers lever e)))))
 
 pub arm_is : (b : BoxFields) (text : List ℕ) → OfOk (λ n. text ≡ decimal n) (arm_in b text)
 unfolding arm_in
 arm_is b text =
-    bind_keeps (λ lever. text ≡ decimal lever.number) (λ n. text ≡ decimal n) (lever_in b text) _ (lever_is b text) (λ lever e.
+    bind_keeps (λ lever. text ≡ decimal lever.number) (λ n. text ≡ decimal n) (lever_in b text) _ (lever_is b text)
+    (λ lever e.
     if_keeps (λ n. text ≡ decimal n) (not (is_signal_kind lever.kind)) _ _ (λ _. tt) (λ _.
     if_keeps (λ n. text ≡ decimal n) (is_some (signal_of b lever.number)) _ _ (λ _. tt) (λ _. e)))
 
 pub working_is : (b : BoxFields) (text : List ℕ) → OfOk (λ n. text ≡ decimal n) (working_in b text)
 unfolding working_in
 working_is b text =
-    bind_keeps (λ lever. text ≡ decimal lever.number) (λ n. text ≡ decimal n) (lever_in b text) _ (lever_is b text) (λ lever e.
+    bind_keeps (λ lever. text ≡ decimal lever.number) (λ n. text ≡ decimal n) (lever_in b text) _ (lever_is b text)
+    (λ lever e.
     if_keeps (λ n. text ≡ decimal n) (is_working (Some lever.kind)) _ _ (λ _. e) (λ _. tt))
 
-pub leaving_is : (boxes n : ℕ) (b : BoxFields) (text : List ℕ) → OfOk (λ way. text ≡ way_word way) (leaving_in boxes n b text)
+pub leaving_is : (boxes n : ℕ) (b : BoxFields) (text : List ℕ)
+    → OfOk (λ way. text ≡ way_word way) (leaving_in boxes n b text)
 unfolding leaving_in
 leaving_is boxes n b text =
     bind_keeps (λ way. text ≡ way_word way) (λ way. text ≡ way_word way) (way_in text) _ (way_is text) (λ way e.
@@ -147,7 +171,8 @@ many_words [] e = absurd (omega (arith, e))
 many_words (a ∷ []) e = absurd (omega (arith, e))
 many_words (a ∷ b ∷ words) e = refl
 
-pub five_words : (words : List (List ℕ)) → length words ≡ 5 → words ≡ keyword words ∷ word 1 words ∷ word 2 words ∷ word 3 words ∷ word 4 words ∷ []
+pub five_words : (words : List (List ℕ)) → length words ≡ 5
+    → words ≡ keyword words ∷ word 1 words ∷ word 2 words ∷ word 3 words ∷ word 4 words ∷ []
 five_words [] e = absurd (omega (arith, e))
 five_words (a ∷ []) e = absurd (omega (arith, e))
 five_words (a ∷ b ∷ []) e = absurd (omega (arith, e))
@@ -158,23 +183,31 @@ five_words (a ∷ b ∷ c ∷ d ∷ f ∷ g ∷ words) e = absurd (omega (arith,
 
 pub exactly : (n : ℕ) (words : List (List ℕ)) → OfOk (λ _. length words ≡ n) (counted n n words)
 exactly n words = weak (counted n n words) (counted_is n n words) where
-  weak : (r : Result (Unit {0}) Cause) → OfOk (λ _. (n ≤ length words) × (length words ≤ n)) r → OfOk (λ _. length words ≡ n) r
+  weak : (r : Result (Unit {0}) Cause) → OfOk (λ _. (n ≤ length words) × (length words ≤ n)) r
+      → OfOk (λ _. length words ≡ n) r
   weak (Ok x) h = omega (arith, h.0, h.1)
   weak (Err e) h = tt
 
 -- four words, or more than five
 pub at_least_four : (words : List (List ℕ)) → OfOk (λ _. (4 ≤ length words) × (length words ≢ 5)) (counted_over words)
-at_least_four words = if_keeps (λ _. (4 ≤ length words) × (length words ≢ 5)) (eqb (length words) 4) _ _ (λ e. let four = eqb_is (length words) 4 e in (omega (arith, four), λ five. absurd (omega (arith, four, five)))) (λ _. weak (counted 6 9 words) (counted_is 6 9 words)) where
-  weak : (r : Result (Unit {0}) Cause) → OfOk (λ _. (6 ≤ length words) × (length words ≤ 9)) r → OfOk (λ _. (4 ≤ length words) × (length words ≢ 5)) r
-  weak (Ok x) h = (omega (arith, h.0), λ five. absurd (omega (arith, h.0, five)))
-  weak (Err e) h = tt
+at_least_four words =
+    if_keeps (λ _. (4 ≤ length words) × (length words ≢ 5)) (eqb (length words) 4) _ _
+    (λ e. let four = eqb_is (length words) 4 e in (omega (arith, four), λ five. absurd (omega (arith, four, five))))
+    (λ _. weak (counted 6 9 words) (counted_is 6 9 words)) where
+      weak : (r : Result (Unit {0}) Cause) → OfOk (λ _. (6 ≤ length words) × (length words ≤ 9)) r
+          → OfOk (λ _. (4 ≤ length words) × (length words ≢ 5)) r
+      weak (Ok x) h = (omega (arith, h.0), λ five. absurd (omega (arith, h.0, five)))
+      weak (Err e) h = tt
 
-over_more : (names : List (List ℕ)) (ps : List ℕ) (more : List (List ℕ)) → 1 ≤ length more → place_words names ps ≡ more → over_words names ps ≡ codes "over" ∷ more
+over_more : (names : List (List ℕ)) (ps : List ℕ) (more : List (List ℕ)) → 1 ≤ length more → place_words names ps ≡ more
+    → over_words names ps ≡ codes "over" ∷ more
 over_more names [] more some e = absurd (omega (arith, some, ap length e))
 over_more names (p ∷ ps) more some e = ap (λ (ws : List (List ℕ)). codes "over" ∷ ws) e
 
 -- four words, and then those of the places over which a signal runs
-pub over_is : (b : BoxFields) (words : List (List ℕ)) → 4 ≤ length words → length words ≢ 5 → OfOk (λ over. words ≡ keyword words ∷ word 1 words ∷ word 2 words ∷ word 3 words ∷ over_words b.places over) (over_in b words)
+pub over_is : (b : BoxFields) (words : List (List ℕ)) → 4 ≤ length words → length words ≢ 5
+    → OfOk (λ over. words ≡ keyword words ∷ word 1 words ∷ word 2 words ∷ word 3 words ∷ over_words b.places over)
+    (over_in b words)
 unfolding over_in
 over_is b [] four other = absurd (omega (arith, four))
 over_is b (a ∷ []) four other = absurd (omega (arith, four))
@@ -184,10 +217,16 @@ over_is b (a ∷ c ∷ d ∷ e ∷ []) four other = refl
 over_is b (a ∷ c ∷ d ∷ e ∷ f ∷ []) four other = absurd (other refl)
 over_is b (a ∷ c ∷ d ∷ e ∷ f ∷ g ∷ words) four other =
     let P : List ℕ → Type 0 = λ over. a ∷ c ∷ d ∷ e ∷ f ∷ g ∷ words ≡ a ∷ c ∷ d ∷ e ∷ over_words b.places over in
-    if_keeps P (eqb (length (a ∷ c ∷ d ∷ e ∷ f ∷ g ∷ words)) 4) _ _ (λ four. let n = eqb_is (length (a ∷ c ∷ d ∷ e ∷ f ∷ g ∷ words)) 4 four in absurd (omega (arith, n))) (λ _.
-    if_keeps P (bytes_eq f (codes "over")) _ _ (λ o. more (is_same f (codes "over") o) (places_onto b.places [] (g ∷ words)) (places_are b.places [] (g ∷ words))) (λ _. tt)) where
-      more : f ≡ codes "over" → (r : Result (List ℕ) Cause) → OfOk (λ ps. place_words b.places ps ≡ g ∷ words) r → OfOk (λ over. a ∷ c ∷ d ∷ e ∷ f ∷ g ∷ words ≡ a ∷ c ∷ d ∷ e ∷ over_words b.places over) r
-      more o (Ok ps) h = ap (λ (w : List ℕ). a ∷ c ∷ d ∷ e ∷ w ∷ g ∷ words) o ∙ ap (λ (ws : List (List ℕ)). a ∷ c ∷ d ∷ e ∷ ws) (sym (over_more b.places ps (g ∷ words) (omega arith) h))
+    if_keeps P (eqb (length (a ∷ c ∷ d ∷ e ∷ f ∷ g ∷ words)) 4) _ _
+    (λ four. let n = eqb_is (length (a ∷ c ∷ d ∷ e ∷ f ∷ g ∷ words)) 4 four in absurd (omega (arith, n))) (λ _.
+    if_keeps P (bytes_eq f (codes "over")) _ _
+    (λ o. more (is_same f (codes "over") o) (places_onto b.places [] (g ∷ words))
+    (places_are b.places [] (g ∷ words))) (λ _. tt)) where
+      more : f ≡ codes "over" → (r : Result (List ℕ) Cause) → OfOk (λ ps. place_words b.places ps ≡ g ∷ words) r
+          → OfOk (λ over. a ∷ c ∷ d ∷ e ∷ f ∷ g ∷ words ≡ a ∷ c ∷ d ∷ e ∷ over_words b.places over) r
+      more o (Ok ps) h =
+          ap (λ (w : List ℕ). a ∷ c ∷ d ∷ e ∷ w ∷ g ∷ words) o
+          ∙ ap (λ (ws : List (List ℕ)). a ∷ c ∷ d ∷ e ∷ ws) (sym (over_more b.places ps (g ∷ words) (omega arith) h))
       more o (Err cause) h = tt
 
 -- ---- keywords
@@ -215,7 +254,8 @@ keyword_of stages.Ended = codes "end"
 abbrev Keyed : List ℕ → Option Stage → Type 0
 Keyed text o = IfSome o (λ kind. text ≡ keyword_of kind)
 
-key : (text : List ℕ) (kind : Stage) (rest : Option Stage) → Keyed text rest → Keyed text (cond (bytes_eq text (keyword_of kind)) (Some kind) rest)
+key : (text : List ℕ) (kind : Stage) (rest : Option Stage) → Keyed text rest
+    → Keyed text (cond (bytes_eq text (keyword_of kind)) (Some kind) rest)
 key text kind rest h = go (bytes_eq text (keyword_of kind)) refl where
   go : (b : Bool) → bytes_eq text (keyword_of kind) ≡ b → Keyed text (cond b (Some kind) rest)
   go true e = is_same text (keyword_of kind) e
@@ -224,7 +264,29 @@ key text kind rest h = go (bytes_eq text (keyword_of kind)) refl where
 pub line_kind_is : (text : List ℕ) → IfSome (line_kind text) (λ kind. text ≡ keyword_of kind)
 unfolding line_kind
 line_kind_is text =
-    key text stages.Plan _ (key text stages.Boxes _ (key text stages.Delay _ (key text stages.Looks _ (key text stages.Class _ (key text stages.Box _ (key text stages.Place _ (key text stages.Lever _ (key text stages.Signal _
-    (key text stages.Starter _ (key text stages.Berth _ (key text stages.Clear _ (key text stages.Permissive _ (key text stages.Track _ (key text stages.Row _ (key text stages.Train _ (key text stages.Ended _ tt))))))))))))))))
+    key text stages.Plan _
+    (key text stages.Boxes _
+    (key text stages.Delay _
+    (key text stages.Looks _
+    (key text stages.Class _
+    (key text stages.Box _ (key text stages.Place _ (key text stages.Lever _ (key text stages.Signal _
+    (key text stages.Starter _
+    (key text stages.Berth _
+    (key text stages.Clear _
+    (key text stages.Permissive _
+    (key text stages.Track _
+    (key text stages.Row _ (key text stages.Train _ (key text stages.Ended _ tt))))))))))))))))
 
-pub ruleset is_rules = (line_kind_is, exactly, over_is, at_least_four, working_is, arm_is, leaving_is, code_is, end_is, kind_is, places_are)
+pub ruleset is_rules = (
+  line_kind_is,
+  exactly,
+  over_is,
+  at_least_four,
+  working_is,
+  arm_is,
+  leaving_is,
+  code_is,
+  end_is,
+  kind_is,
+  places_are,
+)

@@ -1,5 +1,6 @@
 -- Facts that go through a reading step by step.
-use Rattle.std.proofs.Common.{◌≡◌, ℕ, ◌≤◌, Bool, true, false, cond, leb, ◌&&◌, List, [], ◌∷◌, length, Option, Some, None, Result, Ok, Err, refl, arith, ◌<◌, decimal}
+use Rattle.std.proofs.Common.{◌≡◌, ℕ, ◌≤◌, Bool, true, false, cond, leb, ◌&&◌, List, [], ◌∷◌, length, Option, Some}
+use Rattle.std.proofs.Common.{None, Result, Ok, Err, refl, arith, ◌<◌, decimal}
 use Rattle.std.proofs.lemmas.Bool.Decides.{nat_tests}
 use Rattle.rail_text.specs.Number.{number_of}
 use Rattle.rail_text.specs.Gives.{◌>>=◌}
@@ -11,15 +12,18 @@ abbrev pub OfOk : {A E : Type 0} → (A → Type 0) → Result A E → Type 0
 OfOk P (Ok x) = P x
 OfOk P (Err e) = Unit {0}
 
-pub bind_keeps : {A B E : Type 0} (Q : A → Type 0) (P : B → Type 0) (r : Result A E) (f : A → Result B E) → OfOk Q r → ((x : A) → Q x → OfOk P (f x)) → OfOk P (r >>= f)
+pub bind_keeps : {A B E : Type 0} (Q : A → Type 0) (P : B → Type 0) (r : Result A E) (f : A → Result B E) → OfOk Q r
+    → ((x : A) → Q x → OfOk P (f x)) → OfOk P (r >>= f)
 bind_keeps Q P (Ok x) f q h = h x q
 bind_keeps Q P (Err e) f q h = tt
 
-pub bind_any : {A B E : Type 0} (P : B → Type 0) (r : Result A E) (f : A → Result B E) → ((x : A) → OfOk P (f x)) → OfOk P (r >>= f)
+pub bind_any : {A B E : Type 0} (P : B → Type 0) (r : Result A E) (f : A → Result B E) → ((x : A) → OfOk P (f x))
+    → OfOk P (r >>= f)
 bind_any P (Ok x) f h = h x
 bind_any P (Err e) f h = tt
 
-pub if_keeps : {A E : Type 0} (P : A → Type 0) (b : Bool) (x y : Result A E) → (b ≡ true → OfOk P x) → (b ≡ false → OfOk P y) → OfOk P (cond b x y)
+pub if_keeps : {A E : Type 0} (P : A → Type 0) (b : Bool) (x y : Result A E) → (b ≡ true → OfOk P x)
+    → (b ≡ false → OfOk P y) → OfOk P (cond b x y)
 if_keeps P true x y h k = h refl
 if_keeps P false x y h k = k refl
 
@@ -40,9 +44,12 @@ no_word_is (a ∷ b ∷ words) h = tt
 abbrev pub InRange : ℕ → ℕ → List ℕ → ℕ → Type 0
 InRange low high word n = (word ≡ decimal n) × (low ≤ n) × (n ≤ high)
 
-within_is : (low high : ℕ) (word : List ℕ) (o : Option ℕ) → number_of word ≡ o → OfOk (InRange low high word) (within low high o)
+within_is : (low high : ℕ) (word : List ℕ) (o : Option ℕ) → number_of word ≡ o
+    → OfOk (InRange low high word) (within low high o)
 within_is low high word None e = tt
-within_is low high word (Some n) e = if_keeps (InRange low high word) (leb low n && leb n high) _ _ (λ t. ((number_of-spelled word n e).0, grind (arith, nat_tests), grind (arith, nat_tests))) (λ _. tt)
+within_is low high word (Some n) e =
+    if_keeps (InRange low high word) (leb low n && leb n high) _ _
+    (λ t. ((number_of-spelled word n e).0, grind (arith, nat_tests), grind (arith, nat_tests))) (λ _. tt)
 
 pub number_in_is : (low high : ℕ) (word : List ℕ) → OfOk (InRange low high word) (number_in low high word)
 number_in_is low high word = within_is low high word (number_of word) refl

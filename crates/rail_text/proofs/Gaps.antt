@@ -31,7 +31,9 @@ first_onto b (word ∷ words) = refl
 
 gap_step : (t empty : Bool) (b : ℕ) (bs : List ℕ)
     → gap true bs ≡ first_empty (words_of bs) || later_empty (words_of bs) → gap false bs ≡ later_empty (words_of bs)
-    → cond t (empty || gap true bs) (gap false bs) ≡ (empty && first_empty (cond t ([] ∷ words_of bs) (onto_word b (words_of bs)))) || later_empty (cond t ([] ∷ words_of bs) (onto_word b (words_of bs)))
+    → cond t (empty || gap true bs) (gap false bs)
+    ≡ (empty && first_empty (cond t ([] ∷ words_of bs) (onto_word b (words_of bs))))
+    || later_empty (cond t ([] ∷ words_of bs) (onto_word b (words_of bs)))
 gap_step true true b bs at_start inside = refl
 gap_step true false b bs at_start inside = at_start ∙ sym (any_is (words_of bs))
 gap_step false true b bs at_start inside = rw (first_onto b (words_of bs), later_onto b (words_of bs)) inside

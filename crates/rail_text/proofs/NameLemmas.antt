@@ -1,6 +1,7 @@
 -- The names of a set of texts, seen as a list of bytes.
 use Rattle.std.proofs.Common.{◌≡◌, ℕ, zero, suc, ◌+◌, Bool, false, cond, not, ◌||◌, List, [], ◌∷◌, ◌++◌, map, position}
-use Rattle.std.proofs.Common.{string_bytes, String, bytes_eq, refl, sym, ap, subst, ◌∙◌, get_or, Option, Some, None, IsUtf8}
+use Rattle.std.proofs.Common.{string_bytes, String, bytes_eq, refl, sym, ap, subst, ◌∙◌, get_or, Option, Some, None}
+use Rattle.std.proofs.Common.{IsUtf8}
 use Rattle.std.specs.Global.{Global}
 use Rattle.std.specs.List.{list_any, position_or_len}
 use Rattle.std.proofs.lemmas.List.{length-map, map-append}

@@ -1,8 +1,10 @@
 -- A number that is read is printed so, and what is printed is read.
-use Rattle.std.proofs.Common.{◌≡◌, ℕ, ◌+◌, ◌^◌, ◌<◌, ◌≤◌, Bool, true, false, cond, List, [], ◌∷◌, length, get_or, Some, None, refl, sym, ap, ◌∙◌, arith, rules, decimal, inl, inr}
+use Rattle.std.proofs.Common.{◌≡◌, ℕ, ◌+◌, ◌^◌, ◌<◌, ◌≤◌, Bool, true, false, cond, List, [], ◌∷◌, length, get_or, Some}
+use Rattle.std.proofs.Common.{None, refl, sym, ap, ◌∙◌, arith, rules, decimal, inl, inr}
 use Rattle.std.specs.Str.{all_ascii_digits}
 use Rattle.std.proofs.lemmas.Str.Parse.{IsNumeralModel, numerals_by_fold, digits_value_short}
-use Rattle.std.proofs.lemmas.Fmt.{digits_decimal, digits_value-decimal, decimal-digits_value, decimal_nonempty, length-decimal-le, first_decimal, decimal_digit}
+use Rattle.std.proofs.lemmas.Fmt.{digits_decimal, digits_value-decimal, decimal-digits_value, decimal_nonempty}
+use Rattle.std.proofs.lemmas.Fmt.{length-decimal-le, first_decimal, decimal_digit}
 use Rattle.std.proofs.lemmas.Bool.Decides.{nat_tests}
 use Rattle.std.proofs.lemmas.Bool.{cases_lt}
 use Rattle.rail_text.specs.Number.{read_on, is_number, number_of, IsPrinted}
@@ -16,8 +18,10 @@ is_number-decimal n small =
     let few : length (decimal n) ≤ 10 = length-decimal-le 10 n (omega arith) small (omega arith) in
     let digits : all_ascii_digits (decimal n) ≡ true = digits_decimal own n (omega arith) in
     elim (cases_lt 0 n) [
-      | inl pos ↦ let first : 48 < get_or (decimal n) 0 0 = first_decimal n pos (omega arith) in grind (arith, nat_tests)
-      | inr le ↦ let one : decimal n ≡ (48 + n) ∷ [] = decimal_digit n (omega arith) in let len : length (decimal n) ≡ 1 = ap length one in grind (arith, nat_tests)
+      | inl pos ↦ let first : 48 < get_or (decimal n) 0 0 =
+          first_decimal n pos (omega arith) in grind (arith, nat_tests)
+      | inr le ↦ let one : decimal n ≡ (48 + n) ∷ [] =
+          decimal_digit n (omega arith) in let len : length (decimal n) ≡ 1 = ap length one in grind (arith, nat_tests)
     ]
 
 pub number_of-decimal : (n : ℕ) → n < 10 ^ 10 → number_of (decimal n) ≡ Some n
@@ -27,7 +31,8 @@ chosen_some : (b : Bool) (m n : ℕ) → cond b (Some m) None ≡ Some n → (b 
 chosen_some true m n e = (refl, cc)
 chosen_some false m n e = absurd cc
 
-number_parts : (word : List ℕ) → is_number word ≡ true → (0 < length word) × (length word ≤ 10) × (get_or word 0 0 ≡ 48 → length word ≡ 1) × (all_ascii_digits word ≡ true)
+number_parts : (word : List ℕ) → is_number word ≡ true
+    → (0 < length word) × (length word ≤ 10) × (get_or word 0 0 ≡ 48 → length word ≡ 1) × (all_ascii_digits word ≡ true)
 number_parts word e = grind (arith, nat_tests)
 
 pub number_of-spelled : (word : List ℕ) (n : ℕ) → number_of word ≡ Some n → (word ≡ decimal n) × (n < 10 ^ 10)

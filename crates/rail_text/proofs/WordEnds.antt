@@ -1,5 +1,6 @@
 -- Words by where they end.
-use Rattle.std.proofs.Common.{◌≡◌, ℕ, zero, suc, ◌+◌, ◌-◌, ◌<◌, ◌≤◌, Bool, true, false, cond, eqb, List, [], ◌∷◌, length}
+use Rattle.std.proofs.Common.{◌≡◌, ℕ, zero, suc, ◌+◌, ◌-◌, ◌<◌, ◌≤◌, Bool, true, false, cond, eqb, List, [], ◌∷◌}
+use Rattle.std.proofs.Common.{length}
 use Rattle.std.proofs.Common.{take, drop, slice_get, Option, Some, None, option_map, refl, sym, ap, ◌∙◌, arith}
 use Rattle.std.proofs.Common.{get_or, position, not, ltb, ◌||◌, ◌&&◌, ◌⊎◌, inl, inr, ◌≢◌}
 use Rattle.std.proofs.lemmas.List.{drop_more, drop-take, get_or-drop, length-drop, length-take-le, take_rest}
@@ -86,7 +87,8 @@ less m n = omega arith
 space_span : (b : ℕ) (bs : List ℕ) (i j : ℕ) → eqb b 32 ≡ true → IsSpan bs i j → IsSpan (b ∷ bs) (suc i) (suc j)
 space_span b bs i j e h = record {
   order = omega (arith, start_past b bs i e, space_ends b bs j e, h.order);
-  words = rw (start_past b bs i e, space_ends b bs j e, e, less (word_end bs j) (word_start bs i), less (suc j) i) h.words;
+  words = rw (start_past b bs i e, space_ends b bs j e, e, less (word_end bs j) (word_start bs i), less (suc j) i)
+      h.words;
 }
 
 other_span : (b : ℕ) (bs : List ℕ) (i j : ℕ) → eqb b 32 ≡ false → IsSpan bs (suc i) j → IsSpan (b ∷ bs) (suc i) j
@@ -263,7 +265,8 @@ gap_last text at start g ge le =
 abbrev row : List (List ℕ) → ℕ → ℕ → List (List ℕ)
 row words from count = take count (drop from words)
 
-pub length_row : (words : List (List ℕ)) (from count : ℕ) → from + count ≤ length words → length (row words from count) ≡ count
+pub length_row : (words : List (List ℕ)) (from count : ℕ) → from + count ≤ length words
+    → length (row words from count) ≡ count
 length_row words from count there =
     length-take-le count (drop from words) (omega (arith, there, length-drop from words))
 

@@ -75,7 +75,8 @@ pub record IsGoodUpTo {D : Type 0} (read : Reads D) (start : D) (lines : List Li
   pub before : IsReadTo read start lines draft (line ∷ later)
   pub good : IsGoodLine read draft line
 
--- Want of memory is told only of a text within its limit that has no fault up to the line where memory ran out; what was
+-- Want of memory is told only of a text within its limit that has no fault up to the line where memory ran out; what
+-- was
 -- read before that line is such a draft.
 abbrev pub TextRunsOut : {D X : Type 0} → Reads D → (D → Type 0) → ℕ → D → List ℕ → Result X ReadError → Type 0
 TextRunsOut read IsSuch most start bytes (Ok x) = Unit {0}

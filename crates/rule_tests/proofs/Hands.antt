@@ -125,7 +125,8 @@ module _ (plan : PlanFields) (is : IsPlan plan) (v : View) (r n : ℕ) (k : Know
       → here.moment ≡ 0 → here.rung.down ≡ r' → r' ≤ n + 1
       → Knows plan w r' (n + 1) × (box_at (state_of plan w.seen) (caller_of w.posts) ≡ here)
   made call op m r' w here t known is_here early rung_is few =
-      subst (λ (u : View). Knows plan u r' (n + 1) × (box_at (state_of plan u.seen) (caller_of u.posts) ≡ here)) (sym t.now) (
+      subst (λ (u : View). Knows plan u r' (n + 1) × (box_at (state_of plan u.seen) (caller_of u.posts) ≡ here))
+      (sym t.now) (
         record {
           sits = (k.sits.0, refl);
           holds = k.holds;
@@ -137,14 +138,22 @@ module _ (plan : PlanFields) (is : IsPlan plan) (v : View) (r n : ℕ) (k : Know
         after,
       )
     where
-      after : box_at (state_of plan (t.log ++ entry_of plan (state_of plan t.log) (caller_of v.posts) call ∷ [])) (caller_of v.posts) ≡ here
-      after = ap (λ (s : LineState). box_at s (caller_of v.posts)) (state_grows plan t.log (entry_of plan (state_of plan t.log) (caller_of v.posts) call))
-          ∙ (box_then plan (state_of plan t.log) (caller_of v.posts) call is known (history_states plan t.log) ∙ is_here)
+      after : box_at (state_of plan (t.log ++ entry_of plan (state_of plan t.log) (caller_of v.posts) call ∷ []))
+          (caller_of v.posts) ≡ here
+      after = ap (λ (s : LineState). box_at s (caller_of v.posts))
+          (state_grows plan t.log (entry_of plan (state_of plan t.log) (caller_of v.posts) call))
+          ∙ (box_then plan (state_of plan t.log) (caller_of v.posts) call is known (history_states plan t.log)
+          ∙ is_here)
 
-      counts : length (part_of (caller_of v.posts) (t.log ++ entry_of plan (state_of plan t.log) (caller_of v.posts) call ∷ [])) ≡ n + 1
+      counts : length
+          (part_of (caller_of v.posts) (t.log ++ entry_of plan (state_of plan t.log) (caller_of v.posts) call ∷ []))
+          ≡ n + 1
       counts =
-          let p = ap (λ (es : List Entry). length es) (part_grows (caller_of v.posts) t.log (entry_of plan (state_of plan t.log) (caller_of v.posts) call) refl) in
-          let l = length-append (part_of (caller_of v.posts) t.log) (entry_of plan (state_of plan t.log) (caller_of v.posts) call ∷ []) in
+          let p = ap (λ (es : List Entry). length es)
+          (part_grows (caller_of v.posts) t.log (entry_of plan (state_of plan t.log) (caller_of v.posts) call)
+          refl) in
+          let l = length-append (part_of (caller_of v.posts) t.log)
+          (entry_of plan (state_of plan t.log) (caller_of v.posts) call ∷ []) in
           let s = same_part t.log t.met.seen in
           omega arith
 
@@ -171,7 +180,8 @@ rung_count : (here : BoxState) (code count r m : ℕ) (u : Option ℕ) → IfSom
     → (rung here Down code count u).here.rung.down ≡ rung_after r m
 rung_count here code count r m None fits same own met =
     ap (λ (x : ℕ). x + 1) same
-    ∙ sym (pick_yes (m == bell_word r 0) (r + 1) r (eqb_yes m (bell_word r 0) (met ∙ ap (λ (x : ℕ). bell_word x 0) same)))
+    ∙ sym (pick_yes (m == bell_word r 0) (r + 1) r
+    (eqb_yes m (bell_word r 0) (met ∙ ap (λ (x : ℕ). bell_word x 0) same)))
 rung_count here code count r m (Some held) fits same own met =
     let some : 0 < held = fits.0 in
     own ∙ sym (pick_no (m == bell_word r 0) (r + 1) r (eqb_no m (bell_word r 0) (λ e. omega arith)))
@@ -242,17 +252,21 @@ module _ (plan : PlanFields) (is : IsPlan plan) (v : View) (r n : ℕ) (k : Know
   pub hears : (b m : ℕ) (side : Way) (w : View) → caller_of v.posts ≡ b → KnowsCall plan b (hear_call side)
       → Made plan (caller_of v.posts) (hear_call side) (ops.Hear side) v m w → Knows plan w r (n + 1)
   hears b m side w whose known t =
-      keeps_box (hear_call side) (ops.Hear side) m w refl t (subst (λ (c : ℕ). KnowsCall plan c (hear_call side)) (sym whose) known)
+      keeps_box (hear_call side) (ops.Hear side) m w refl t
+      (subst (λ (c : ℕ). KnowsCall plan c (hear_call side)) (sym whose) known)
       (heard_here _ _ _)
 
-  looks_on : (d : Bool) (b code m : ℕ) (side : Way) (w : View) → caller_of v.posts ≡ b → KnowsCall plan b (await_call side code)
+  looks_on : (d : Bool) (b code m : ℕ) (side : Way) (w : View) → caller_of v.posts ≡ b
+      → KnowsCall plan b (await_call side code)
       → MadeOrSaw d plan (await_call side code) (ops.LookBell side) v m w → Knows plan w r (if d then n + 1 else n)
   looks_on true b code m side w whose known t =
-      keeps_box (await_call side code) (ops.LookBell side) m w refl t (subst (λ (c : ℕ). KnowsCall plan c (await_call side code)) (sym whose) known)
+      keeps_box (await_call side code) (ops.LookBell side) m w refl t
+      (subst (λ (c : ℕ). KnowsCall plan c (await_call side code)) (sym whose) known)
       (awaited_here _ code _ _)
   looks_on false b code m side w whose known t = saw plan is v r n k _ _ _ m w t
 
-  pub looks : (last : Bool) (b code m : ℕ) (side : Way) (w : View) → caller_of v.posts ≡ b → KnowsCall plan b (await_call side code)
+  pub looks : (last : Bool) (b code m : ℕ) (side : Way) (w : View) → caller_of v.posts ≡ b
+      → KnowsCall plan b (await_call side code)
       → Tells plan (await_call side code) (ops.LookBell side) last v m w
       → Knows plan w r (if last && not (bell_code m == code) then n + 1 else n)
   looks last b code m side w whose known t = looks_on (last && not (bell_code m == code)) b code m side w whose known t
@@ -270,5 +284,6 @@ fresh plan v b sits free seen within = record {
   few = omega arith;
 }
   where
-    opens : box_at (state_of plan v.seen) b ≡ Rattle.line_law.specs.States.opening_box (length plan.trains) (box_plan_of plan b)
+    opens : box_at (state_of plan v.seen) b
+        ≡ Rattle.line_law.specs.States.opening_box (length plan.trains) (box_plan_of plan b)
     opens = ap (λ (es : List Entry). box_at (state_of plan es) b) seen ∙ opening_at plan b within

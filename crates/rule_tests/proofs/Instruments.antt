@@ -78,9 +78,11 @@ drawn plan v b sits free seen within = record {
 -- ---- Line Clear
 
 clear_free : (trains : ℕ) (bp : BoxFields) (berth : Berth) → berth_of bp Down ≡ Some berth → berth.permissive ≡ None
-    → turn_refusal (at_moment (opening_box trains bp) 0) berth (opening_box trains bp).incoming.down shows.LineClear ≡ None
+    → turn_refusal (at_moment (opening_box trains bp) 0) berth (opening_box trains bp).incoming.down shows.LineClear
+    ≡ None
 clear_free trains bp berth there absolute =
-    let control : opening_control bp.berth_down ≡ Absolute welwyn.Ready = ap opening_control there ∙ ap control_of absolute in
+    let control : opening_control bp.berth_down ≡ Absolute welwyn.Ready =
+    ap opening_control there ∙ ap control_of absolute in
     let homes = none_reversed (frame_size bp.levers) berth.homes in
     let clear = none_standing (length bp.places) (berth.place ∷ berth.clearing) in
     (λ i. or_later (home_refusal (homes i)) (control_refusal (control i) (at_moment (opening_box trains bp) 0) berth))
@@ -103,57 +105,62 @@ turn_op : (plan : PlanFields) (bp : BoxFields) (here : BoxState) (position : Pos
     ≡ ops.Turn Down x
 turn_op plan bp here position turns x decided counted word =
     ap (λ (d : Decision). first_on (word_kind d) (first_by bp (acts.Turn Down position) here)) decided
-    ∙ (ap (λ (t : ℕ). ops.Turn Down (block_word (t + 1) false position)) counted ∙ ap (λ (t : ℕ). ops.Turn Down t) (sym word))
+    ∙ (ap (λ (t : ℕ). ops.Turn Down (block_word (t + 1) false position)) counted
+    ∙ ap (λ (t : ℕ). ops.Turn Down t) (sym word))
 
-module _ (plan : PlanFields) (is : IsPlan plan) (v : View) (f : Fresh plan v) (a : IsAbsolute plan (caller_of v.posts)) where
-  opened : at_moment (box_at (state_of plan v.seen) (caller_of v.posts)) 0
-      ≡ at_moment (opening_box (length plan.trains) (box_plan_of plan (caller_of v.posts))) 0
-  opened = ap (λ (h : BoxState). at_moment h 0) f.opens
+module _ (plan : PlanFields) (is : IsPlan plan) (v : View) (f : Fresh plan v) (a : IsAbsolute plan (caller_of v.posts))
+  where
+    opened : at_moment (box_at (state_of plan v.seen) (caller_of v.posts)) 0
+        ≡ at_moment (opening_box (length plan.trains) (box_plan_of plan (caller_of v.posts))) 0
+    opened = ap (λ (h : BoxState). at_moment h 0) f.opens
 
-  pub fits_clear : (x : ℕ) → x ≡ block_word 1 false shows.LineClear
-      → OpFits plan (caller_of v.posts) (turn_call shows.LineClear) (ops.Turn Down x) v
-  fits_clear x word = inl
-      (turn_op plan (box_plan_of plan (caller_of v.posts)) (at_moment (box_at (state_of plan v.seen) (caller_of v.posts)) 0)
-      shows.LineClear 0 x
-      (clear_decided plan (box_plan_of plan (caller_of v.posts)) (length plan.trains)
-      (at_moment (box_at (state_of plan v.seen) (caller_of v.posts)) 0) a.berth a.there a.absolute opened)
-      (ap (λ (h : BoxState). h.incoming.down.turns) f.opens) word)
+    pub fits_clear : (x : ℕ) → x ≡ block_word 1 false shows.LineClear
+        → OpFits plan (caller_of v.posts) (turn_call shows.LineClear) (ops.Turn Down x) v
+    fits_clear x word = inl
+        (turn_op plan (box_plan_of plan (caller_of v.posts))
+        (at_moment (box_at (state_of plan v.seen) (caller_of v.posts)) 0)
+        shows.LineClear 0 x
+        (clear_decided plan (box_plan_of plan (caller_of v.posts)) (length plan.trains)
+        (at_moment (box_at (state_of plan v.seen) (caller_of v.posts)) 0) a.berth a.there a.absolute opened)
+        (ap (λ (h : BoxState). h.incoming.down.turns) f.opens) word)
 
-  pub gives : (m x : ℕ) (w : View) → KnowsCall plan (caller_of v.posts) (turn_call shows.LineClear)
-      → Made plan (caller_of v.posts) (turn_call shows.LineClear) (ops.Turn Down x) v m w → Given plan w
-  gives m x w known t =
-      let told = made plan is v 0 0 f.knows (turn_call shows.LineClear) (ops.Turn Down x) m 0 w
-      (turned (at_moment (box_at (state_of plan t.log) (caller_of v.posts)) 0) Down shows.LineClear block).here t known
-      (ap (λ (d : Decision). (on_pair Down d (pair_at (state_of plan t.log) (pair_no (caller_of v.posts) (In Down)))).here)
-      decision) refl (ap (λ (h : BoxState). h.rung.down) same) (omega arith) in record {
-        knows = told.0;
-        turned = ap (λ (h : BoxState). h.incoming.down.turns) told.1 ∙ ap (λ (n : ℕ). n + 1) counts;
-        given = ap (λ (h : BoxState). h.incoming.down.position) told.1;
-      }
-    where
-      same : box_at (state_of plan t.log) (caller_of v.posts)
-          ≡ opening_box (length plan.trains) (box_plan_of plan (caller_of v.posts))
-      same = same_own plan is v 0 0 f.knows t.log t.met.seen t.met.legal ∙ f.opens
+    pub gives : (m x : ℕ) (w : View) → KnowsCall plan (caller_of v.posts) (turn_call shows.LineClear)
+        → Made plan (caller_of v.posts) (turn_call shows.LineClear) (ops.Turn Down x) v m w → Given plan w
+    gives m x w known t =
+        let told = made plan is v 0 0 f.knows (turn_call shows.LineClear) (ops.Turn Down x) m 0 w
+        (turned (at_moment (box_at (state_of plan t.log) (caller_of v.posts)) 0) Down shows.LineClear block).here t
+        known
+        (ap (λ (d : Decision).
+        (on_pair Down d (pair_at (state_of plan t.log) (pair_no (caller_of v.posts) (In Down)))).here)
+        decision) refl (ap (λ (h : BoxState). h.rung.down) same) (omega arith) in record {
+          knows = told.0;
+          turned = ap (λ (h : BoxState). h.incoming.down.turns) told.1 ∙ ap (λ (n : ℕ). n + 1) counts;
+          given = ap (λ (h : BoxState). h.incoming.down.position) told.1;
+        }
+      where
+        same : box_at (state_of plan t.log) (caller_of v.posts)
+            ≡ opening_box (length plan.trains) (box_plan_of plan (caller_of v.posts))
+        same = same_own plan is v 0 0 f.knows t.log t.met.seen t.met.legal ∙ f.opens
 
-      decision : decide plan (box_plan_of plan (caller_of v.posts)) (acts.Turn Down shows.LineClear)
-          (at_moment (box_at (state_of plan t.log) (caller_of v.posts)) 0)
-          ≡ OnBlock (turned (at_moment (box_at (state_of plan t.log) (caller_of v.posts)) 0) Down shows.LineClear)
-      decision = clear_decided plan (box_plan_of plan (caller_of v.posts)) (length plan.trains)
-          (at_moment (box_at (state_of plan t.log) (caller_of v.posts)) 0) a.berth a.there a.absolute
-          (ap (λ (h : BoxState). at_moment h 0) same)
+        decision : decide plan (box_plan_of plan (caller_of v.posts)) (acts.Turn Down shows.LineClear)
+            (at_moment (box_at (state_of plan t.log) (caller_of v.posts)) 0)
+            ≡ OnBlock (turned (at_moment (box_at (state_of plan t.log) (caller_of v.posts)) 0) Down shows.LineClear)
+        decision = clear_decided plan (box_plan_of plan (caller_of v.posts)) (length plan.trains)
+            (at_moment (box_at (state_of plan t.log) (caller_of v.posts)) 0) a.berth a.there a.absolute
+            (ap (λ (h : BoxState). at_moment h 0) same)
 
-      block : Block
-      block = (pair_at (state_of plan t.log) (pair_no (caller_of v.posts) (In Down))).blocks.down
+        block : Block
+        block = (pair_at (state_of plan t.log) (pair_no (caller_of v.posts) (In Down))).blocks.down
 
-      agrees : BlockAgrees (In Down) (at_moment (box_at (state_of plan t.log) (caller_of v.posts)) 0)
-          (pair_at (state_of plan t.log) (pair_no (caller_of v.posts) (In Down))).blocks.down
-      agrees = subst (λ (kind : WordKind). Agrees kind (In Down)
-          (at_moment (box_at (state_of plan t.log) (caller_of v.posts)) 0)
-          (pair_at (state_of plan t.log) (pair_no (caller_of v.posts) (In Down)))) (ap word_kind decision)
-          (met_agrees plan t.log (caller_of v.posts) (turn_call shows.LineClear) is t.met.legal t.met.few known)
+        agrees : BlockAgrees (In Down) (at_moment (box_at (state_of plan t.log) (caller_of v.posts)) 0)
+            (pair_at (state_of plan t.log) (pair_no (caller_of v.posts) (In Down))).blocks.down
+        agrees = subst (λ (kind : WordKind). Agrees kind (In Down)
+            (at_moment (box_at (state_of plan t.log) (caller_of v.posts)) 0)
+            (pair_at (state_of plan t.log) (pair_no (caller_of v.posts) (In Down)))) (ap word_kind decision)
+            (met_agrees plan t.log (caller_of v.posts) (turn_call shows.LineClear) is t.met.legal t.met.few known)
 
-      counts : (pair_at (state_of plan t.log) (pair_no (caller_of v.posts) (In Down))).blocks.down.turns ≡ 0
-      counts = agrees.turned.0 ∙ ap (λ (h : BoxState). h.incoming.down.turns) same
+        counts : (pair_at (state_of plan t.log) (pair_no (caller_of v.posts) (In Down))).blocks.down.turns ≡ 0
+        counts = agrees.turned.0 ∙ ap (λ (h : BoxState). h.incoming.down.turns) same
 
 -- ---- Train on Line
 
@@ -163,15 +170,18 @@ train_decided : (plan : PlanFields) (bp : BoxFields) (here : BoxState) (berth : 
 train_decided plan bp here berth there given =
     ap (λ (t : Option Berth). turn t here Down shows.TrainOnLine) there
     ∙ ap (λ (p : Position). unless (if same_position p shows.TrainOnLine then Some AlreadyThere
-    else position_refusal shows.TrainOnLine here berth here.incoming.down) here (OnBlock (turned here Down shows.TrainOnLine))) given
+    else position_refusal shows.TrainOnLine here berth here.incoming.down) here
+    (OnBlock (turned here Down shows.TrainOnLine))) given
 
 pub fits_train : (plan : PlanFields) (v : View) (x : ℕ) → Given plan v → IsAbsolute plan (caller_of v.posts)
     → x ≡ block_word 2 false shows.TrainOnLine
     → OpFits plan (caller_of v.posts) (turn_call shows.TrainOnLine) (ops.Turn Down x) v
 fits_train plan v x g a word = inl
-    (turn_op plan (box_plan_of plan (caller_of v.posts)) (at_moment (box_at (state_of plan v.seen) (caller_of v.posts)) 0)
+    (turn_op plan (box_plan_of plan (caller_of v.posts))
+    (at_moment (box_at (state_of plan v.seen) (caller_of v.posts)) 0)
     shows.TrainOnLine 1 x
-    (train_decided plan (box_plan_of plan (caller_of v.posts)) (at_moment (box_at (state_of plan v.seen) (caller_of v.posts)) 0)
+    (train_decided plan (box_plan_of plan (caller_of v.posts))
+    (at_moment (box_at (state_of plan v.seen) (caller_of v.posts)) 0)
     a.berth a.there g.given) g.turned word)
 
 -- ---- the starter
@@ -183,7 +193,8 @@ pull_free trains bp lever rows kind =
     ap (λ (t : Bool). if t then Some AlreadyReversed else or_later (spare_refusal (kind_of bp lever))
     (lock_refusal bp (at_moment (opening_box trains bp) 0) lever))
     (ap is_reversed_end (all_one (frame_size bp.levers) (lever - 1) ends.Normal))
-    ∙ (ap (λ (t : Option Kind). or_later (spare_refusal t) (lock_refusal bp (at_moment (opening_box trains bp) 0) lever)) kind
+    ∙ (ap (λ (t : Option Kind). or_later (spare_refusal t)
+    (lock_refusal bp (at_moment (opening_box trains bp) 0) lever)) kind
     ∙ (ap (λ (t : List Row). or_later (row_refusal (holder_of (opening_box trains bp).ends lever t))
     (track_refusal (first_standing (opening_box trains bp).places (track_of bp lever)))) rows
     ∙ ap track_refusal (none_standing (length bp.places) (track_of bp lever))))
@@ -193,14 +204,16 @@ pull_decided : (plan : PlanFields) (bp : BoxFields) (trains : ℕ) (here : BoxSt
     → starter_way (signal_of bp lever) ≡ Some Down → here ≡ at_moment (opening_box trains bp) 0
     → decide plan bp (acts.Pull lever) here ≡ OnBlock (pulled_under here (pulled here lever (signal_of bp lever)) Down)
 pull_decided plan bp trains here lever rows kind leads opens =
-    ap (λ (t : Option Reply). unless t here (pull_at here (pulled here lever (signal_of bp lever)) (starter_way (signal_of bp lever))))
+    ap (λ (t : Option Reply). unless t here
+    (pull_at here (pulled here lever (signal_of bp lever)) (starter_way (signal_of bp lever))))
     (subst (λ (h : BoxState). pull_refusal bp h lever ≡ None) (sym opens) (pull_free trains bp lever rows kind))
     ∙ ap (pull_at here (pulled here lever (signal_of bp lever))) leads
 
 pub fits_pull : (plan : PlanFields) (v : View) (lever : ℕ) → Fresh plan v → IsFreeStarter plan (caller_of v.posts) lever
     → OpFits plan (caller_of v.posts) (pull_call lever) (ops.Pull Down) v
 fits_pull plan v lever f s = inl
-    (ap (λ (d : Decision). first_on (word_kind d) (pull_op (starter_way (signal_of (box_plan_of plan (caller_of v.posts)) lever))))
+    (ap (λ (d : Decision). first_on (word_kind d)
+    (pull_op (starter_way (signal_of (box_plan_of plan (caller_of v.posts)) lever))))
     (pull_decided plan (box_plan_of plan (caller_of v.posts)) (length plan.trains)
     (at_moment (box_at (state_of plan v.seen) (caller_of v.posts)) 0) lever s.rows s.kind s.leads
     (ap (λ (h : BoxState). at_moment h 0) f.opens))

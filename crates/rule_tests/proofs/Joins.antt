@@ -41,7 +41,8 @@ pub over : (plan : PlanFields) → IsPlan plan → (v w u : View) → Sits plan 
 over plan is v w u sits none f now seen legal =
     let its : u.plan ≡ Some plan = ap (λ (x : View). x.plan) now ∙ sits.0 in
     let posts : u.posts ≡ w.posts = ap (λ (x : View). x.posts) now ∙ ap (λ (bs : List ℕ). bs ++ w.posts) none in (
-      still_fresh plan is w u f (its, ap (λ (x : View). x.olds) now) (λ e. f.knows.holds (sym posts ∙ e)) (ap caller_of posts)
+      still_fresh plan is w u f (its, ap (λ (x : View). x.olds) now) (λ e. f.knows.holds (sym posts ∙ e))
+          (ap caller_of posts)
           seen (legal_for plan u its legal),
       ap caller_of posts,
     )
@@ -60,7 +61,8 @@ pub beside : (plan : PlanFields) → IsPlan plan → (v w u : View) → Fresh pl
 beside plan is v w u f now seen legal =
     let its : u.plan ≡ Some plan = ap (λ (x : View). x.plan) now ∙ f.knows.sits.0 in
     let posts : u.posts ≡ v.posts ++ w.posts = ap (λ (x : View). x.posts) now in
-    let caller : caller_of u.posts ≡ caller_of v.posts = ap caller_of posts ∙ first_stays v.posts w.posts f.knows.holds in (
+    let caller : caller_of u.posts ≡ caller_of v.posts =
+    ap caller_of posts ∙ first_stays v.posts w.posts f.knows.holds in (
       still_fresh plan is v u f (its, ap (λ (x : View). x.olds) now)
           (λ e. some_stays v.posts w.posts f.knows.holds (sym posts ∙ e)) caller seen (legal_for plan u its legal),
       caller,

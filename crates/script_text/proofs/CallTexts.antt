@@ -1,5 +1,7 @@
 -- Calls are read as they are printed, and each has one spelling.
-use Rattle.std.proofs.Common.{◌≡◌, ℕ, ◌+◌, ◌^◌, ◌<◌, ◌≤◌, Bool, true, false, cond, ltb, ◌&&◌, List, [], ◌∷◌, ◌++◌, length, Option, Some, None, Result, Ok, Err, IsTrue, IfOk, IsErr, ◌↔◌, refl, sym, ap, subst, ◌∙◌, arith, codes, bytes_eq, decimal}
+use Rattle.std.proofs.Common.{◌≡◌, ℕ, ◌+◌, ◌^◌, ◌<◌, ◌≤◌, Bool, true, false, cond, ltb, ◌&&◌, List, [], ◌∷◌, ◌++◌}
+use Rattle.std.proofs.Common.{length, Option, Some, None, Result, Ok, Err, IsTrue, IfOk, IsErr, ◌↔◌, refl, sym, ap}
+use Rattle.std.proofs.Common.{subst, ◌∙◌, arith, codes, bytes_eq, decimal}
 use Rattle.std.specs.List.{list_all, join_with_byte}
 use Rattle.std.proofs.lemmas.Bool.Decides.{nat_tests}
 use Rattle.std.proofs.lemmas.List.{length-append}
@@ -15,16 +17,22 @@ use Rattle.rail_text.specs.Words.{keyword, number_in}
 use Rattle.rail_text.specs.declared.cause.Cause.{Cause}
 use Rattle.rail_text.proofs.Binds.{OfOk, bind_keeps, if_keeps, InRange, number_in_is}
 use Rattle.rail_text.proofs.PrintedLines.{both, joined-words_of, some_words}
-use Rattle.rail_text.proofs.PrintedWords.{words_of-words, decimal_is_word, length-decimal_word, length-name, number_in-decimal}
+use Rattle.rail_text.proofs.PrintedWords.{words_of-words, decimal_is_word, length-decimal_word, length-name}
+use Rattle.rail_text.proofs.PrintedWords.{number_in-decimal}
 use Rattle.line_plan.specs.Plans.{PlanFields, IsPlan, is_train}
 use Rattle.line_plan.specs.Ways.{comes_in}
 use Rattle.line_law.specs.declared.call.Act.{Act}
 use Rattle.line_law.specs.declared.call.Act.TheVariants as acts
 use Rattle.line_law.specs.declared.call.Call.{Call}
-use Rattle.line_law.specs.Known.{moments_of, is_code_no, knows_act, knows_arm, knows_berth, knows_call, knows_lever, knows_outgoing, knows_side, knows_train, KnowsCall}
+use Rattle.line_law.specs.Known.{moments_of, is_code_no, knows_act, knows_arm, knows_berth, knows_call, knows_lever}
+use Rattle.line_law.specs.Known.{knows_outgoing, knows_side, knows_train, KnowsCall}
 use Rattle.script_text.specs.Moments.{moment_of, moment_text}
-use Rattle.script_text.specs.Names.{way_text, position_text, code_no_text, train_text, way_named, position_named, train_named}
-use Rattle.script_text.specs.Acts.{fixed, side_in, code_in, with_berth, lever_in, arm_in, own_train, train_in, two_words, third_word, side_and_code, way_and_position, berth_and_position, outgoing_and_position, one_side, one_berth, one_lever, one_arm, one_train, line_act, lever_act, bell_act, act_of, act_words}
+use Rattle.script_text.specs.Names.{way_text, position_text, code_no_text, train_text, way_named, position_named}
+use Rattle.script_text.specs.Names.{train_named}
+use Rattle.script_text.specs.Acts.{fixed, side_in, code_in, with_berth, lever_in, arm_in, own_train, train_in}
+use Rattle.script_text.specs.Acts.{two_words, third_word, side_and_code, way_and_position, berth_and_position}
+use Rattle.script_text.specs.Acts.{outgoing_and_position, one_side, one_berth, one_lever, one_arm, one_train, line_act}
+use Rattle.script_text.specs.Acts.{lever_act, bell_act, act_of, act_words}
 use Rattle.script_text.specs.Calls.{timed, moment_in, call_in, call_of, call_words, call_text}
 use Rattle.script_text.specs.Spelled.{SpellsCall}
 use Rattle.script_text.proofs.CodeTexts.{IsCodeText, code_read, code_in_is, code_is_word, code_short}
@@ -39,26 +47,31 @@ abbrev pub OfSome : {A : Type 0} → (A → Type 0) → Option A → Type 0
 OfSome P None = Unit {0}
 OfSome P (Some x) = P x
 
-pub some_keeps : {A : Type 0} (P : A → Type 0) (b : Bool) (x y : Option A) → (b ≡ true → OfSome P x) → (b ≡ false → OfSome P y) → OfSome P (cond b x y)
+pub some_keeps : {A : Type 0} (P : A → Type 0) (b : Bool) (x y : Option A) → (b ≡ true → OfSome P x)
+    → (b ≡ false → OfSome P y) → OfSome P (cond b x y)
 some_keeps P true x y h k = h refl
 some_keeps P false x y h k = k refl
 
 way_is : (word : List ℕ) → OfSome (λ way. word ≡ way_text way) (way_named word)
 way_is word =
-    some_keeps (λ way. word ≡ way_text way) (bytes_eq word (codes "up")) _ _ (λ e. (bytes_eq-Decides word (codes "up")).0 e)
-    (λ _. some_keeps (λ way. word ≡ way_text way) (bytes_eq word (codes "down")) _ _ (λ e. (bytes_eq-Decides word (codes "down")).0 e) (λ _. tt))
+    some_keeps (λ way. word ≡ way_text way) (bytes_eq word (codes "up")) _ _
+    (λ e. (bytes_eq-Decides word (codes "up")).0 e)
+    (λ _. some_keeps (λ way. word ≡ way_text way) (bytes_eq word (codes "down")) _ _
+    (λ e. (bytes_eq-Decides word (codes "down")).0 e) (λ _. tt))
 
 position_is : (word : List ℕ) → OfSome (λ position. word ≡ position_text position) (position_named word)
 position_is word =
     let P : Position → Type 0 = λ position. word ≡ position_text position in
     some_keeps P (bytes_eq word (codes "normal")) _ _ (λ e. (bytes_eq-Decides word (codes "normal")).0 e)
     (λ _. some_keeps P (bytes_eq word (codes "line_clear")) _ _ (λ e. (bytes_eq-Decides word (codes "line_clear")).0 e)
-    (λ _. some_keeps P (bytes_eq word (codes "train_on_line")) _ _ (λ e. (bytes_eq-Decides word (codes "train_on_line")).0 e) (λ _. tt)))
+    (λ _. some_keeps P (bytes_eq word (codes "train_on_line")) _ _
+    (λ e. (bytes_eq-Decides word (codes "train_on_line")).0 e) (λ _. tt)))
 
 pub way_spelled : (word : List ℕ) (way : Way) → way_named word ≡ Some way → word ≡ way_text way
 way_spelled word way e = subst (OfSome (λ w. word ≡ way_text w)) e (way_is word)
 
-pub position_spelled : (word : List ℕ) (position : Position) → position_named word ≡ Some position → word ≡ position_text position
+pub position_spelled : (word : List ℕ) (position : Position) → position_named word ≡ Some position
+    → word ≡ position_text position
 position_spelled word position e = subst (OfSome (λ p. word ≡ position_text p)) e (position_is word)
 
 pub way_read : (way : Way) → way_named (way_text way) ≡ Some way
@@ -98,35 +111,47 @@ fixed_is P (Some x) h = h
 abbrev Tells : {X : Type 0} → (X → Bool) → (X → List ℕ) → List ℕ → X → Type 0
 Tells known text word x = IsTrue (known x) × (word ≡ text x)
 
-side_in_is : (plan : PlanFields) (b : ℕ) (word : List ℕ) → OfOk (Tells (knows_side plan b) way_text word) (side_in plan b word)
+side_in_is : (plan : PlanFields) (b : ℕ) (word : List ℕ)
+    → OfOk (Tells (knows_side plan b) way_text word) (side_in plan b word)
 unfolding side_in
 side_in_is plan b word =
-    bind_keeps (λ way. word ≡ way_text way) (Tells (knows_side plan b) way_text word) (fixed (way_named word)) _ (fixed_is _ (way_named word) (way_is word)) (λ way e.
+    bind_keeps (λ way. word ≡ way_text way) (Tells (knows_side plan b) way_text word) (fixed (way_named word)) _
+    (fixed_is _ (way_named word) (way_is word)) (λ way e.
     if_keeps (Tells (knows_side plan b) way_text word) (knows_side plan b way) _ _ (λ has. (has, e)) (λ _. tt))
 
-with_berth_is : (plan : PlanFields) (b : ℕ) (word : List ℕ) (way : Way) → word ≡ way_text way → OfOk (Tells (knows_berth plan b) way_text word) (with_berth plan b way)
+with_berth_is : (plan : PlanFields) (b : ℕ) (word : List ℕ) (way : Way) → word ≡ way_text way
+    → OfOk (Tells (knows_berth plan b) way_text word) (with_berth plan b way)
 with_berth_is plan b word way e =
     if_keeps (Tells (knows_berth plan b) way_text word) (comes_in (length plan.boxes) b way) _ _
-    (λ _. if_keeps (Tells (knows_berth plan b) way_text word) (knows_berth plan b way) _ _ (λ has. (has, e)) (λ _. tt)) (λ _. tt)
+    (λ _. if_keeps (Tells (knows_berth plan b) way_text word) (knows_berth plan b way) _ _ (λ has. (has, e)) (λ _. tt))
+    (λ _. tt)
 
-lever_in_is : (plan : PlanFields) (b : ℕ) (word : List ℕ) → OfOk (Tells (knows_lever plan b) decimal word) (lever_in plan b word)
+lever_in_is : (plan : PlanFields) (b : ℕ) (word : List ℕ)
+    → OfOk (Tells (knows_lever plan b) decimal word) (lever_in plan b word)
 unfolding lever_in
 lever_in_is plan b word =
-    bind_keeps (InRange 1 120 word) (Tells (knows_lever plan b) decimal word) (number_in 1 120 word) _ (number_in_is 1 120 word) (λ lever r.
+    bind_keeps (InRange 1 120 word) (Tells (knows_lever plan b) decimal word) (number_in 1 120 word) _
+    (number_in_is 1 120 word) (λ lever r.
     if_keeps (Tells (knows_lever plan b) decimal word) (knows_lever plan b lever) _ _ (λ has. (has, r.0)) (λ _. tt))
 
-arm_in_is : (plan : PlanFields) (b : ℕ) (word : List ℕ) → OfOk (Tells (knows_arm plan b) decimal word) (arm_in plan b word)
+arm_in_is : (plan : PlanFields) (b : ℕ) (word : List ℕ)
+    → OfOk (Tells (knows_arm plan b) decimal word) (arm_in plan b word)
 unfolding arm_in
 arm_in_is plan b word =
-    bind_keeps (Tells (knows_lever plan b) decimal word) (Tells (knows_arm plan b) decimal word) (lever_in plan b word) _ (lever_in_is plan b word) (λ lever r.
+    bind_keeps (Tells (knows_lever plan b) decimal word) (Tells (knows_arm plan b) decimal word) (lever_in plan b word)
+    _ (lever_in_is plan b word) (λ lever r.
     if_keeps (Tells (knows_arm plan b) decimal word) (knows_arm plan b lever) _ _ (λ has. (has, r.1)) (λ _. tt))
 
-train_in_is : (plan : PlanFields) (b : ℕ) (word : List ℕ) → OfOk (Tells (knows_train plan b) (train_text plan) word) (train_in plan b word)
+train_in_is : (plan : PlanFields) (b : ℕ) (word : List ℕ)
+    → OfOk (Tells (knows_train plan b) (train_text plan) word) (train_in plan b word)
 unfolding train_in
 train_in_is plan b word = go (train_named plan word) refl where
-  go : (o : Option ℕ) → train_named plan word ≡ o → OfOk (Tells (knows_train plan b) (train_text plan) word) (own_train plan b o)
+  go : (o : Option ℕ) → train_named plan word ≡ o
+      → OfOk (Tells (knows_train plan b) (train_text plan) word) (own_train plan b o)
   go None e = tt
-  go (Some train) e = if_keeps (Tells (knows_train plan b) (train_text plan) word) (knows_train plan b train) _ _ (λ has. (has, (train_spelled plan word train e).1)) (λ _. tt)
+  go (Some train) e =
+      if_keeps (Tells (knows_train plan b) (train_text plan) word) (knows_train plan b train) _ _
+      (λ has. (has, (train_spelled plan word train e).1)) (λ _. tt)
 
 -- ---- known things are read as they are printed
 
@@ -135,31 +160,36 @@ picked true true x y z c k = refl
 picked true false x y z c k = absurd cc
 picked false k x y z c h = absurd cc
 
-side_read : (plan : PlanFields) (b : ℕ) (side : Way) → knows_side plan b side ≡ true → side_in plan b (way_text side) ≡ Ok side
+side_read : (plan : PlanFields) (b : ℕ) (side : Way) → knows_side plan b side ≡ true
+    → side_in plan b (way_text side) ≡ Ok side
 unfolding side_in
 side_read plan b side h = rw (way_read side, h) refl
 
 berth_read : (plan : PlanFields) (b : ℕ) (way : Way) → knows_berth plan b way ≡ true → with_berth plan b way ≡ Ok way
 berth_read plan b way h = picked _ _ _ _ _ (both (comes_in (length plan.boxes) b way) _ h).0 h
 
-lever_read : (plan : PlanFields) (b lever : ℕ) → IsPlan plan → b < length plan.boxes → knows_lever plan b lever ≡ true → lever_in plan b (decimal lever) ≡ Ok lever
+lever_read : (plan : PlanFields) (b lever : ℕ) → IsPlan plan → b < length plan.boxes → knows_lever plan b lever ≡ true
+    → lever_in plan b (decimal lever) ≡ Ok lever
 unfolding lever_in
 lever_read plan b lever p at h =
     let r = lever_from plan b lever p at h in
     rw (number_in-decimal 1 120 lever r.low_enough r.high_enough (omega (arith, r.high_enough)), h) refl
 
-arm_read : (plan : PlanFields) (b lever : ℕ) → IsPlan plan → b < length plan.boxes → knows_arm plan b lever ≡ true → arm_in plan b (decimal lever) ≡ Ok lever
+arm_read : (plan : PlanFields) (b lever : ℕ) → IsPlan plan → b < length plan.boxes → knows_arm plan b lever ≡ true
+    → arm_in plan b (decimal lever) ≡ Ok lever
 unfolding arm_in
 arm_read plan b lever p at h = rw (lever_read plan b lever p at (both (knows_lever plan b lever) _ h).0, h) refl
 
-own_train_read : (plan : PlanFields) (b train : ℕ) → IsPlan plan → knows_train plan b train ≡ true → train_in plan b (train_text plan train) ≡ Ok train
+own_train_read : (plan : PlanFields) (b train : ℕ) → IsPlan plan → knows_train plan b train ≡ true
+    → train_in plan b (train_text plan train) ≡ Ok train
 unfolding train_in
 own_train_read plan b train p h = rw (train_read plan train p (both (is_train plan.trains train) _ h).0, h) refl
 
 -- ---- the words behind the moment and the call's word
 
 -- the two words behind the first two
-two_words_are : (a w : List ℕ) (rest : List (List ℕ)) → OfOk (λ both. rest ≡ both.0 ∷ both.1 ∷ []) (two_words (a ∷ w ∷ rest))
+two_words_are : (a w : List ℕ) (rest : List (List ℕ))
+    → OfOk (λ both. rest ≡ both.0 ∷ both.1 ∷ []) (two_words (a ∷ w ∷ rest))
 two_words_are a w [] = tt
 two_words_are a w (x ∷ []) = tt
 two_words_are a w (x ∷ y ∷ []) = refl
@@ -174,38 +204,50 @@ third_word_is a w (x ∷ y ∷ rest) = tt
 abbrev TellsOne : {X : Type 0} → (X → Bool) → (X → List ℕ) → List (List ℕ) → X → Type 0
 TellsOne known text rest x = IsTrue (known x) × (rest ≡ text x ∷ [])
 
-one_told : {X : Type 0} (known : X → Bool) (text : X → List ℕ) (a w : List ℕ) (rest : List (List ℕ)) (read : List ℕ → Result X Cause) → ((word : List ℕ) → OfOk (Tells known text word) (read word))
+one_told : {X : Type 0} (known : X → Bool) (text : X → List ℕ) (a w : List ℕ) (rest : List (List ℕ))
+    (read : List ℕ → Result X Cause) → ((word : List ℕ) → OfOk (Tells known text word) (read word))
     → OfOk (TellsOne known text rest) (third_word (a ∷ w ∷ rest) >>= read)
 one_told known text a w rest read h =
-    bind_keeps (λ word. rest ≡ word ∷ []) (TellsOne known text rest) (third_word (a ∷ w ∷ rest)) read (third_word_is a w rest) (λ word e. go word e (read word) (h word)) where
-      go : (word : List ℕ) → rest ≡ word ∷ [] → (r : Result _ Cause) → OfOk (Tells known text word) r → OfOk (TellsOne known text rest) r
+    bind_keeps (λ word. rest ≡ word ∷ []) (TellsOne known text rest) (third_word (a ∷ w ∷ rest)) read
+    (third_word_is a w rest) (λ word e. go word e (read word) (h word)) where
+      go : (word : List ℕ) → rest ≡ word ∷ [] → (r : Result _ Cause) → OfOk (Tells known text word) r
+          → OfOk (TellsOne known text rest) r
       go word e (Ok x) t = (t.0, e ∙ ap (λ (one : List ℕ). one ∷ []) t.1)
       go word e (Err cause) t = tt
 
-one_side_is : (plan : PlanFields) (b : ℕ) (a w : List ℕ) (rest : List (List ℕ)) → OfOk (TellsOne (knows_side plan b) way_text rest) (one_side plan b (a ∷ w ∷ rest))
+one_side_is : (plan : PlanFields) (b : ℕ) (a w : List ℕ) (rest : List (List ℕ))
+    → OfOk (TellsOne (knows_side plan b) way_text rest) (one_side plan b (a ∷ w ∷ rest))
 unfolding one_side
 one_side_is plan b a w rest = one_told (knows_side plan b) way_text a w rest (side_in plan b) (side_in_is plan b)
 
-one_berth_is : (plan : PlanFields) (b : ℕ) (a w : List ℕ) (rest : List (List ℕ)) → OfOk (TellsOne (knows_berth plan b) way_text rest) (one_berth plan b (a ∷ w ∷ rest))
+one_berth_is : (plan : PlanFields) (b : ℕ) (a w : List ℕ) (rest : List (List ℕ))
+    → OfOk (TellsOne (knows_berth plan b) way_text rest) (one_berth plan b (a ∷ w ∷ rest))
 unfolding one_berth
 one_berth_is plan b a w rest =
-    one_told (knows_berth plan b) way_text a w rest (λ word. fixed (way_named word) >>= (λ way. with_berth plan b way)) (λ word.
-    bind_keeps (λ way. word ≡ way_text way) (Tells (knows_berth plan b) way_text word) (fixed (way_named word)) _ (fixed_is _ (way_named word) (way_is word)) (λ way e. with_berth_is plan b word way e))
+    one_told (knows_berth plan b) way_text a w rest (λ word. fixed (way_named word) >>= (λ way. with_berth plan b way))
+    (λ word.
+    bind_keeps (λ way. word ≡ way_text way) (Tells (knows_berth plan b) way_text word) (fixed (way_named word)) _
+    (fixed_is _ (way_named word) (way_is word)) (λ way e. with_berth_is plan b word way e))
 
-one_lever_is : (plan : PlanFields) (b : ℕ) (a w : List ℕ) (rest : List (List ℕ)) → OfOk (TellsOne (knows_lever plan b) decimal rest) (one_lever plan b (a ∷ w ∷ rest))
+one_lever_is : (plan : PlanFields) (b : ℕ) (a w : List ℕ) (rest : List (List ℕ))
+    → OfOk (TellsOne (knows_lever plan b) decimal rest) (one_lever plan b (a ∷ w ∷ rest))
 unfolding one_lever
 one_lever_is plan b a w rest = one_told (knows_lever plan b) decimal a w rest (lever_in plan b) (lever_in_is plan b)
 
-one_arm_is : (plan : PlanFields) (b : ℕ) (a w : List ℕ) (rest : List (List ℕ)) → OfOk (TellsOne (knows_arm plan b) decimal rest) (one_arm plan b (a ∷ w ∷ rest))
+one_arm_is : (plan : PlanFields) (b : ℕ) (a w : List ℕ) (rest : List (List ℕ))
+    → OfOk (TellsOne (knows_arm plan b) decimal rest) (one_arm plan b (a ∷ w ∷ rest))
 unfolding one_arm
 one_arm_is plan b a w rest = one_told (knows_arm plan b) decimal a w rest (arm_in plan b) (arm_in_is plan b)
 
-one_train_is : (plan : PlanFields) (b : ℕ) (a w : List ℕ) (rest : List (List ℕ)) → OfOk (TellsOne (knows_train plan b) (train_text plan) rest) (one_train plan b (a ∷ w ∷ rest))
+one_train_is : (plan : PlanFields) (b : ℕ) (a w : List ℕ) (rest : List (List ℕ))
+    → OfOk (TellsOne (knows_train plan b) (train_text plan) rest) (one_train plan b (a ∷ w ∷ rest))
 unfolding one_train
-one_train_is plan b a w rest = one_told (knows_train plan b) (train_text plan) a w rest (train_in plan b) (train_in_is plan b)
+one_train_is plan b a w rest =
+    one_told (knows_train plan b) (train_text plan) a w rest (train_in plan b) (train_in_is plan b)
 
 -- two values are known, and the words are their texts
-record TellsTwo {X : Type 0} {Y : Type 0} (known : Bool) (text : X → List ℕ) (other_text : Y → List ℕ) (rest : List (List ℕ)) (x : X) (y : Y) : Type 0 where
+record TellsTwo {X : Type 0} {Y : Type 0} (known : Bool) (text : X → List ℕ) (other_text : Y → List ℕ)
+    (rest : List (List ℕ)) (x : X) (y : Y) : Type 0 where
   holds : known ≡ true
   words : rest ≡ text x ∷ other_text y ∷ []
 
@@ -217,44 +259,60 @@ both_hold p q e f = rw (e, f) refl
 
 -- a side and a code
 abbrev TellsCode : PlanFields → ℕ → List (List ℕ) → Way × ℕ → Type 0
-TellsCode plan b rest found = TellsTwo (knows_side plan b found.0 && is_code_no plan found.1) way_text (code_no_text plan.codes) rest found.0 found.1
+TellsCode plan b rest found =
+    TellsTwo (knows_side plan b found.0 && is_code_no plan found.1) way_text (code_no_text plan.codes) rest found.0
+    found.1
 
-side_and_code_is : (plan : PlanFields) (b : ℕ) (a w : List ℕ) (rest : List (List ℕ)) → OfOk (TellsCode plan b rest) (side_and_code plan b (a ∷ w ∷ rest))
+side_and_code_is : (plan : PlanFields) (b : ℕ) (a w : List ℕ) (rest : List (List ℕ))
+    → OfOk (TellsCode plan b rest) (side_and_code plan b (a ∷ w ∷ rest))
 unfolding side_and_code
 side_and_code_is plan b a w rest =
-    bind_keeps (λ words. rest ≡ words.0 ∷ words.1 ∷ []) (TellsCode plan b rest) (two_words (a ∷ w ∷ rest)) _ (two_words_are a w rest) (λ words e.
-    bind_keeps (Tells (knows_side plan b) way_text words.0) (TellsCode plan b rest) (side_in plan b words.0) _ (side_in_is plan b words.0) (λ side s.
-    bind_keeps (IsCodeText plan words.1) (TellsCode plan b rest) (code_in plan words.1) _ (code_in_is plan words.1) (λ number n.
+    bind_keeps (λ words. rest ≡ words.0 ∷ words.1 ∷ []) (TellsCode plan b rest) (two_words (a ∷ w ∷ rest)) _
+    (two_words_are a w rest) (λ words e.
+    bind_keeps (Tells (knows_side plan b) way_text words.0) (TellsCode plan b rest) (side_in plan b words.0) _
+    (side_in_is plan b words.0) (λ side s.
+    bind_keeps (IsCodeText plan words.1) (TellsCode plan b rest) (code_in plan words.1) _ (code_in_is plan words.1)
+    (λ number n.
     record { holds = both_hold _ _ s.0 n.0; words = pair_is rest words.0 words.1 _ _ e s.1 n.1 })))
 
 -- a way and a position, by their forms
 abbrev TellsPosition : List (List ℕ) → Way × Position → Type 0
 TellsPosition rest found = TellsTwo true way_text position_text rest found.0 found.1
 
-way_and_position_is : (a w : List ℕ) (rest : List (List ℕ)) → OfOk (TellsPosition rest) (way_and_position (a ∷ w ∷ rest))
+way_and_position_is : (a w : List ℕ) (rest : List (List ℕ))
+    → OfOk (TellsPosition rest) (way_and_position (a ∷ w ∷ rest))
 unfolding way_and_position
 way_and_position_is a w rest =
-    bind_keeps (λ words. rest ≡ words.0 ∷ words.1 ∷ []) (TellsPosition rest) (two_words (a ∷ w ∷ rest)) _ (two_words_are a w rest) (λ words e.
-    bind_keeps (λ way. words.0 ≡ way_text way) (TellsPosition rest) (fixed (way_named words.0)) _ (fixed_is _ (way_named words.0) (way_is words.0)) (λ way f.
-    bind_keeps (λ position. words.1 ≡ position_text position) (TellsPosition rest) (fixed (position_named words.1)) _ (fixed_is _ (position_named words.1) (position_is words.1)) (λ position g.
+    bind_keeps (λ words. rest ≡ words.0 ∷ words.1 ∷ []) (TellsPosition rest) (two_words (a ∷ w ∷ rest)) _
+    (two_words_are a w rest) (λ words e.
+    bind_keeps (λ way. words.0 ≡ way_text way) (TellsPosition rest) (fixed (way_named words.0)) _
+    (fixed_is _ (way_named words.0) (way_is words.0)) (λ way f.
+    bind_keeps (λ position. words.1 ≡ position_text position) (TellsPosition rest) (fixed (position_named words.1)) _
+    (fixed_is _ (position_named words.1) (position_is words.1)) (λ position g.
     record { holds = refl; words = pair_is rest words.0 words.1 _ _ e f g })))
 
 -- and the line is known
 abbrev TellsLine : (Way → Bool) → List (List ℕ) → Way × Position → Type 0
 TellsLine known rest found = TellsTwo (known found.0) way_text position_text rest found.0 found.1
 
-berth_and_position_is : (plan : PlanFields) (b : ℕ) (a w : List ℕ) (rest : List (List ℕ)) → OfOk (TellsLine (knows_berth plan b) rest) (berth_and_position plan b (a ∷ w ∷ rest))
+berth_and_position_is : (plan : PlanFields) (b : ℕ) (a w : List ℕ) (rest : List (List ℕ))
+    → OfOk (TellsLine (knows_berth plan b) rest) (berth_and_position plan b (a ∷ w ∷ rest))
 unfolding berth_and_position
 berth_and_position_is plan b a w rest =
-    bind_keeps (TellsPosition rest) (TellsLine (knows_berth plan b) rest) (way_and_position (a ∷ w ∷ rest)) _ (way_and_position_is a w rest) (λ found t.
-    bind_keeps (Tells (knows_berth plan b) way_text (way_text found.0)) (TellsLine (knows_berth plan b) rest) (with_berth plan b found.0) _ (with_berth_is plan b (way_text found.0) found.0 refl) (λ way k.
+    bind_keeps (TellsPosition rest) (TellsLine (knows_berth plan b) rest) (way_and_position (a ∷ w ∷ rest)) _
+    (way_and_position_is a w rest) (λ found t.
+    bind_keeps (Tells (knows_berth plan b) way_text (way_text found.0)) (TellsLine (knows_berth plan b) rest)
+    (with_berth plan b found.0) _ (with_berth_is plan b (way_text found.0) found.0 refl) (λ way k.
     record { holds = k.0; words = t.words ∙ ap (λ (x : List ℕ). x ∷ position_text found.1 ∷ []) k.1 }))
 
-outgoing_and_position_is : (plan : PlanFields) (b : ℕ) (a w : List ℕ) (rest : List (List ℕ)) → OfOk (TellsLine (knows_outgoing plan b) rest) (outgoing_and_position plan b (a ∷ w ∷ rest))
+outgoing_and_position_is : (plan : PlanFields) (b : ℕ) (a w : List ℕ) (rest : List (List ℕ))
+    → OfOk (TellsLine (knows_outgoing plan b) rest) (outgoing_and_position plan b (a ∷ w ∷ rest))
 unfolding outgoing_and_position
 outgoing_and_position_is plan b a w rest =
-    bind_keeps (TellsPosition rest) (TellsLine (knows_outgoing plan b) rest) (way_and_position (a ∷ w ∷ rest)) _ (way_and_position_is a w rest) (λ found t.
-    if_keeps (TellsLine (knows_outgoing plan b) rest) (knows_outgoing plan b found.0) _ _ (λ k. record { holds = k; words = t.words }) (λ _. tt))
+    bind_keeps (TellsPosition rest) (TellsLine (knows_outgoing plan b) rest) (way_and_position (a ∷ w ∷ rest)) _
+    (way_and_position_is a w rest) (λ found t.
+    if_keeps (TellsLine (knows_outgoing plan b) rest) (knows_outgoing plan b found.0) _ _
+    (λ k. record { holds = k; words = t.words }) (λ _. tt))
 
 -- ---- what is read of the words behind the moment is known, and spelled so
 
@@ -263,106 +321,171 @@ record IsAct (plan : PlanFields) (b : ℕ) (words : List (List ℕ)) (act : Act)
   spelled : words ≡ act_words plan act
 
 -- an act whose call's word is the one for which it is taken
-told : (plan : PlanFields) (b : ℕ) (w word : List ℕ) (rest more : List (List ℕ)) (act : Act) → bytes_eq w word ≡ true → knows_act plan b act ≡ true → rest ≡ more → act_words plan act ≡ word ∷ more → IsAct plan b (w ∷ rest) act
+told : (plan : PlanFields) (b : ℕ) (w word : List ℕ) (rest more : List (List ℕ)) (act : Act) → bytes_eq w word ≡ true
+    → knows_act plan b act ≡ true → rest ≡ more → act_words plan act ≡ word ∷ more → IsAct plan b (w ∷ rest) act
 told plan b w word rest more act e k r s = record {
   known = k;
-  spelled = ap (λ (x : List ℕ). x ∷ rest) ((bytes_eq-Decides w word).0 e) ∙ ap (λ (x : List (List ℕ)). word ∷ x) r ∙ sym s;
+  spelled =
+      ap (λ (x : List ℕ). x ∷ rest) ((bytes_eq-Decides w word).0 e) ∙ ap (λ (x : List (List ℕ)). word ∷ x) r ∙ sym s;
 }
 
 -- an act of one word more
-one_act : {X : Type 0} (plan : PlanFields) (b : ℕ) (w word : List ℕ) (rest : List (List ℕ)) (known : X → Bool) (text : X → List ℕ) (make : X → Act) (r : Result X Cause)
-    → ((x : X) → knows_act plan b (make x) ≡ known x) → ((x : X) → act_words plan (make x) ≡ word ∷ text x ∷ []) → bytes_eq w word ≡ true → OfOk (TellsOne known text rest) r → OfOk (IsAct plan b (w ∷ rest)) (r >>= (λ x. Ok (make x)))
+one_act : {X : Type 0} (plan : PlanFields) (b : ℕ) (w word : List ℕ) (rest : List (List ℕ)) (known : X → Bool)
+    (text : X → List ℕ) (make : X → Act) (r : Result X Cause)
+    → ((x : X) → knows_act plan b (make x) ≡ known x) → ((x : X) → act_words plan (make x) ≡ word ∷ text x ∷ [])
+    → bytes_eq w word ≡ true → OfOk (TellsOne known text rest) r
+    → OfOk (IsAct plan b (w ∷ rest)) (r >>= (λ x. Ok (make x)))
 one_act plan b w word rest known text make r k s e h =
-    bind_keeps (TellsOne known text rest) (IsAct plan b (w ∷ rest)) r (λ x. Ok (make x)) h (λ x t. told plan b w word rest (text x ∷ []) (make x) e (k x ∙ t.0) t.1 (s x))
+    bind_keeps (TellsOne known text rest) (IsAct plan b (w ∷ rest)) r (λ x. Ok (make x)) h
+    (λ x t. told plan b w word rest (text x ∷ []) (make x) e (k x ∙ t.0) t.1 (s x))
 
-line_act_is : (plan : PlanFields) (b : ℕ) (a w : List ℕ) (rest : List (List ℕ)) → OfOk (IsAct plan b (w ∷ rest)) (line_act plan b (a ∷ w ∷ rest) w)
+line_act_is : (plan : PlanFields) (b : ℕ) (a w : List ℕ) (rest : List (List ℕ))
+    → OfOk (IsAct plan b (w ∷ rest)) (line_act plan b (a ∷ w ∷ rest) w)
 unfolding line_act
 line_act_is plan b a w rest =
     let P : Act → Type 0 = IsAct plan b (w ∷ rest) in
-    if_keeps P (bytes_eq w (codes "await_train")) _ _ (λ e. line (codes "await_train") (λ way. acts.AwaitTrain way) (λ way. refl) (λ way. refl) e)
-    (λ _. if_keeps P (bytes_eq w (codes "berth")) _ _ (λ e. line (codes "berth") (λ way. acts.Berth way) (λ way. refl) (λ way. refl) e)
-    (λ _. if_keeps P (bytes_eq w (codes "berth_part")) _ _ (λ e. line (codes "berth_part") (λ way. acts.BerthPart way) (λ way. refl) (λ way. refl) e)
-    (λ _. if_keeps P (bytes_eq w (codes "clear_portion")) _ _ (λ e. line (codes "clear_portion") (λ way. acts.ClearPortion way) (λ way. refl) (λ way. refl) e)
-    (λ _. if_keeps P (bytes_eq w (codes "wind")) _ _ (λ e. line (codes "wind") (λ way. acts.Wind way) (λ way. refl) (λ way. refl) e)
-    (λ _. if_keeps P (bytes_eq w (codes "release")) _ _ (λ e. line (codes "release") (λ way. acts.Release way) (λ way. refl) (λ way. refl) e)
+    if_keeps P (bytes_eq w (codes "await_train")) _ _
+    (λ e. line (codes "await_train") (λ way. acts.AwaitTrain way) (λ way. refl) (λ way. refl) e)
+    (λ _. if_keeps P (bytes_eq w (codes "berth")) _ _
+    (λ e. line (codes "berth") (λ way. acts.Berth way) (λ way. refl) (λ way. refl) e)
+    (λ _. if_keeps P (bytes_eq w (codes "berth_part")) _ _
+    (λ e. line (codes "berth_part") (λ way. acts.BerthPart way) (λ way. refl) (λ way. refl) e)
+    (λ _. if_keeps P (bytes_eq w (codes "clear_portion")) _ _
+    (λ e. line (codes "clear_portion") (λ way. acts.ClearPortion way) (λ way. refl) (λ way. refl) e)
+    (λ _. if_keeps P (bytes_eq w (codes "wind")) _ _
+    (λ e. line (codes "wind") (λ way. acts.Wind way) (λ way. refl) (λ way. refl) e)
+    (λ _. if_keeps P (bytes_eq w (codes "release")) _ _
+    (λ e. line (codes "release") (λ way. acts.Release way) (λ way. refl) (λ way. refl) e)
     (λ _. tt)))))) where
-      line : (word : List ℕ) (make : Way → Act) → ((way : Way) → knows_act plan b (make way) ≡ knows_berth plan b way) → ((way : Way) → act_words plan (make way) ≡ word ∷ way_text way ∷ []) → bytes_eq w word ≡ true
+      line : (word : List ℕ) (make : Way → Act) → ((way : Way) → knows_act plan b (make way) ≡ knows_berth plan b way)
+          → ((way : Way) → act_words plan (make way) ≡ word ∷ way_text way ∷ []) → bytes_eq w word ≡ true
           → OfOk (IsAct plan b (w ∷ rest)) (one_berth plan b (a ∷ w ∷ rest) >>= (λ way. Ok (make way)))
-      line word make k s e = one_act plan b w word rest (knows_berth plan b) way_text make (one_berth plan b (a ∷ w ∷ rest)) k s e (one_berth_is plan b a w rest)
+      line word make k s e =
+          one_act plan b w word rest (knows_berth plan b) way_text make (one_berth plan b (a ∷ w ∷ rest)) k s e
+          (one_berth_is plan b a w rest)
 
-lever_act_is : (plan : PlanFields) (b : ℕ) (a w : List ℕ) (rest : List (List ℕ)) → OfOk (IsAct plan b (w ∷ rest)) (lever_act plan b (a ∷ w ∷ rest) w)
+lever_act_is : (plan : PlanFields) (b : ℕ) (a w : List ℕ) (rest : List (List ℕ))
+    → OfOk (IsAct plan b (w ∷ rest)) (lever_act plan b (a ∷ w ∷ rest) w)
 unfolding lever_act
 lever_act_is plan b a w rest =
     let P : Act → Type 0 = IsAct plan b (w ∷ rest) in
-    if_keeps P (bytes_eq w (codes "pull")) _ _ (λ e. one_act plan b w (codes "pull") rest (knows_lever plan b) decimal (λ n. acts.Pull n) (one_lever plan b (a ∷ w ∷ rest)) (λ n. refl) (λ n. refl) e (one_lever_is plan b a w rest))
-    (λ _. if_keeps P (bytes_eq w (codes "put")) _ _ (λ e. one_act plan b w (codes "put") rest (knows_lever plan b) decimal (λ n. acts.Put n) (one_lever plan b (a ∷ w ∷ rest)) (λ n. refl) (λ n. refl) e (one_lever_is plan b a w rest))
-    (λ _. if_keeps P (bytes_eq w (codes "pass")) _ _ (λ e. one_act plan b w (codes "pass") rest (knows_arm plan b) decimal (λ n. acts.Pass n) (one_arm plan b (a ∷ w ∷ rest)) (λ n. refl) (λ n. refl) e (one_arm_is plan b a w rest))
-    (λ _. if_keeps P (bytes_eq w (codes "overrun")) _ _ (λ e. one_act plan b w (codes "overrun") rest (knows_arm plan b) decimal (λ n. acts.Overrun n) (one_arm plan b (a ∷ w ∷ rest)) (λ n. refl) (λ n. refl) e (one_arm_is plan b a w rest))
-    (λ _. if_keeps P (bytes_eq w (codes "bring")) _ _ (λ e. one_act plan b w (codes "bring") rest (knows_train plan b) (train_text plan) (λ n. acts.Bring n) (one_train plan b (a ∷ w ∷ rest)) (λ n. refl) (λ n. refl) e (one_train_is plan b a w rest))
+    if_keeps P (bytes_eq w (codes "pull")) _ _
+    (λ e. one_act plan b w (codes "pull") rest (knows_lever plan b) decimal (λ n. acts.Pull n)
+    (one_lever plan b (a ∷ w ∷ rest)) (λ n. refl) (λ n. refl) e (one_lever_is plan b a w rest))
+    (λ _. if_keeps P (bytes_eq w (codes "put")) _ _
+    (λ e. one_act plan b w (codes "put") rest (knows_lever plan b) decimal (λ n. acts.Put n)
+    (one_lever plan b (a ∷ w ∷ rest)) (λ n. refl) (λ n. refl) e (one_lever_is plan b a w rest))
+    (λ _. if_keeps P (bytes_eq w (codes "pass")) _ _
+    (λ e. one_act plan b w (codes "pass") rest (knows_arm plan b) decimal (λ n. acts.Pass n)
+    (one_arm plan b (a ∷ w ∷ rest)) (λ n. refl) (λ n. refl) e (one_arm_is plan b a w rest))
+    (λ _. if_keeps P (bytes_eq w (codes "overrun")) _ _
+    (λ e. one_act plan b w (codes "overrun") rest (knows_arm plan b) decimal (λ n. acts.Overrun n)
+    (one_arm plan b (a ∷ w ∷ rest)) (λ n. refl) (λ n. refl) e (one_arm_is plan b a w rest))
+    (λ _. if_keeps P (bytes_eq w (codes "bring")) _ _
+    (λ e. one_act plan b w (codes "bring") rest (knows_train plan b) (train_text plan) (λ n. acts.Bring n)
+    (one_train plan b (a ∷ w ∷ rest)) (λ n. refl) (λ n. refl) e (one_train_is plan b a w rest))
     (λ _. line_act_is plan b a w rest)))))
 
 -- an act of a way and a position
-position_act : (plan : PlanFields) (b : ℕ) (w word : List ℕ) (rest : List (List ℕ)) (known : Way → Bool) (make : Way → Position → Act) (r : Result (Way × Position) Cause)
-    → ((way : Way) (position : Position) → knows_act plan b (make way position) ≡ known way) → ((way : Way) (position : Position) → act_words plan (make way position) ≡ word ∷ way_text way ∷ position_text position ∷ []) → bytes_eq w word ≡ true
+position_act : (plan : PlanFields) (b : ℕ) (w word : List ℕ) (rest : List (List ℕ)) (known : Way → Bool)
+    (make : Way → Position → Act) (r : Result (Way × Position) Cause)
+    → ((way : Way) (position : Position) → knows_act plan b (make way position) ≡ known way)
+    → ((way : Way) (position : Position)
+    → act_words plan (make way position) ≡ word ∷ way_text way ∷ position_text position ∷ []) → bytes_eq w word ≡ true
     → OfOk (TellsLine known rest) r → OfOk (IsAct plan b (w ∷ rest)) (r >>= (λ found. Ok (make found.0 found.1)))
 position_act plan b w word rest known make r k s e h =
-    bind_keeps (TellsLine known rest) (IsAct plan b (w ∷ rest)) r (λ found. Ok (make found.0 found.1)) h (λ found t. told plan b w word rest _ (make found.0 found.1) e (k found.0 found.1 ∙ t.holds) t.words (s found.0 found.1))
+    bind_keeps (TellsLine known rest) (IsAct plan b (w ∷ rest)) r (λ found. Ok (make found.0 found.1)) h
+    (λ found t. told plan b w word rest _ (make found.0 found.1) e (k found.0 found.1 ∙ t.holds) t.words
+    (s found.0 found.1))
 
 -- an act of a side and a code
 code_act : (plan : PlanFields) (b : ℕ) (a w word : List ℕ) (rest : List (List ℕ)) (make : Way → ℕ → Act)
-    → ((side : Way) (code : ℕ) → knows_act plan b (make side code) ≡ knows_side plan b side && is_code_no plan code) → ((side : Way) (code : ℕ) → act_words plan (make side code) ≡ word ∷ way_text side ∷ code_no_text plan.codes code ∷ []) → bytes_eq w word ≡ true
+    → ((side : Way) (code : ℕ) → knows_act plan b (make side code) ≡ knows_side plan b side && is_code_no plan code)
+    → ((side : Way) (code : ℕ)
+    → act_words plan (make side code) ≡ word ∷ way_text side ∷ code_no_text plan.codes code ∷ [])
+    → bytes_eq w word ≡ true
     → OfOk (IsAct plan b (w ∷ rest)) (side_and_code plan b (a ∷ w ∷ rest) >>= (λ found. Ok (make found.0 found.1)))
 code_act plan b a w word rest make k s e =
-    bind_keeps (TellsCode plan b rest) (IsAct plan b (w ∷ rest)) (side_and_code plan b (a ∷ w ∷ rest)) (λ found. Ok (make found.0 found.1)) (side_and_code_is plan b a w rest) (λ found t. told plan b w word rest _ (make found.0 found.1) e (k found.0 found.1 ∙ t.holds) t.words (s found.0 found.1))
+    bind_keeps (TellsCode plan b rest) (IsAct plan b (w ∷ rest)) (side_and_code plan b (a ∷ w ∷ rest))
+    (λ found. Ok (make found.0 found.1)) (side_and_code_is plan b a w rest)
+    (λ found t. told plan b w word rest _ (make found.0 found.1) e (k found.0 found.1 ∙ t.holds) t.words
+    (s found.0 found.1))
 
-bell_act_is : (plan : PlanFields) (b : ℕ) (a w : List ℕ) (rest : List (List ℕ)) → OfOk (IsAct plan b (w ∷ rest)) (bell_act plan b (a ∷ w ∷ rest) w)
+bell_act_is : (plan : PlanFields) (b : ℕ) (a w : List ℕ) (rest : List (List ℕ))
+    → OfOk (IsAct plan b (w ∷ rest)) (bell_act plan b (a ∷ w ∷ rest) w)
 unfolding bell_act
 bell_act_is plan b a w rest =
     let P : Act → Type 0 = IsAct plan b (w ∷ rest) in
-    if_keeps P (bytes_eq w (codes "ring")) _ _ (λ e. code_act plan b a w (codes "ring") rest (λ side code. acts.Ring side code) (λ side code. refl) (λ side code. refl) e)
-    (λ _. if_keeps P (bytes_eq w (codes "hear")) _ _ (λ e. one_act plan b w (codes "hear") rest (knows_side plan b) way_text (λ side. acts.Hear side) (one_side plan b (a ∷ w ∷ rest)) (λ side. refl) (λ side. refl) e (one_side_is plan b a w rest))
-    (λ _. if_keeps P (bytes_eq w (codes "await_bell")) _ _ (λ e. code_act plan b a w (codes "await_bell") rest (λ side code. acts.AwaitBell side code) (λ side code. refl) (λ side code. refl) e)
-    (λ _. if_keeps P (bytes_eq w (codes "turn")) _ _ (λ e. position_act plan b w (codes "turn") rest (knows_berth plan b) (λ way position. acts.Turn way position) (berth_and_position plan b (a ∷ w ∷ rest)) (λ way position. refl) (λ way position. refl) e (berth_and_position_is plan b a w rest))
-    (λ _. if_keeps P (bytes_eq w (codes "await_block")) _ _ (λ e. position_act plan b w (codes "await_block") rest (knows_outgoing plan b) (λ way position. acts.AwaitBlock way position) (outgoing_and_position plan b (a ∷ w ∷ rest)) (λ way position. refl) (λ way position. refl) e (outgoing_and_position_is plan b a w rest))
+    if_keeps P (bytes_eq w (codes "ring")) _ _
+    (λ e. code_act plan b a w (codes "ring") rest (λ side code. acts.Ring side code) (λ side code. refl)
+    (λ side code. refl) e)
+    (λ _. if_keeps P (bytes_eq w (codes "hear")) _ _
+    (λ e. one_act plan b w (codes "hear") rest (knows_side plan b) way_text (λ side. acts.Hear side)
+    (one_side plan b (a ∷ w ∷ rest)) (λ side. refl) (λ side. refl) e (one_side_is plan b a w rest))
+    (λ _. if_keeps P (bytes_eq w (codes "await_bell")) _ _
+    (λ e. code_act plan b a w (codes "await_bell") rest (λ side code. acts.AwaitBell side code) (λ side code. refl)
+    (λ side code. refl) e)
+    (λ _. if_keeps P (bytes_eq w (codes "turn")) _ _
+    (λ e. position_act plan b w (codes "turn") rest (knows_berth plan b) (λ way position. acts.Turn way position)
+    (berth_and_position plan b (a ∷ w ∷ rest)) (λ way position. refl) (λ way position. refl) e
+    (berth_and_position_is plan b a w rest))
+    (λ _. if_keeps P (bytes_eq w (codes "await_block")) _ _
+    (λ e. position_act plan b w (codes "await_block") rest (knows_outgoing plan b)
+    (λ way position. acts.AwaitBlock way position) (outgoing_and_position plan b (a ∷ w ∷ rest))
+    (λ way position. refl) (λ way position. refl) e (outgoing_and_position_is plan b a w rest))
     (λ _. lever_act_is plan b a w rest)))))
 
-act_of_is : (plan : PlanFields) (b : ℕ) (a : List ℕ) (rest : List (List ℕ)) → OfOk (IsAct plan b rest) (act_of plan b (a ∷ rest))
+act_of_is : (plan : PlanFields) (b : ℕ) (a : List ℕ) (rest : List (List ℕ))
+    → OfOk (IsAct plan b rest) (act_of plan b (a ∷ rest))
 unfolding act_of
 act_of_is plan b a [] = tt
 act_of_is plan b a (w ∷ rest) = bell_act_is plan b a w rest
 
 -- ---- known acts are read as they are printed
 
-code_pair_read : (plan : PlanFields) (b : ℕ) (moment word : List ℕ) (side : Way) (code : ℕ) → IsPlan plan → knows_side plan b side && is_code_no plan code ≡ true
+code_pair_read : (plan : PlanFields) (b : ℕ) (moment word : List ℕ) (side : Way) (code : ℕ) → IsPlan plan
+    → knows_side plan b side && is_code_no plan code ≡ true
     → side_and_code plan b (moment ∷ word ∷ way_text side ∷ code_no_text plan.codes code ∷ []) ≡ Ok (side, code)
 unfolding side_and_code
 code_pair_read plan b moment word side code p h =
     let e = both (knows_side plan b side) (is_code_no plan code) h in
     rw (side_read plan b side e.0, code_read plan code p e.1) refl
 
-position_pair_read : (moment word : List ℕ) (way : Way) (position : Position) → way_and_position (moment ∷ word ∷ way_text way ∷ position_text position ∷ []) ≡ Ok (way, position)
+position_pair_read : (moment word : List ℕ) (way : Way) (position : Position)
+    → way_and_position (moment ∷ word ∷ way_text way ∷ position_text position ∷ []) ≡ Ok (way, position)
 unfolding way_and_position
 position_pair_read moment word way position = rw (way_read way, position_read position) refl
 
-berth_pair_read : (plan : PlanFields) (b : ℕ) (moment word : List ℕ) (way : Way) (position : Position) → knows_berth plan b way ≡ true → berth_and_position plan b (moment ∷ word ∷ way_text way ∷ position_text position ∷ []) ≡ Ok (way, position)
+berth_pair_read : (plan : PlanFields) (b : ℕ) (moment word : List ℕ) (way : Way) (position : Position)
+    → knows_berth plan b way ≡ true
+    → berth_and_position plan b (moment ∷ word ∷ way_text way ∷ position_text position ∷ []) ≡ Ok (way, position)
 unfolding berth_and_position
-berth_pair_read plan b moment word way position h = rw (position_pair_read moment word way position, berth_read plan b way h) refl
+berth_pair_read plan b moment word way position h =
+    rw (position_pair_read moment word way position, berth_read plan b way h) refl
 
-outgoing_pair_read : (plan : PlanFields) (b : ℕ) (moment word : List ℕ) (way : Way) (position : Position) → knows_outgoing plan b way ≡ true → outgoing_and_position plan b (moment ∷ word ∷ way_text way ∷ position_text position ∷ []) ≡ Ok (way, position)
+outgoing_pair_read : (plan : PlanFields) (b : ℕ) (moment word : List ℕ) (way : Way) (position : Position)
+    → knows_outgoing plan b way ≡ true
+    → outgoing_and_position plan b (moment ∷ word ∷ way_text way ∷ position_text position ∷ []) ≡ Ok (way, position)
 unfolding outgoing_and_position
 outgoing_pair_read plan b moment word way position h = rw (position_pair_read moment word way position, h) refl
 
-one_berth_read : (plan : PlanFields) (b : ℕ) (moment word : List ℕ) (way : Way) → knows_berth plan b way ≡ true → one_berth plan b (moment ∷ word ∷ way_text way ∷ []) ≡ Ok way
+one_berth_read : (plan : PlanFields) (b : ℕ) (moment word : List ℕ) (way : Way) → knows_berth plan b way ≡ true
+    → one_berth plan b (moment ∷ word ∷ way_text way ∷ []) ≡ Ok way
 unfolding one_berth
 one_berth_read plan b moment word way h = rw (way_read way, berth_read plan b way h) refl
 
-act_read : (plan : PlanFields) (b : ℕ) (moment : List ℕ) (act : Act) → IsPlan plan → b < length plan.boxes → knows_act plan b act ≡ true → act_of plan b (moment ∷ act_words plan act) ≡ Ok act
+act_read : (plan : PlanFields) (b : ℕ) (moment : List ℕ) (act : Act) → IsPlan plan → b < length plan.boxes
+    → knows_act plan b act ≡ true → act_of plan b (moment ∷ act_words plan act) ≡ Ok act
 unfolding act_of bell_act lever_act line_act one_side one_lever one_arm one_train
-act_read plan b moment (acts.Ring side code) p at h = rw (code_pair_read plan b moment (codes "ring") side code p h) refl
+act_read plan b moment (acts.Ring side code) p at h =
+    rw (code_pair_read plan b moment (codes "ring") side code p h) refl
 act_read plan b moment (acts.Hear side) p at h = rw (side_read plan b side h) refl
-act_read plan b moment (acts.AwaitBell side code) p at h = rw (code_pair_read plan b moment (codes "await_bell") side code p h) refl
-act_read plan b moment (acts.Turn way position) p at h = rw (berth_pair_read plan b moment (codes "turn") way position h) refl
-act_read plan b moment (acts.AwaitBlock way position) p at h = rw (outgoing_pair_read plan b moment (codes "await_block") way position h) refl
+act_read plan b moment (acts.AwaitBell side code) p at h =
+    rw (code_pair_read plan b moment (codes "await_bell") side code p h) refl
+act_read plan b moment (acts.Turn way position) p at h =
+    rw (berth_pair_read plan b moment (codes "turn") way position h) refl
+act_read plan b moment (acts.AwaitBlock way position) p at h =
+    rw (outgoing_pair_read plan b moment (codes "await_block") way position h) refl
 act_read plan b moment (acts.Pull lever) p at h = rw (lever_read plan b lever p at h) refl
 act_read plan b moment (acts.Put lever) p at h = rw (lever_read plan b lever p at h) refl
 act_read plan b moment (acts.Bring train) p at h = rw (own_train_read plan b train p h) refl
@@ -371,25 +494,30 @@ act_read plan b moment (acts.Overrun lever) p at h = rw (arm_read plan b lever p
 act_read plan b moment (acts.AwaitTrain way) p at h = rw (one_berth_read plan b moment (codes "await_train") way h) refl
 act_read plan b moment (acts.Berth way) p at h = rw (one_berth_read plan b moment (codes "berth") way h) refl
 act_read plan b moment (acts.BerthPart way) p at h = rw (one_berth_read plan b moment (codes "berth_part") way h) refl
-act_read plan b moment (acts.ClearPortion way) p at h = rw (one_berth_read plan b moment (codes "clear_portion") way h) refl
+act_read plan b moment (acts.ClearPortion way) p at h =
+    rw (one_berth_read plan b moment (codes "clear_portion") way h) refl
 act_read plan b moment (acts.Wind way) p at h = rw (one_berth_read plan b moment (codes "wind") way h) refl
 act_read plan b moment (acts.Release way) p at h = rw (one_berth_read plan b moment (codes "release") way h) refl
 
 -- ---- the words of an act
 
-pair_words : (word other : List ℕ) → is_word word ≡ true → is_word other ≡ true → list_all is_word (word ∷ other ∷ []) ≡ true
+pair_words : (word other : List ℕ) → is_word word ≡ true → is_word other ≡ true
+    → list_all is_word (word ∷ other ∷ []) ≡ true
 pair_words word other e f = rw (e, f) refl
 
-triple_words : (word other last : List ℕ) → is_word word ≡ true → is_word other ≡ true → is_word last ≡ true → list_all is_word (word ∷ other ∷ last ∷ []) ≡ true
+triple_words : (word other last : List ℕ) → is_word word ≡ true → is_word other ≡ true → is_word last ≡ true
+    → list_all is_word (word ∷ other ∷ last ∷ []) ≡ true
 triple_words word other last e f g = rw (e, f, g) refl
 
-lever_word : (plan : PlanFields) (b lever : ℕ) → IsPlan plan → b < length plan.boxes → knows_lever plan b lever ≡ true → (is_word (decimal lever) ≡ true) × (length (decimal lever) ≤ 10)
+lever_word : (plan : PlanFields) (b lever : ℕ) → IsPlan plan → b < length plan.boxes → knows_lever plan b lever ≡ true
+    → (is_word (decimal lever) ≡ true) × (length (decimal lever) ≤ 10)
 lever_word plan b lever p at h =
     let r = lever_from plan b lever p at h in
     let small : lever < 10 ^ 10 = omega (arith, r.high_enough) in
     (decimal_is_word lever small, length-decimal_word lever small)
 
-arm_word : (plan : PlanFields) (b lever : ℕ) → IsPlan plan → b < length plan.boxes → knows_arm plan b lever ≡ true → (is_word (decimal lever) ≡ true) × (length (decimal lever) ≤ 10)
+arm_word : (plan : PlanFields) (b lever : ℕ) → IsPlan plan → b < length plan.boxes → knows_arm plan b lever ≡ true
+    → (is_word (decimal lever) ≡ true) × (length (decimal lever) ≤ 10)
 arm_word plan b lever p at h = lever_word plan b lever p at (both (knows_lever plan b lever) _ h).0
 
 -- the words of an act are words, and few
@@ -397,39 +525,62 @@ record IsShort (words : List (List ℕ)) : Type 0 where
   words_are : list_all is_word words ≡ true
   few : length (join_with_byte 32 words) ≤ 30
 
-short_pair : (word other : List ℕ) → is_word word ≡ true → is_word other ≡ true → length word + length other ≤ 29 → IsShort (word ∷ other ∷ [])
-short_pair word other e f h = record { words_are = pair_words word other e f; few = omega (arith, length-append word (32 ∷ other), h) }
+short_pair : (word other : List ℕ) → is_word word ≡ true → is_word other ≡ true → length word + length other ≤ 29
+    → IsShort (word ∷ other ∷ [])
+short_pair word other e f h =
+    record { words_are = pair_words word other e f; few = omega (arith, length-append word (32 ∷ other), h) }
 
-short_triple : (word other last : List ℕ) → is_word word ≡ true → is_word other ≡ true → is_word last ≡ true → length word + length other + length last ≤ 28 → IsShort (word ∷ other ∷ last ∷ [])
-short_triple word other last e f g h = record { words_are = triple_words word other last e f g; few = omega (arith, length-append word (32 ∷ other ++ 32 ∷ last), length-append other (32 ∷ last), h) }
+short_triple : (word other last : List ℕ) → is_word word ≡ true → is_word other ≡ true → is_word last ≡ true
+    → length word + length other + length last ≤ 28 → IsShort (word ∷ other ∷ last ∷ [])
+short_triple word other last e f g h =
+    record {
+      words_are = triple_words word other last e f g;
+      few =
+          omega (arith, length-append word (32 ∷ other ++ 32 ∷ last), length-append other (32 ∷ last), h);
+    }
 
-short_code : (plan : PlanFields) (b : ℕ) (word : List ℕ) (side : Way) (code : ℕ) → IsPlan plan → is_word word ≡ true → length word ≤ 10 → knows_side plan b side && is_code_no plan code ≡ true → IsShort (word ∷ way_text side ∷ code_no_text plan.codes code ∷ [])
+short_code : (plan : PlanFields) (b : ℕ) (word : List ℕ) (side : Way) (code : ℕ) → IsPlan plan → is_word word ≡ true
+    → length word ≤ 10 → knows_side plan b side && is_code_no plan code ≡ true
+    → IsShort (word ∷ way_text side ∷ code_no_text plan.codes code ∷ [])
 short_code plan b word side code p e few h =
     let known = both (knows_side plan b side) (is_code_no plan code) h in
-    short_triple word (way_text side) (code_no_text plan.codes code) e (way_is_word side) (code_is_word plan code p known.1) (omega (arith, few, length-way side, code_short plan code p known.1))
+    short_triple word (way_text side) (code_no_text plan.codes code) e (way_is_word side)
+    (code_is_word plan code p known.1) (omega (arith, few, length-way side, code_short plan code p known.1))
 
-short_position : (word : List ℕ) (way : Way) (position : Position) → is_word word ≡ true → length word ≤ 11 → IsShort (word ∷ way_text way ∷ position_text position ∷ [])
-short_position word way position e few = short_triple word (way_text way) (position_text position) e (way_is_word way) (position_is_word position) (omega (arith, few, length-way way, length-position position))
+short_position : (word : List ℕ) (way : Way) (position : Position) → is_word word ≡ true → length word ≤ 11
+    → IsShort (word ∷ way_text way ∷ position_text position ∷ [])
+short_position word way position e few =
+    short_triple word (way_text way) (position_text position) e (way_is_word way) (position_is_word position)
+    (omega (arith, few, length-way way, length-position position))
 
 short_way : (word : List ℕ) (way : Way) → is_word word ≡ true → length word ≤ 20 → IsShort (word ∷ way_text way ∷ [])
 short_way word way e few = short_pair word (way_text way) e (way_is_word way) (omega (arith, few, length-way way))
 
-short_number : (word : List ℕ) (lever : ℕ) → is_word word ≡ true → length word ≤ 10 → (is_word (decimal lever) ≡ true) × (length (decimal lever) ≤ 10) → IsShort (word ∷ decimal lever ∷ [])
+short_number : (word : List ℕ) (lever : ℕ) → is_word word ≡ true → length word ≤ 10
+    → (is_word (decimal lever) ≡ true) × (length (decimal lever) ≤ 10) → IsShort (word ∷ decimal lever ∷ [])
 short_number word lever e few h = short_pair word (decimal lever) e h.0 (omega (arith, few, h.1))
 
-act_short : (plan : PlanFields) (b : ℕ) (act : Act) → IsPlan plan → b < length plan.boxes → knows_act plan b act ≡ true → IsShort (act_words plan act)
+act_short : (plan : PlanFields) (b : ℕ) (act : Act) → IsPlan plan → b < length plan.boxes → knows_act plan b act ≡ true
+    → IsShort (act_words plan act)
 act_short plan b (acts.Ring side code) p at h = short_code plan b (codes "ring") side code p refl (omega arith) h
 act_short plan b (acts.Hear side) p at h = short_way (codes "hear") side refl (omega arith)
-act_short plan b (acts.AwaitBell side code) p at h = short_code plan b (codes "await_bell") side code p refl (omega arith) h
+act_short plan b (acts.AwaitBell side code) p at h =
+    short_code plan b (codes "await_bell") side code p refl (omega arith) h
 act_short plan b (acts.Turn way position) p at h = short_position (codes "turn") way position refl (omega arith)
-act_short plan b (acts.AwaitBlock way position) p at h = short_position (codes "await_block") way position refl (omega arith)
-act_short plan b (acts.Pull lever) p at h = short_number (codes "pull") lever refl (omega arith) (lever_word plan b lever p at h)
-act_short plan b (acts.Put lever) p at h = short_number (codes "put") lever refl (omega arith) (lever_word plan b lever p at h)
+act_short plan b (acts.AwaitBlock way position) p at h =
+    short_position (codes "await_block") way position refl (omega arith)
+act_short plan b (acts.Pull lever) p at h =
+    short_number (codes "pull") lever refl (omega arith) (lever_word plan b lever p at h)
+act_short plan b (acts.Put lever) p at h =
+    short_number (codes "put") lever refl (omega arith) (lever_word plan b lever p at h)
 act_short plan b (acts.Bring train) p at h =
     let there = (both (is_train plan.trains train) _ h).0 in
-    short_pair (codes "bring") (train_text plan train) refl (train_is_word plan train p there) (omega (arith, length-name (train_text plan train) (train_is_name plan train p there)))
-act_short plan b (acts.Pass lever) p at h = short_number (codes "pass") lever refl (omega arith) (arm_word plan b lever p at h)
-act_short plan b (acts.Overrun lever) p at h = short_number (codes "overrun") lever refl (omega arith) (arm_word plan b lever p at h)
+    short_pair (codes "bring") (train_text plan train) refl (train_is_word plan train p there)
+    (omega (arith, length-name (train_text plan train) (train_is_name plan train p there)))
+act_short plan b (acts.Pass lever) p at h =
+    short_number (codes "pass") lever refl (omega arith) (arm_word plan b lever p at h)
+act_short plan b (acts.Overrun lever) p at h =
+    short_number (codes "overrun") lever refl (omega arith) (arm_word plan b lever p at h)
 act_short plan b (acts.AwaitTrain way) p at h = short_way (codes "await_train") way refl (omega arith)
 act_short plan b (acts.Berth way) p at h = short_way (codes "berth") way refl (omega arith)
 act_short plan b (acts.BerthPart way) p at h = short_way (codes "berth_part") way refl (omega arith)
@@ -447,7 +598,8 @@ pub record IsKnown (plan : PlanFields) (b : ℕ) (call : Call) : Type 0 where
 pub known_parts : (plan : PlanFields) (b : ℕ) (call : Call) → KnowsCall plan b call → IsKnown plan b call
 unfolding knows_call
 known_parts plan b call h =
-    let e = both (ltb b (length plan.boxes) && ltb call.moment (moments_of plan.version)) (knows_act plan b call.act) h in
+    let e = both (ltb b (length plan.boxes) && ltb call.moment (moments_of plan.version)) (knows_act plan b call.act)
+    h in
     let f = both (ltb b (length plan.boxes)) (ltb call.moment (moments_of plan.version)) e.0 in
     record { box = grind (arith, nat_tests, f.0); day = grind (arith, nat_tests, f.1); act = e.1 }
 
@@ -459,41 +611,53 @@ known_whole plan b call k =
     rw (here, day, k.act) refl
 
 -- the moment of a printed call
-pub moment_read : (plan : PlanFields) (b : ℕ) (call : Call) → KnowsCall plan b call → moment_in plan.version (call_words plan call) ≡ Ok call.moment
+pub moment_read : (plan : PlanFields) (b : ℕ) (call : Call) → KnowsCall plan b call
+    → moment_in plan.version (call_words plan call) ≡ Ok call.moment
 unfolding moment_in
 moment_read plan b call h = rw (printed_moment plan.version call.moment (known_parts plan b call h).day) refl
 
 -- what is done by a printed call
-pub act_of-words : (plan : PlanFields) (b : ℕ) (call : Call) → IsPlan plan → KnowsCall plan b call → act_of plan b (call_words plan call) ≡ Ok call.act
+pub act_of-words : (plan : PlanFields) (b : ℕ) (call : Call) → IsPlan plan → KnowsCall plan b call
+    → act_of plan b (call_words plan call) ≡ Ok call.act
 act_of-words plan b call p h =
     let k = known_parts plan b call h in
     act_read plan b (moment_text plan.version call.moment) call.act p k.box k.act
 
-pub moment_word : (plan : PlanFields) (b : ℕ) (call : Call) → KnowsCall plan b call → IsMomentText (moment_text plan.version call.moment)
-moment_word plan b call h = moment_is_word plan.version call.moment (day_is_short plan.version call.moment (known_parts plan b call h).day)
+pub moment_word : (plan : PlanFields) (b : ℕ) (call : Call) → KnowsCall plan b call
+    → IsMomentText (moment_text plan.version call.moment)
+moment_word plan b call h =
+    moment_is_word plan.version call.moment (day_is_short plan.version call.moment (known_parts plan b call h).day)
 
 -- the words of a call are words
-pub call_words_are : (plan : PlanFields) (b : ℕ) (call : Call) → IsPlan plan → KnowsCall plan b call → list_all is_word (call_words plan call) ≡ true
+pub call_words_are : (plan : PlanFields) (b : ℕ) (call : Call) → IsPlan plan → KnowsCall plan b call
+    → list_all is_word (call_words plan call) ≡ true
 call_words_are plan b call p h =
     let k = known_parts plan b call h in
     rw ((moment_word plan b call h).word, (act_short plan b call.act p k.box k.act).words_are) refl
 
-pub words_of-call : (plan : PlanFields) (b : ℕ) (call : Call) → IsPlan plan → KnowsCall plan b call → words_of (call_text plan call) ≡ call_words plan call
+pub words_of-call : (plan : PlanFields) (b : ℕ) (call : Call) → IsPlan plan → KnowsCall plan b call
+    → words_of (call_text plan call) ≡ call_words plan call
 unfolding call_text
-words_of-call plan b call p h = words_of-words (moment_text plan.version call.moment) (act_words plan call.act) (call_words_are plan b call p h)
+words_of-call plan b call p h =
+    words_of-words (moment_text plan.version call.moment) (act_words plan call.act) (call_words_are plan b call p h)
 
 -- a call that the plan knows is read as it is printed
-pub printed_call : (plan : PlanFields) (b : ℕ) (call : Call) → IsPlan plan → KnowsCall plan b call → call_of plan b (call_text plan call) ≡ Ok call
+pub printed_call : (plan : PlanFields) (b : ℕ) (call : Call) → IsPlan plan → KnowsCall plan b call
+    → call_of plan b (call_text plan call) ≡ Ok call
 unfolding call_of call_in
-printed_call plan b call p h = rw (words_of-call plan b call p h, moment_read plan b call h, act_of-words plan b call p h) refl
+printed_call plan b call p h =
+    rw (words_of-call plan b call p h, moment_read plan b call h, act_of-words plan b call p h) refl
 
 -- ---- each call has one spelling
 
-timed_is : (version : ℕ) (word : List ℕ) (o : Option ℕ) → moment_of version word ≡ o → OfOk (λ moment. (word ≡ moment_text version moment) × (moment < moments_of version)) (timed o)
+timed_is : (version : ℕ) (word : List ℕ) (o : Option ℕ) → moment_of version word ≡ o
+    → OfOk (λ moment. (word ≡ moment_text version moment) × (moment < moments_of version)) (timed o)
 timed_is version word None e = tt
 timed_is version word (Some moment) e = spelled_moment version word moment e
 
-pub moment_in_is : (version : ℕ) (words : List (List ℕ)) → OfOk (λ moment. (keyword words ≡ moment_text version moment) × (moment < moments_of version)) (moment_in version words)
+pub moment_in_is : (version : ℕ) (words : List (List ℕ))
+    → OfOk (λ moment. (keyword words ≡ moment_text version moment) × (moment < moments_of version))
+    (moment_in version words)
 unfolding moment_in
 moment_in_is version words = timed_is version (keyword words) (moment_of version (keyword words)) refl
 
@@ -502,29 +666,38 @@ pub record IsCall (plan : PlanFields) (b : ℕ) (words : List (List ℕ)) (call 
   pub known : KnowsCall plan b call
   pub spelled : words ≡ call_words plan call
 
-pub moment_and_act : (plan : PlanFields) (b : ℕ) (words : List (List ℕ)) (moment : ℕ) → b < length plan.boxes → 0 < length words → keyword words ≡ moment_text plan.version moment → moment < moments_of plan.version → OfOk (λ act. IsCall plan b words (record { moment = moment; act = act })) (act_of plan b words)
+pub moment_and_act : (plan : PlanFields) (b : ℕ) (words : List (List ℕ)) (moment : ℕ) → b < length plan.boxes
+    → 0 < length words → keyword words ≡ moment_text plan.version moment → moment < moments_of plan.version
+    → OfOk (λ act. IsCall plan b words (record { moment = moment; act = act })) (act_of plan b words)
 moment_and_act plan b [] moment at some k day = absurd (omega arith)
 moment_and_act plan b (a ∷ rest) moment at some k day = go (act_of plan b (a ∷ rest)) (act_of_is plan b a rest) where
-  go : (r : Result Act Cause) → OfOk (IsAct plan b rest) r → OfOk (λ act. IsCall plan b (a ∷ rest) (record { moment = moment; act = act })) r
+  go : (r : Result Act Cause) → OfOk (IsAct plan b rest) r
+      → OfOk (λ act. IsCall plan b (a ∷ rest) (record { moment = moment; act = act })) r
   go (Ok act) h = record {
     known = known_whole plan b (record { moment = moment; act = act }) (record { box = at; day = day; act = h.known });
-    spelled = ap (λ (x : List ℕ). x ∷ rest) k ∙ ap (λ (xs : List (List ℕ)). moment_text plan.version moment ∷ xs) h.spelled;
+    spelled =
+        ap (λ (x : List ℕ). x ∷ rest) k ∙ ap (λ (xs : List (List ℕ)). moment_text plan.version moment ∷ xs) h.spelled;
   }
   go (Err cause) h = tt
 
-call_in_is : (plan : PlanFields) (b : ℕ) (words : List (List ℕ)) → b < length plan.boxes → 0 < length words → OfOk (IsCall plan b words) (call_in plan b words)
+call_in_is : (plan : PlanFields) (b : ℕ) (words : List (List ℕ)) → b < length plan.boxes → 0 < length words
+    → OfOk (IsCall plan b words) (call_in plan b words)
 unfolding call_in
 call_in_is plan b words at some =
-    bind_keeps (λ moment. (keyword words ≡ moment_text plan.version moment) × (moment < moments_of plan.version)) (IsCall plan b words) (moment_in plan.version words) _ (moment_in_is plan.version words) (λ moment m.
-    bind_keeps (λ act. IsCall plan b words (record { moment = moment; act = act })) (IsCall plan b words) (act_of plan b words) _ (moment_and_act plan b words moment at some m.0 m.1) (λ act h. h))
+    bind_keeps (λ moment. (keyword words ≡ moment_text plan.version moment) × (moment < moments_of plan.version))
+    (IsCall plan b words) (moment_in plan.version words) _ (moment_in_is plan.version words) (λ moment m.
+    bind_keeps (λ act. IsCall plan b words (record { moment = moment; act = act })) (IsCall plan b words)
+    (act_of plan b words) _ (moment_and_act plan b words moment at some m.0 m.1) (λ act h. h))
 
 -- the text of the words of a call
-pub call_text-words : (plan : PlanFields) (text : List ℕ) (call : Call) → words_of text ≡ call_words plan call → text ≡ call_text plan call
+pub call_text-words : (plan : PlanFields) (text : List ℕ) (call : Call) → words_of text ≡ call_words plan call
+    → text ≡ call_text plan call
 unfolding call_text
 call_text-words plan text call e = sym (joined-words_of text) ∙ ap (join_with_byte 32) e
 
 -- a text that is read as a call is its one spelling
-pub spelled_call : (plan : PlanFields) (b : ℕ) (text : List ℕ) (call : Call) → b < length plan.boxes → call_of plan b text ≡ Ok call → SpellsCall plan b text call
+pub spelled_call : (plan : PlanFields) (b : ℕ) (text : List ℕ) (call : Call) → b < length plan.boxes
+    → call_of plan b text ≡ Ok call → SpellsCall plan b text call
 unfolding call_of
 spelled_call plan b text call at e =
     let is = subst (OfOk (IsCall plan b (words_of text))) e (call_in_is plan b (words_of text) at (some_words text)) in
@@ -535,26 +708,39 @@ spelled_call plan b text call at e =
 abbrev pub IsReading : PlanFields → ℕ → List ℕ → Result Call Cause → Type 0
 IsReading plan b text r = r ≡ call_of plan b text
 
-pub reading_spelled : (plan : PlanFields) (b : ℕ) (text : List ℕ) (r : Result Call Cause) → b < length plan.boxes → IsReading plan b text r → IfOk r (λ call. SpellsCall plan b text call)
+pub reading_spelled : (plan : PlanFields) (b : ℕ) (text : List ℕ) (r : Result Call Cause) → b < length plan.boxes
+    → IsReading plan b text r → IfOk r (λ call. SpellsCall plan b text call)
 reading_spelled plan b text (Ok call) at e = spelled_call plan b text call at (sym e)
 reading_spelled plan b text (Err cause) at e = tt
 
-pub reading_refused : (plan : PlanFields) (b : ℕ) (text : List ℕ) (r : Result Call Cause) → IsPlan plan → b < length plan.boxes → IsReading plan b text r → IsErr r ↔ ((call : Call) → ¬ SpellsCall plan b text call)
-reading_refused plan b text (Ok call) p at e = (λ bad. absurd cc, λ none. absurd (none call (spelled_call plan b text call at (sym e))))
-reading_refused plan b text (Err cause) p at e = (λ _ call spells. not_read call (e ∙ ap (call_of plan b) spells.printed ∙ printed_call plan b call p spells.known), λ _. refl) where
+pub reading_refused : (plan : PlanFields) (b : ℕ) (text : List ℕ) (r : Result Call Cause) → IsPlan plan
+    → b < length plan.boxes → IsReading plan b text r → IsErr r ↔ ((call : Call) → ¬ SpellsCall plan b text call)
+reading_refused plan b text (Ok call) p at e =
+    (λ bad. absurd cc, λ none. absurd (none call (spelled_call plan b text call at (sym e))))
+reading_refused plan b text (Err cause) p at e = (
+  λ _ call spells. not_read call (e ∙ ap (call_of plan b) spells.printed ∙ printed_call plan b call p spells.known),
+  λ _. refl,
+) where
   not_read : (call : Call) → Err cause ≡ Ok call → ⊥
   not_read call h = cc
 
 -- a printed call is short
-join_next : (word : List ℕ) (words : List (List ℕ)) → length (join_with_byte 32 (word ∷ words)) ≤ length word + 1 + length (join_with_byte 32 words)
+join_next : (word : List ℕ) (words : List (List ℕ))
+    → length (join_with_byte 32 (word ∷ words)) ≤ length word + 1 + length (join_with_byte 32 words)
 join_next word [] = omega arith
 join_next word (next ∷ words) = omega (arith, length-append word (32 ∷ join_with_byte 32 (next ∷ words)))
 
-pub length-call_text : (plan : PlanFields) (b : ℕ) (call : Call) → IsPlan plan → KnowsCall plan b call → length (call_text plan call) ≤ 39
+pub length-call_text : (plan : PlanFields) (b : ℕ) (call : Call) → IsPlan plan → KnowsCall plan b call
+    → length (call_text plan call) ≤ 39
 unfolding call_text
 length-call_text plan b call p h =
     let k = known_parts plan b call h in
-    omega (arith, join_next (moment_text plan.version call.moment) (act_words plan call.act), (moment_word plan b call h).few, (act_short plan b call.act p k.box k.act).few)
+    omega (
+      arith,
+      join_next (moment_text plan.version call.moment) (act_words plan call.act),
+      (moment_word plan b call h).few,
+      (act_short plan b call.act p k.box k.act).few,
+    )
 
 pub ruleset reading_rules = (reading_spelled, reading_refused)
 

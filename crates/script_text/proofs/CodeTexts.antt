@@ -1,5 +1,6 @@
 -- Codes of the code table are read as they are printed, and each has one spelling.
-use Rattle.std.proofs.Common.{◌≡◌, ℕ, ◌-◌, ◌≤◌, Bool, true, false, leb, List, [], ◌∷◌, length, Option, Some, None, Ok, IsTrue, refl, sym, ap, ◌∙◌, arith, codes, bytes_eq}
+use Rattle.std.proofs.Common.{◌≡◌, ℕ, ◌-◌, ◌≤◌, Bool, true, false, leb, List, [], ◌∷◌, length, Option, Some, None, Ok}
+use Rattle.std.proofs.Common.{IsTrue, refl, sym, ap, ◌∙◌, arith, codes, bytes_eq}
 use Rattle.std.specs.List.{list_all}
 use Rattle.std.proofs.lemmas.Bool.Decides.{nat_tests}
 use Rattle.std.proofs.lemmas.Slice.Eq.{bytes_eq-Decides}
@@ -27,7 +28,8 @@ in_table plan number h =
     let e = both (leb 1 number) (leb number (length plan.codes)) h in
     record { low = grind (arith, nat_tests, e.0); high = grind (arith, nat_tests, e.1) }
 
-code_is : (plan : PlanFields) (number : ℕ) → IsPlan plan → is_code_no plan number ≡ true → is_code (code_at plan.codes number) ≡ true
+code_is : (plan : PlanFields) (number : ℕ) → IsPlan plan → is_code_no plan number ≡ true
+    → is_code (code_at plan.codes number) ≡ true
 unfolding code_at
 code_is plan number p h =
     let i = in_table plan number h in
@@ -41,14 +43,18 @@ Reads plan number = code_of (code_no_text plan.codes number) ≡ Some (code_at p
 spelled_code : (plan : PlanFields) (number : ℕ) → IsPlan plan → is_code_no plan number ≡ true → Reads plan number
 spelled_code plan number p h = read_text (code_at plan.codes number) (code_is plan number p h)
 
-own_number : (plan : PlanFields) (number : ℕ) → IsPlan plan → is_code_no plan number ≡ true → code_number plan.codes (code_at plan.codes number) ≡ Some number
-own_number plan number p h = let i = in_table plan number h in code_number-code_at plan.codes number p.classes.table i.low i.high
+own_number : (plan : PlanFields) (number : ℕ) → IsPlan plan → is_code_no plan number ≡ true
+    → code_number plan.codes (code_at plan.codes number) ≡ Some number
+own_number plan number p h = let i =
+    in_table plan number h in code_number-code_at plan.codes number p.classes.table i.low i.high
 
-pub code_read : (plan : PlanFields) (number : ℕ) → IsPlan plan → is_code_no plan number ≡ true → code_in plan (code_no_text plan.codes number) ≡ Ok number
+pub code_read : (plan : PlanFields) (number : ℕ) → IsPlan plan → is_code_no plan number ≡ true
+    → code_in plan (code_no_text plan.codes number) ≡ Ok number
 unfolding code_in
 code_read plan number p h = rw (spelled_code plan number p h, own_number plan number p h) refl
 
-pub code_named-read : (plan : PlanFields) (number : ℕ) → IsPlan plan → is_code_no plan number ≡ true → code_named plan (code_no_text plan.codes number) ≡ Some number
+pub code_named-read : (plan : PlanFields) (number : ℕ) → IsPlan plan → is_code_no plan number ≡ true
+    → code_named plan (code_no_text plan.codes number) ≡ Some number
 code_named-read plan number p h = rw (spelled_code plan number p h, own_number plan number p h) refl
 
 -- ---- as they are spelled
@@ -57,25 +63,30 @@ code_named-read plan number p h = rw (spelled_code plan number p h, own_number p
 abbrev pub IsCodeText : PlanFields → List ℕ → ℕ → Type 0
 IsCodeText plan word number = IsTrue (is_code_no plan number) × (word ≡ code_no_text plan.codes number)
 
-number_is : (plan : PlanFields) (word code : List ℕ) (number : ℕ) → word ≡ code_text code → code_number plan.codes code ≡ Some number → IsCodeText plan word number
+number_is : (plan : PlanFields) (word code : List ℕ) (number : ℕ) → word ≡ code_text code
+    → code_number plan.codes code ≡ Some number → IsCodeText plan word number
 number_is plan word code number s e =
     let n = code_number-is plan.codes code number e in
     let known : is_code_no plan number ≡ true = grind (arith, nat_tests, n.low, n.high) in
     (known, s ∙ ap code_text (sym (code_at-number plan.codes code number e)))
 
-numbered_is : (plan : PlanFields) (word code : List ℕ) (o : Option ℕ) → word ≡ code_text code → code_number plan.codes code ≡ o → OfOk (IsCodeText plan word) (numbered o)
+numbered_is : (plan : PlanFields) (word code : List ℕ) (o : Option ℕ) → word ≡ code_text code
+    → code_number plan.codes code ≡ o → OfOk (IsCodeText plan word) (numbered o)
 numbered_is plan word code None s e = tt
 numbered_is plan word code (Some number) s e = number_is plan word code number s e
 
-coded_is : (plan : PlanFields) (word : List ℕ) (o : Option (List ℕ)) → code_of word ≡ o → OfOk (IsCodeText plan word) (coded plan.codes o)
+coded_is : (plan : PlanFields) (word : List ℕ) (o : Option (List ℕ)) → code_of word ≡ o
+    → OfOk (IsCodeText plan word) (coded plan.codes o)
 coded_is plan word None e = tt
-coded_is plan word (Some code) e = numbered_is plan word code (code_number plan.codes code) (read_spelled word code e).1 refl
+coded_is plan word (Some code) e =
+    numbered_is plan word code (code_number plan.codes code) (read_spelled word code e).1 refl
 
 pub code_in_is : (plan : PlanFields) (word : List ℕ) → OfOk (IsCodeText plan word) (code_in plan word)
 unfolding code_in
 code_in_is plan word = coded_is plan word (code_of word) refl
 
-pub code_spelled : (plan : PlanFields) (word : List ℕ) (number : ℕ) → code_named plan word ≡ Some number → IsCodeText plan word number
+pub code_spelled : (plan : PlanFields) (word : List ℕ) (number : ℕ) → code_named plan word ≡ Some number
+    → IsCodeText plan word number
 code_spelled plan word number e = go (code_of word) refl e where
   go : (o : Option (List ℕ)) → code_of word ≡ o → code_found plan.codes o ≡ Some number → IsCodeText plan word number
   go None is e = absurd cc
@@ -90,26 +101,38 @@ not_empty : (word : List ℕ) → 1 ≤ length word → is_empty_word word ≡ f
 not_empty [] h = absurd (omega arith)
 not_empty (b ∷ bs) h = refl
 
-pub code_is_word : (plan : PlanFields) (number : ℕ) → IsPlan plan → is_code_no plan number ≡ true → is_word (code_no_text plan.codes number) ≡ true
+pub code_is_word : (plan : PlanFields) (number : ℕ) → IsPlan plan → is_code_no plan number ≡ true
+    → is_word (code_no_text plan.codes number) ≡ true
 code_is_word plan number p h =
     let code = code_at plan.codes number in
     let is : is_code (code_at plan.codes number) ≡ true = code_is plan number p h in
-    rw (not_empty (code_text code) (text_some code is), list_all-weaker is_code_byte is_word_byte code_byte (code_text code) (text_bytes code is)) refl
+    rw (
+      not_empty (code_text code) (text_some code is),
+      list_all-weaker is_code_byte is_word_byte code_byte (code_text code) (text_bytes code is),
+    ) refl
 
-pub code_short : (plan : PlanFields) (number : ℕ) → IsPlan plan → is_code_no plan number ≡ true → length (code_no_text plan.codes number) ≤ 14
+pub code_short : (plan : PlanFields) (number : ℕ) → IsPlan plan → is_code_no plan number ≡ true
+    → length (code_no_text plan.codes number) ≤ 14
 code_short plan number p h = text_few (code_at plan.codes number) (code_is plan number p h)
 
 -- a word with a byte that no code has is no code
-pub no_code : (plan : PlanFields) (number : ℕ) (word : List ℕ) → IsPlan plan → is_code_no plan number ≡ true → list_all is_code_byte word ≡ false → bytes_eq (code_no_text plan.codes number) word ≡ false
+pub no_code : (plan : PlanFields) (number : ℕ) (word : List ℕ) → IsPlan plan → is_code_no plan number ≡ true
+    → list_all is_code_byte word ≡ false → bytes_eq (code_no_text plan.codes number) word ≡ false
 no_code plan number word p h other = go (bytes_eq (code_no_text plan.codes number) word) refl where
   go : (same : Bool) → bytes_eq (code_no_text plan.codes number) word ≡ same → same ≡ false
   go false e = refl
   go true e =
       let is : code_no_text plan.codes number ≡ word = (bytes_eq-Decides (code_no_text plan.codes number) word).0 e in
-      let bytes : list_all is_code_byte word ≡ true = ap (list_all is_code_byte) (sym is) ∙ text_bytes (code_at plan.codes number) (code_is plan number p h) in
+      let bytes : list_all is_code_byte word ≡ true =
+      ap (list_all is_code_byte) (sym is) ∙ text_bytes (code_at plan.codes number) (code_is plan number p h) in
       absurd cc
 
 -- a code's text names no position
-pub code_is_no_position : (plan : PlanFields) (number : ℕ) → IsPlan plan → is_code_no plan number ≡ true → position_named (code_no_text plan.codes number) ≡ None
+pub code_is_no_position : (plan : PlanFields) (number : ℕ) → IsPlan plan → is_code_no plan number ≡ true
+    → position_named (code_no_text plan.codes number) ≡ None
 code_is_no_position plan number p h =
-    rw (no_code plan number (codes "normal") p h refl, no_code plan number (codes "line_clear") p h refl, no_code plan number (codes "train_on_line") p h refl) refl
+    rw (
+      no_code plan number (codes "normal") p h refl,
+      no_code plan number (codes "line_clear") p h refl,
+      no_code plan number (codes "train_on_line") p h refl,
+    ) refl

@@ -14,19 +14,25 @@ abbrev pub last_moment : ℕ → List Call → ℕ
 last_moment moment [] = moment
 last_moment moment (call ∷ calls) = last_moment call.moment calls
 
-pub AreCalls-more : (plan : PlanFields) (b moment : ℕ) (calls : List Call) (call : Call) → AreCalls plan b moment calls → KnowsCall plan b call → last_moment moment calls ≤ call.moment → AreCalls plan b moment (calls ++ call ∷ [])
+pub AreCalls-more : (plan : PlanFields) (b moment : ℕ) (calls : List Call) (call : Call) → AreCalls plan b moment calls
+    → KnowsCall plan b call → last_moment moment calls ≤ call.moment → AreCalls plan b moment (calls ++ call ∷ [])
 AreCalls-more plan b moment [] call h known later = (known, later, tt)
-AreCalls-more plan b moment (first ∷ calls) call h known later = (h.0, h.1, AreCalls-more plan b first.moment calls call h.2 known later)
+AreCalls-more plan b moment (first ∷ calls) call h known later =
+    (h.0, h.1, AreCalls-more plan b first.moment calls call h.2 known later)
 
-pub last_moment-more : (moment : ℕ) (calls : List Call) (call : Call) → last_moment moment (calls ++ call ∷ []) ≡ call.moment
+pub last_moment-more : (moment : ℕ) (calls : List Call) (call : Call)
+    → last_moment moment (calls ++ call ∷ []) ≡ call.moment
 last_moment-more moment [] call = refl
 last_moment-more moment (first ∷ calls) call = last_moment-more first.moment calls call
 
 -- the plan knows each
-pub AreCalls-known : (plan : PlanFields) (b moment : ℕ) (calls : List Call) → AreCalls plan b moment calls → All (λ call. KnowsCall plan b call) calls
+pub AreCalls-known : (plan : PlanFields) (b moment : ℕ) (calls : List Call) → AreCalls plan b moment calls
+    → All (λ call. KnowsCall plan b call) calls
 AreCalls-known plan b moment [] h = All-nil (λ call. KnowsCall plan b call)
-AreCalls-known plan b moment (call ∷ calls) h = All-cons (λ call. KnowsCall plan b call) call calls h.0 (AreCalls-known plan b call.moment calls h.2)
+AreCalls-known plan b moment (call ∷ calls) h =
+    All-cons (λ call. KnowsCall plan b call) call calls h.0 (AreCalls-known plan b call.moment calls h.2)
 
 -- the calls of a script
-pub script_known : (plan : PlanFields) (b : ℕ) (script : Script) → IsScriptOf plan b script → All (λ call. KnowsCall plan b call) script.calls
+pub script_known : (plan : PlanFields) (b : ℕ) (script : Script) → IsScriptOf plan b script
+    → All (λ call. KnowsCall plan b call) script.calls
 script_known plan b script h = AreCalls-known plan b 0 script.calls h.calls

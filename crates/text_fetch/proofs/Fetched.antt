@@ -11,14 +11,23 @@ use Rattle.text_fetch.specs.Fetches.{IsStopOf}
 abbrev pub LooksAt : {A : Type 0} → ℕ → (List ℕ → Result A Fault) → Type 0
 LooksAt most read = (bytes : List ℕ) → read (take (most + 1) bytes) ≡ read bytes
 
-pub fetched_given : {A : Type 0} (n most : ℕ) (read : List ℕ → Result A Fault) (o : Option (List ℕ)) (items : List ℕ) (x : A) → LooksAt most read → IfSome o (λ all. items ≡ take (most + 1) all) → read items ≡ Ok x → IsGiven x (text_told n read o)
+pub fetched_given : {A : Type 0} (n most : ℕ) (read : List ℕ → Result A Fault) (o : Option (List ℕ)) (items : List ℕ)
+    (x : A) → LooksAt most read → IfSome o (λ all. items ≡ take (most + 1) all) → read items ≡ Ok x
+    → IsGiven x (text_told n read o)
 fetched_given n most read None items x looks told e = tt
-fetched_given n most read (Some all) items x looks told e = let same : read all ≡ Ok x = sym (looks all) ∙ ap read (sym told) ∙ e in rw same refl
+fetched_given n most read (Some all) items x looks told e = let same : read all ≡ Ok x =
+    sym (looks all) ∙ ap read (sym told) ∙ e in rw same refl
 
-pub fetched_refused : {A : Type 0} (n most : ℕ) (read : List ℕ → Result A Fault) (o : Option (List ℕ)) (items : List ℕ) (fault : Fault) → LooksAt most read → IfSome o (λ all. items ≡ take (most + 1) all) → read items ≡ Err fault → IsRefused n fault (text_told n read o)
+pub fetched_refused : {A : Type 0} (n most : ℕ) (read : List ℕ → Result A Fault) (o : Option (List ℕ)) (items : List ℕ)
+    (fault : Fault) → LooksAt most read → IfSome o (λ all. items ≡ take (most + 1) all) → read items ≡ Err fault
+    → IsRefused n fault (text_told n read o)
 fetched_refused n most read None items fault looks told e = tt
-fetched_refused n most read (Some all) items fault looks told e = let same : read all ≡ Err fault = sym (looks all) ∙ ap read (sym told) ∙ e in rw same (refl, refl)
+fetched_refused n most read (Some all) items fault looks told e = let same : read all ≡ Err fault =
+    sym (looks all) ∙ ap read (sym told) ∙ e in rw same (refl, refl)
 
-pub fetched_stops : {A : Type 0} (n most : ℕ) (read : List ℕ → Result A Fault) (o : Option (List ℕ)) (items : List ℕ) (error : ReadError) (stop : Stop) → LooksAt most read → IfSome o (λ all. items ≡ take (most + 1) all) → FailsText error (read items) → IsStopOf n error stop → StopsAt stop (text_told n read o)
-fetched_stops n most read o items (errors.Refused line cause) stop looks told e is = rw is (fetched_refused n most read o items (record { line = line; cause = cause }) looks told e)
+pub fetched_stops : {A : Type 0} (n most : ℕ) (read : List ℕ → Result A Fault) (o : Option (List ℕ)) (items : List ℕ)
+    (error : ReadError) (stop : Stop) → LooksAt most read → IfSome o (λ all. items ≡ take (most + 1) all)
+    → FailsText error (read items) → IsStopOf n error stop → StopsAt stop (text_told n read o)
+fetched_stops n most read o items (errors.Refused line cause) stop looks told e is =
+    rw is (fetched_refused n most read o items (record { line = line; cause = cause }) looks told e)
 fetched_stops n most read o items errors.NoMemory stop looks told e is = rw is tt

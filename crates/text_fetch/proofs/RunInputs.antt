@@ -1,5 +1,6 @@
 -- The plan, the number of scripts, and the scripts.
-use Rattle.std.proofs.Common.{◌≡◌, ◌≢◌, ℕ, suc, ◌≤◌, List, [], ◌∷◌, length, take, get_or, Err, IsErrOf, refl, subst, arith, inl, inr}
+use Rattle.std.proofs.Common.{◌≡◌, ◌≢◌, ℕ, suc, ◌≤◌, List, [], ◌∷◌, length, take, get_or, Err, IsErrOf, refl, subst}
+use Rattle.std.proofs.Common.{arith, inl, inr}
 use Rattle.std.proofs.lemmas.Bool.Decides.{eqb_tells}
 use Rattle.rail_text.specs.Causes.{Rose}
 use Rattle.rail_text.specs.declared.cause.Cause.TheVariants as causes
@@ -9,7 +10,8 @@ use Rattle.script_text.specs.declared.script.Script.{Script}
 use Rattle.text_fetch.specs.declared.stop.Stop.{Stop}
 use Rattle.text_fetch.specs.declared.stop.Stop.TheVariants as stops
 use Rattle.text_fetch.specs.Runs.{Run, HasScriptFault, count_told, run_told, run_told_before, scripts_told}
-use Rattle.text_fetch.specs.FromTexts.{HasShelfFault, Held, FromTexts, Untold, Gives, Refuses, told_then, text_told, IsGiven, IsNotRefused, StopsAt}
+use Rattle.text_fetch.specs.FromTexts.{HasShelfFault, Held, FromTexts, Untold, Gives, Refuses, told_then, text_told}
+use Rattle.text_fetch.specs.FromTexts.{IsGiven, IsNotRefused, StopsAt}
 use Rattle.text_fetch.proofs.Gathering.{given_then, stops_then, stops_first, free_then}
 
 counted_right : (plan : PlanFields) (n : ℕ) → n ≡ length plan.boxes → IsGiven tt (count_told plan n)
@@ -18,7 +20,8 @@ counted_right plan n e = elim (eqb_tells n (length plan.boxes)) [
   | inr differ ↦ absurd (differ.1 e)
 ]
 
-counted_wrong : (plan : PlanFields) (n : ℕ) → n ≢ length plan.boxes → StopsAt (stops.Refused 1 0 causes.ScriptCount) (count_told plan n)
+counted_wrong : (plan : PlanFields) (n : ℕ) → n ≢ length plan.boxes
+    → StopsAt (stops.Refused 1 0 causes.ScriptCount) (count_told plan n)
 counted_wrong plan n e = elim (eqb_tells n (length plan.boxes)) [
   | inl same ↦ absurd (e same.1)
   | inr differ ↦ rw differ.0 (refl, refl)
@@ -26,18 +29,26 @@ counted_wrong plan n e = elim (eqb_tells n (length plan.boxes)) [
 
 -- ---- what is told of the inputs
 
-pub inputs_given : (held other : Held) (plan_name : List ℕ) (names : List (List ℕ)) (plan : PlanFields) (scripts : List Script) → other ≡ held → IsGiven plan (text_told 1 plan_of (held plan_name)) → length names ≡ length plan.boxes
-    → IsGiven scripts (scripts_told other plan [] names) → IsGiven (record { plan = plan; scripts = scripts }) (run_told held plan_name names)
+pub inputs_given : (held other : Held) (plan_name : List ℕ) (names : List (List ℕ)) (plan : PlanFields)
+    (scripts : List Script) → other ≡ held → IsGiven plan (text_told 1 plan_of (held plan_name))
+    → length names ≡ length plan.boxes
+    → IsGiven scripts (scripts_told other plan [] names)
+    → IsGiven (record { plan = plan; scripts = scripts }) (run_told held plan_name names)
 inputs_given held other plan_name names plan scripts same h count k =
     let run : Run = record { plan = plan; scripts = scripts } in
     let read = subst (λ (x : Held). IsGiven scripts (scripts_told x plan [] names)) same k in
-    given_then plan run (text_told 1 plan_of (held plan_name)) _ h (given_then tt run (count_told plan (length names)) _ (counted_right plan (length names) count) (given_then scripts run (scripts_told held plan [] names) _ read refl))
+    given_then plan run (text_told 1 plan_of (held plan_name)) _ h
+    (given_then tt run (count_told plan (length names)) _ (counted_right plan (length names) count)
+    (given_then scripts run (scripts_told held plan [] names) _ read refl))
 
-pub inputs_stop : (held other : Held) (plan_name : List ℕ) (names : List (List ℕ)) (plan : PlanFields) (stop : Stop) → other ≡ held → IsGiven plan (text_told 1 plan_of (held plan_name)) → length names ≡ length plan.boxes
+pub inputs_stop : (held other : Held) (plan_name : List ℕ) (names : List (List ℕ)) (plan : PlanFields) (stop : Stop)
+    → other ≡ held → IsGiven plan (text_told 1 plan_of (held plan_name)) → length names ≡ length plan.boxes
     → StopsAt stop (scripts_told other plan [] names) → StopsAt stop (run_told held plan_name names)
 inputs_stop held other plan_name names plan stop same h count k =
     let read = subst (λ (x : Held). StopsAt stop (scripts_told x plan [] names)) same k in
-    stops_then plan stop (text_told 1 plan_of (held plan_name)) _ h (stops_then tt stop (count_told plan (length names)) _ (counted_right plan (length names) count) (stops_first stop (scripts_told held plan [] names) _ read))
+    stops_then plan stop (text_told 1 plan_of (held plan_name)) _ h
+    (stops_then tt stop (count_told plan (length names)) _ (counted_right plan (length names) count)
+    (stops_first stop (scripts_told held plan [] names) _ read))
 
 abbrev done : FromTexts (Unit {0})
 done = Gives tt
@@ -50,8 +61,11 @@ free_end (Refuses n fault) h = absurd h
 pub rose_before : (a b n : ℕ) → a ≤ b → Rose b n → Rose a n
 rose_before a b n le h = omega arith
 
-pub inputs_fault : (held other : Held) (before mid now : List ℕ → ℕ) (plan_name : List ℕ) (names : List (List ℕ)) (plan : PlanFields) → other ≡ held → ((n : List ℕ) → before n ≤ mid n)
-    → IsGiven plan (text_told 1 plan_of (held plan_name)) → length names ≡ length plan.boxes → HasScriptFault other mid now plan names → HasShelfFault before now (plan_name ∷ names) (run_told_before held plan_name names)
+pub inputs_fault : (held other : Held) (before mid now : List ℕ → ℕ) (plan_name : List ℕ) (names : List (List ℕ))
+    (plan : PlanFields) → other ≡ held → ((n : List ℕ) → before n ≤ mid n)
+    → IsGiven plan (text_told 1 plan_of (held plan_name)) → length names ≡ length plan.boxes
+    → HasScriptFault other mid now plan names
+    → HasShelfFault before now (plan_name ∷ names) (run_told_before held plan_name names)
 inputs_fault held other before mid now plan_name names plan same later h count fault =
     let name : List ℕ = get_or names fault.place [] in
     let free = subst (λ (x : Held). IsNotRefused (scripts_told x plan [] (take fault.place names))) same fault.free in
@@ -59,15 +73,19 @@ inputs_fault held other before mid now plan_name names plan same later h count f
       place = suc fault.place;
       within = omega (arith, fault.within);
       rose = rose_before (before name) (mid name) (now name) (later name) fault.rose;
-      free = free_then plan (text_told 1 plan_of (held plan_name)) _ h (free_then tt (count_told plan (length names)) _ (counted_right plan (length names) count) (free_end (scripts_told held plan [] (take fault.place names)) free));
+      free = free_then plan (text_told 1 plan_of (held plan_name)) _ h
+          (free_then tt (count_told plan (length names)) _ (counted_right plan (length names) count)
+          (free_end (scripts_told held plan [] (take fault.place names)) free));
     }
 
 -- a wrong number of scripts is refused, where the plan is given
-pub inputs_miscounted : (held : Held) (plan_name : List ℕ) (names : List (List ℕ)) (plan : PlanFields) → IsGiven plan (text_told 1 plan_of (held plan_name)) → length names ≢ length plan.boxes
+pub inputs_miscounted : (held : Held) (plan_name : List ℕ) (names : List (List ℕ)) (plan : PlanFields)
+    → IsGiven plan (text_told 1 plan_of (held plan_name)) → length names ≢ length plan.boxes
     → StopsAt (stops.Refused 1 0 causes.ScriptCount) (run_told held plan_name names)
 inputs_miscounted held plan_name names plan h count =
     let stop : Stop = stops.Refused 1 0 causes.ScriptCount in
-    stops_then plan stop (text_told 1 plan_of (held plan_name)) _ h (stops_first stop (count_told plan (length names)) _ (counted_wrong plan (length names) count))
+    stops_then plan stop (text_told 1 plan_of (held plan_name)) _ h
+    (stops_first stop (count_told plan (length names)) _ (counted_wrong plan (length names) count))
 
 -- the same stop, of another step
 pub same_stop : {A B : Type 0} (stop other : Stop) → IsErrOf {T = A} (Err stop) other → IsErrOf {T = B} (Err stop) other

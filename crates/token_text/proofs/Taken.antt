@@ -13,5 +13,6 @@ pub token_script_of-take : (bytes : List ℕ)
 unfolding token_script_of text_onto
 token_script_of-take bytes =
     ap (λ (r : Result TokenDraftFields Fault). r >>= (λ draft. Ok (script_from draft)))
-    (limited-take most_script_bytes _ (λ bs. lines_onto words_onto (λ draft. has_ended draft.stage) 1 start (lines_of bs))
+    (limited-take most_script_bytes _
+    (λ bs. lines_onto words_onto (λ draft. has_ended draft.stage) 1 start (lines_of bs))
     bytes)

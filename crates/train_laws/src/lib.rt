@@ -2,7 +2,8 @@
 //! and the upgrade from minutes to seconds.
 #![tactic(auto)]
 
-ghost use Rattle.std.specs.Prelude.{◌≡◌, ◌↔◌, ℕ, ◌≤◌, ◌<◌, List, [], ◌∷◌, ◌++◌, Some, None, true, false, Contains, length};
+ghost use Rattle.std.specs.Prelude.{◌≡◌, ◌↔◌, ℕ, ◌≤◌, ◌<◌, List, [], ◌∷◌, ◌++◌, Some, None, true, false, Contains};
+ghost use Rattle.std.specs.Prelude.{length};
 ghost use Rattle.block_words.specs.declared.WelwynState.TheVariants.{Ready};
 ghost use Rattle.line_plan.specs.Plans.{IsPlan, PlanFields};
 ghost use Rattle.line_plan.specs.Sections.{IsSection, limit_of};
@@ -79,9 +80,9 @@ pub fn passage_law()
         → EntersAs plan section k train e → LeavesAs section k other f → train ≡ other }
 {}
 
-/// A law of box `b`'s lever: a train that has passed or overrun its signal has left the arm at danger, and there it stays
-/// until the lever is pulled; and where the lever was reversed, as it always was where the train passed, until the lever
-/// has been put back and pulled again.
+/// A law of box `b`'s lever: a train that has passed or overrun its signal has left the arm at danger, and there it
+/// stays until the lever is pulled; and where the lever was reversed, as it always was where the train passed, until
+/// the lever has been put back and pulled again.
 pub fn arm_law()
     ensures danger { (plan : PlanFields) (es : List Entry) (e : Entry) (b lever : ℕ) → IsPlan plan
         → IsLegal plan (es ++ e ∷ []) → GoesPast b lever e

@@ -7,25 +7,32 @@ use Rattle.train_moves.specs.declared.standing.Standing.{Standing}
 
 -- ---- of two rows of places
 
-at_before : (t : Option ℕ) (place : ℕ) (later more : Option Standing) (there : Standing) → (later ≡ Some there → more ≡ Some there) → standing_at t place later ≡ Some there → standing_at t place more ≡ Some there
+at_before : (t : Option ℕ) (place : ℕ) (later more : Option Standing) (there : Standing)
+    → (later ≡ Some there → more ≡ Some there) → standing_at t place later ≡ Some there
+    → standing_at t place more ≡ Some there
 at_before None place later more there h e = h e
 at_before (Some train) place later more there h e = e
 
 -- what stands in the first row is the first of both
-pub standing_before : (tracks : List (Option ℕ)) (xs ys : List ℕ) (there : Standing) → first_standing tracks xs ≡ Some there → first_standing tracks (xs ++ ys) ≡ Some there
+pub standing_before : (tracks : List (Option ℕ)) (xs ys : List ℕ) (there : Standing)
+    → first_standing tracks xs ≡ Some there → first_standing tracks (xs ++ ys) ≡ Some there
 standing_before tracks [] ys there e = absurd cc
 standing_before tracks (place ∷ xs) ys there e =
-    at_before (occupant_of tracks place) place (first_standing tracks xs) (first_standing tracks (xs ++ ys)) there (standing_before tracks xs ys there) e
+    at_before (occupant_of tracks place) place (first_standing tracks xs) (first_standing tracks (xs ++ ys)) there
+    (standing_before tracks xs ys there) e
 
-at_behind : (t : Option ℕ) (place : ℕ) (later more last : Option Standing) → (later ≡ None → more ≡ last) → standing_at t place later ≡ None → standing_at t place more ≡ last
+at_behind : (t : Option ℕ) (place : ℕ) (later more last : Option Standing) → (later ≡ None → more ≡ last)
+    → standing_at t place later ≡ None → standing_at t place more ≡ last
 at_behind None place later more last h e = h e
 at_behind (Some train) place later more last h e = absurd cc
 
 -- behind an empty row comes what stands in the second
-pub standing_behind : (tracks : List (Option ℕ)) (xs ys : List ℕ) → first_standing tracks xs ≡ None → first_standing tracks (xs ++ ys) ≡ first_standing tracks ys
+pub standing_behind : (tracks : List (Option ℕ)) (xs ys : List ℕ) → first_standing tracks xs ≡ None
+    → first_standing tracks (xs ++ ys) ≡ first_standing tracks ys
 standing_behind tracks [] ys e = refl
 standing_behind tracks (place ∷ xs) ys e =
-    at_behind (occupant_of tracks place) place (first_standing tracks xs) (first_standing tracks (xs ++ ys)) (first_standing tracks ys) (standing_behind tracks xs ys) e
+    at_behind (occupant_of tracks place) place (first_standing tracks xs) (first_standing tracks (xs ++ ys))
+    (first_standing tracks ys) (standing_behind tracks xs ys) e
 
 -- ---- what the first one tells
 
@@ -38,7 +45,8 @@ none_at None place later e = record { here = refl; there = e }
 none_at (Some train) place later e = absurd cc
 
 -- where there is no first one, all places are empty
-pub none_stands : (tracks : List (Option ℕ)) (places : List ℕ) → first_standing tracks places ≡ None → AreEmpty tracks places
+pub none_stands : (tracks : List (Option ℕ)) (places : List ℕ) → first_standing tracks places ≡ None
+    → AreEmpty tracks places
 none_stands tracks [] e = All-nil (λ (p : ℕ). occupant_of tracks p ≡ None)
 none_stands tracks (place ∷ places) e =
     let none = none_at (occupant_of tracks place) place (first_standing tracks places) e in
@@ -47,9 +55,11 @@ none_stands tracks (place ∷ places) e =
 same_standing : (one other : Standing) → Some one ≡ Some other → one ≡ other
 same_standing one other e = cc
 
-stands_at : (t : Option ℕ) (tracks : List (Option ℕ)) (place : ℕ) (places : List ℕ) (there : Standing) → occupant_of tracks place ≡ t
+stands_at : (t : Option ℕ) (tracks : List (Option ℕ)) (place : ℕ) (places : List ℕ) (there : Standing)
+    → occupant_of tracks place ≡ t
     → (first_standing tracks places ≡ Some there → StandsFirst tracks places there.place there.train)
-    → standing_at t place (first_standing tracks places) ≡ Some there → StandsFirst tracks (place ∷ places) there.place there.train
+    → standing_at t place (first_standing tracks places) ≡ Some there
+    → StandsFirst tracks (place ∷ places) there.place there.train
 stands_at None tracks place places there is h e =
     let later = h e in
     record {
@@ -70,7 +80,8 @@ stands_at (Some train) tracks place places there is h e =
     }
 
 -- the first one stands where no place before it has a train
-pub first_stands : (tracks : List (Option ℕ)) (places : List ℕ) (there : Standing) → first_standing tracks places ≡ Some there → StandsFirst tracks places there.place there.train
+pub first_stands : (tracks : List (Option ℕ)) (places : List ℕ) (there : Standing)
+    → first_standing tracks places ≡ Some there → StandsFirst tracks places there.place there.train
 first_stands tracks [] there e = absurd cc
 first_stands tracks (place ∷ places) there e =
     stands_at (occupant_of tracks place) tracks place places there refl (first_stands tracks places there) e

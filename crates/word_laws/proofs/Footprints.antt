@@ -15,7 +15,8 @@ use Rattle.line_law.specs.Law.{step, step_at, pair_of, box_plan_of}
 use Rattle.line_law.specs.SectionFacts.{decided}
 use Rattle.line_law.proofs.Words.{of_way-with, of_way-with_other}
 use Rattle.line_law.specs.Known.{KnowsCall}
-use Rattle.word_laws.specs.Footprint.{Kind, kind_of, kind_at, way_at, SameWord, SameOthers, HaveSameFootprint, EndsAlike, KeepsOthers, decision_at}
+use Rattle.word_laws.specs.Footprint.{Kind, kind_of, kind_at, way_at, SameWord, SameOthers, HaveSameFootprint}
+use Rattle.word_laws.specs.Footprint.{EndsAlike, KeepsOthers, decision_at}
 use Rattle.line_law.proofs.Lines.{has_places}
 
 -- ---- in one pair
@@ -26,7 +27,8 @@ record AreAlike (kind : Kind) (way : Way) (a b : Told PairState) : Type 0 where
   here : a.here ≡ b.here
   word : SameWord kind way a.word b.word
 
-alike : (d : Decision) (way : Way) (p q : PairState) → SameWord (kind_of d) way p q → AreAlike (kind_of d) way (on_pair way d p) (on_pair way d q)
+alike : (d : Decision) (way : Way) (p q : PairState) → SameWord (kind_of d) way p q
+    → AreAlike (kind_of d) way (on_pair way d p) (on_pair way d q)
 alike (Here reply here) way p q same = record { reply = refl; here = refl; word = tt }
 alike (OnBell act) way p q same =
     record {
@@ -53,39 +55,55 @@ others_stay (OnBell act) way p = (of_way-with_other p.bells way _, refl, refl)
 others_stay (OnBlock act) way p = (refl, of_way-with_other p.blocks way _, refl)
 others_stay (OnPlainLine act) way p = (refl, refl, of_way-with_other p.lines way _)
 
-call_alike : (plan : PlanFields) (b : ℕ) (call : Call) (x y : BoxState) (p q : PairState) → x ≡ y → SameWord (kind_of (decided plan b call x)) (way_at plan b call) p q
-    → AreAlike (kind_of (decided plan b call x)) (way_at plan b call) (step_at plan (box_plan_of plan b) call x p) (step_at plan (box_plan_of plan b) call y q)
+call_alike : (plan : PlanFields) (b : ℕ) (call : Call) (x y : BoxState) (p q : PairState) → x ≡ y
+    → SameWord (kind_of (decided plan b call x)) (way_at plan b call) p q
+    → AreAlike (kind_of (decided plan b call x)) (way_at plan b call) (step_at plan (box_plan_of plan b) call x p)
+    (step_at plan (box_plan_of plan b) call y q)
 call_alike plan b call x y p q e same =
-    subst (λ (z : BoxState). AreAlike (kind_of (decided plan b call x)) (way_at plan b call) (step_at plan (box_plan_of plan b) call x p) (step_at plan (box_plan_of plan b) call z q)) e
+    subst (λ (z : BoxState). AreAlike (kind_of (decided plan b call x)) (way_at plan b call)
+    (step_at plan (box_plan_of plan b) call x p) (step_at plan (box_plan_of plan b) call z q)) e
     (alike (decided plan b call x) (way_at plan b call) p q same)
 
 -- ---- along equal pairs
 
-word_along : (kind : Kind) (way : Way) (p q p' q' : PairState) → p' ≡ p → q' ≡ q → SameWord kind way p q → SameWord kind way p' q'
+word_along : (kind : Kind) (way : Way) (p q p' q' : PairState) → p' ≡ p → q' ≡ q → SameWord kind way p q
+    → SameWord kind way p' q'
 word_along kind way p q p' q' e f same =
-    subst (λ (r : PairState). SameWord kind way p' r) (sym f) (subst (λ (r : PairState). SameWord kind way r q) (sym e) same)
+    subst (λ (r : PairState). SameWord kind way p' r) (sym f)
+    (subst (λ (r : PairState). SameWord kind way r q) (sym e) same)
 
 -- ---- in the line
 
-pub ends_alike : (plan : PlanFields) (state other : LineState) (b : ℕ) (call : Call) → IsPlan plan → IsStateOf plan state → IsStateOf plan other → KnowsCall plan b call → HaveSameFootprint plan b call state other → EndsAlike plan b call state other
+pub ends_alike : (plan : PlanFields) (state other : LineState) (b : ℕ) (call : Call) → IsPlan plan
+    → IsStateOf plan state → IsStateOf plan other → KnowsCall plan b call → HaveSameFootprint plan b call state other
+    → EndsAlike plan b call state other
 unfolding step
 ends_alike plan state other b call is h k known same =
     let here = has_places plan state b call is h known in
     let there = has_places plan other b call is k known in
-    let told = call_alike plan b call (box_at state b) (box_at other b) (pair_at state (pair_of plan b call)) (pair_at other (pair_of plan b call)) same.here same.word in
+    let told =
+    call_alike plan b call (box_at state b) (box_at other b) (pair_at state (pair_of plan b call))
+    (pair_at other (pair_of plan b call)) same.here same.word in
     record {
       reply = told.reply;
-      here = get_or-set_same state.boxes b _ no_state here.box ∙ told.here ∙ sym (get_or-set_same other.boxes b _ no_state there.box);
-      word = word_along (kind_at plan state b call) (way_at plan b call) _ _ _ _ (get_or-set_same state.pairs (pair_of plan b call) _ opening_pair here.pair) (get_or-set_same other.pairs (pair_of plan b call) _ opening_pair there.pair) told.word;
+      here = get_or-set_same state.boxes b _ no_state here.box ∙ told.here
+          ∙ sym (get_or-set_same other.boxes b _ no_state there.box);
+      word = word_along (kind_at plan state b call) (way_at plan b call) _ _ _ _
+          (get_or-set_same state.pairs (pair_of plan b call) _ opening_pair here.pair)
+          (get_or-set_same other.pairs (pair_of plan b call) _ opening_pair there.pair) told.word;
     }
 
-pub keeps_others : (plan : PlanFields) (state : LineState) (b : ℕ) (call : Call) → IsPlan plan → IsStateOf plan state → KnowsCall plan b call → KeepsOthers plan b call state
+pub keeps_others : (plan : PlanFields) (state : LineState) (b : ℕ) (call : Call) → IsPlan plan → IsStateOf plan state
+    → KnowsCall plan b call → KeepsOthers plan b call state
 unfolding step
 keeps_others plan state b call is h known =
     let here = has_places plan state b call is h known in
     record {
       boxes = λ other differ. get_or-set_other state.boxes b other _ no_state differ;
       pairs = λ other differ. get_or-set_other state.pairs (pair_of plan b call) other _ opening_pair differ;
-      words = subst (λ (r : PairState). SameOthers (kind_at plan state b call) (way_at plan b call) (pair_at state (pair_of plan b call)) r) (sym (get_or-set_same state.pairs (pair_of plan b call) _ opening_pair here.pair))
+      words = subst
+          (λ (r : PairState). SameOthers (kind_at plan state b call) (way_at plan b call)
+          (pair_at state (pair_of plan b call)) r)
+          (sym (get_or-set_same state.pairs (pair_of plan b call) _ opening_pair here.pair))
           (others_stay (decision_at plan state b call) (way_at plan b call) (pair_at state (pair_of plan b call)));
     }

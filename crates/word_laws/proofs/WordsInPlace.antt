@@ -60,7 +60,9 @@ named_within BlockWord n b p v box pair = pair
 named_within PlainLineWord n b p v box pair = pair
 
 -- the word of a known call is one of the line
-pub word_within : (plan : PlanFields) (e : Entry) → IsPlan plan → KnowsCall plan e.box_no e.call → IsWordOf (length plan.boxes) (word_of plan e)
+pub word_within : (plan : PlanFields) (e : Entry) → IsPlan plan → KnowsCall plan e.box_no e.call
+    → IsWordOf (length plan.boxes) (word_of plan e)
 word_within plan e is known =
     let within = call_within plan e.box_no e.call is known in
-    named_within (kind_told e.reply) (length plan.boxes) e.box_no (pair_of plan e.box_no e.call) (way_of (link_of (box_plan_of plan e.box_no) e.call.act)) within.box within.pair
+    named_within (kind_told e.reply) (length plan.boxes) e.box_no (pair_of plan e.box_no e.call)
+    (way_of (link_of (box_plan_of plan e.box_no) e.call.act)) within.box within.pair

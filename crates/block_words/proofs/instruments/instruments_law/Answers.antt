@@ -1,5 +1,6 @@
 use Rattle.block_words.proofs.Marks.{bit_or-block_word}
-use Rattle.block_words.proofs.Packing.{block_position-block_word, block_spent-block_word, block_turns-block_word, block_word-unpacked}
+use Rattle.block_words.proofs.Packing.{block_position-block_word, block_spent-block_word, block_turns-block_word}
+use Rattle.block_words.proofs.Packing.{block_word-unpacked}
 use Rattle.block_words.proofs.instruments.instruments_law.Goals as goal
 
 pub returns-clause-turns : goal.returns-clause-turns

@@ -5,4 +5,6 @@ use Rattle.bridle_frame.specs.Frames.{first_of}
 use Rattle.bridle_frame.proofs.frame.first_of.Given as goal
 
 abbrev pub invariant-loop-number : goal.invariant-loop-number
-invariant-loop-number l = first_of (stand_of l.ends l.lever AtMid) l.bridles (drop l.number-index l.numbers) ≡ first_of (stand_of l.ends l.lever AtMid) l.bridles l.numbers
+invariant-loop-number l =
+    first_of (stand_of l.ends l.lever AtMid) l.bridles (drop l.number-index l.numbers)
+    ≡ first_of (stand_of l.ends l.lever AtMid) l.bridles l.numbers

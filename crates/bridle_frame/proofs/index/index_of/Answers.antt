@@ -7,6 +7,8 @@ loop-i-preserved c =
     let wide = length-used_by c.loop-i.uses.items c.loop-i.i c.as_slice.result.now in
     record {
       wide = ap length c.in_ok-add_uses.ensures ∙ (wide ∙ c.loop-i.invariant.wide);
-      same = used_by_all-step c.loop-i.uses.items c.add_uses.new.uses.items c.loop-i.i c.args.bridles.now c.index-bridles-i.result c.as_slice.result.now c.loop-i-test.true c.index-bridles-i.is c.as_slice.ensures c.in_ok-add_uses.ensures
+      same = used_by_all-step c.loop-i.uses.items c.add_uses.new.uses.items c.loop-i.i c.args.bridles.now
+          c.index-bridles-i.result c.as_slice.result.now c.loop-i-test.true c.index-bridles-i.is c.as_slice.ensures
+          c.in_ok-add_uses.ensures
           ∙ c.loop-i.invariant.same;
     }

@@ -11,5 +11,6 @@ pub loop-name-preserved : goal.loop-name-preserved
 loop-name-preserved c =
     let rest = drop (c.loop-name.name-index + 1) all_names in
     ap (λ app. fold with_command app rest) c.in_ok-commands.ensures
-    ∙ sym (at_drop_more (fold with_command (app_of c.loop-name.commands)) all_names c.loop-name.name-index names.Run c.loop-name-test.true)
+    ∙ sym (at_drop_more (fold with_command (app_of c.loop-name.commands)) all_names c.loop-name.name-index names.Run
+    c.loop-name-test.true)
     ∙ c.loop-name.invariant

@@ -10,7 +10,9 @@ use Rattle.command_words.proofs.clap_words.matches_of.Goals as goal
 pub unreachable-requires : goal.unreachable-requires
 unreachable-requires c =
     let reads = words_read c.args.words.now c.requires (omega arith) in
-    let passes = c.in-Err.ensures.passes (ap (λ (a : App). takes a (bytes_of c.args.words.now)) c.in_ok-commands.ensures ∙ reads.taken) in
+    let passes =
+    c.in-Err.ensures.passes
+    (ap (λ (a : App). takes a (bytes_of c.args.words.now)) c.in_ok-commands.ensures ∙ reads.taken) in
     c.in_default.not-OutOfMemory (c.kind.ensures ∙ passes)
 
 pub returns-in-Ok : goal.returns-in-Ok

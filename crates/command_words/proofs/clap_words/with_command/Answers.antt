@@ -7,4 +7,5 @@ use Rattle.command_words.proofs.clap_words.with_command.Goals as goal
 pub returns : goal.returns
 returns c =
     IfOk-weaker c.subcommand.result _ _
-    (λ all added. with_added _ _ _ _ _ added c.in_ok-command.ensures.own refl c.in_ok-command.ensures.shape) c.subcommand.ensures
+    (λ all added. with_added _ _ _ _ _ added c.in_ok-command.ensures.own refl c.in_ok-command.ensures.shape)
+    c.subcommand.ensures

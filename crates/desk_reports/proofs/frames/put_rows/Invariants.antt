@@ -3,4 +3,5 @@ use Rattle.desk_reports.specs.Frames.{rows_text}
 use Rattle.desk_reports.proofs.frames.put_rows.Given as goal
 
 abbrev pub invariant-loop-place : goal.invariant-loop-place
-invariant-loop-place l = string_bytes l.out ++ rows_text (l.place + 1) (drop l.place l.rows) ≡ string_bytes l.fn.out ++ rows_text 1 l.rows
+invariant-loop-place l =
+    string_bytes l.out ++ rows_text (l.place + 1) (drop l.place l.rows) ≡ string_bytes l.fn.out ++ rows_text 1 l.rows

@@ -4,4 +4,5 @@ use Rattle.line_runs.proofs.NextBox.{found_from}
 use Rattle.line_runs.proofs.serial.next_box.Given as goal
 
 abbrev pub invariant-loop-box_no : goal.invariant-loop-box_no
-invariant-loop-box_no l = found_from l.plan l.plain.line l.roster l.box_no l.waiting ≡ next_box l.plan l.plain.line l.roster
+invariant-loop-box_no l =
+    found_from l.plan l.plain.line l.roster l.box_no l.waiting ≡ next_box l.plan l.plain.line l.roster

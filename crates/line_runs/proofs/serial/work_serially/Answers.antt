@@ -8,7 +8,9 @@ pub new-requires : goal.new-requires
 new-requires g c = scripts_few c.args.plan.now c.args.scripts.now c.requires
 
 pub worked_entries-requires-clause-left : goal.worked_entries-requires-clause-left
-worked_entries-requires-clause-left g c κs within = rw (c.in_ok-plain.ensures.opening, c.in_ok-roster.ensures) (left_opens c.args.plan.now _ (scripts_are c.args.plan.now c.args.scripts.now c.requires))
+worked_entries-requires-clause-left g c κs within =
+    rw (c.in_ok-plain.ensures.opening, c.in_ok-roster.ensures)
+    (left_opens c.args.plan.now _ (scripts_are c.args.plan.now c.args.scripts.now c.requires))
 
 pub worked_entries-requires-clause-few : goal.worked_entries-requires-clause-few
 worked_entries-requires-clause-few g c κs within =
@@ -17,4 +19,6 @@ worked_entries-requires-clause-few g c κs within =
     rw (c.in_ok-plain.ensures.opening, c.in_ok-roster.ensures) (omega arith)
 
 pub returns : goal.returns
-returns g c = c.from_vec.ensures ∙ c.in_ok-entries.ensures ∙ rw (c.in_ok-plain.ensures.opening, c.in_ok-roster.ensures) (begins c.args.plan.now _)
+returns g c =
+    c.from_vec.ensures ∙ c.in_ok-entries.ensures
+    ∙ rw (c.in_ok-plain.ensures.opening, c.in_ok-roster.ensures) (begins c.args.plan.now _)

@@ -13,5 +13,7 @@ numbered_call-taken-requires-clause-few c =
 
 pub returns-clause-call : goal.returns-clause-call
 returns-clause-call c =
-    takes c.args.scripts.now c.args.made.now c.args.box_no c.index-scripts-box_no.result c.as_slice.result.now c.numbered_call-taken.result.call
-    (record { counts = c.requires.counts; within = c.requires.box_no; calls = c.as_slice.ensures }) c.numbered_call-taken.ensures.call
+    takes c.args.scripts.now c.args.made.now c.args.box_no c.index-scripts-box_no.result c.as_slice.result.now
+    c.numbered_call-taken.result.call
+    (record { counts = c.requires.counts; within = c.requires.box_no; calls = c.as_slice.ensures })
+    c.numbered_call-taken.ensures.call

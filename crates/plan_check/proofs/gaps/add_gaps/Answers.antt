@@ -8,5 +8,6 @@ loop-rear-preserved c =
     let count = c.len-rear-end.ensures in
     let lt = c.loop-rear-test.true in
     let boxes = ap (λ (plan : PlanFields). length plan.boxes) c.plan.view_is in
-    pair_more c.args.plan.now c.loop-rear.rear (length c.args.plan.now.boxes - 1) c.loop-rear.found.items c.add_pair.new.found.items _
+    pair_more c.args.plan.now c.loop-rear.rear (length c.args.plan.now.boxes - 1) c.loop-rear.found.items
+    c.add_pair.new.found.items _
     (omega (arith, count, lt, boxes)) c.in_ok-add_pair.ensures c.loop-rear.invariant

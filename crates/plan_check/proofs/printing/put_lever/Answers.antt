@@ -6,5 +6,7 @@ use Rattle.plan_check.proofs.printing.put_lever.Goals as goal
 
 pub returns : goal.returns
 returns c = on_ok_weaker c.write.result
-    (number_between (string_bytes c.args.out.now) (string_bytes c.put_box.new.out) (string_bytes c.write.new.self) (box_text c.args.plan.now c.args.box_no) (codes " lever ") (decimal c.args.lever) (codes " has no row\n") c.in_ok-put_box.ensures)
+    (number_between (string_bytes c.args.out.now) (string_bytes c.put_box.new.out) (string_bytes c.write.new.self)
+    (box_text c.args.plan.now c.args.box_no) (codes " lever ") (decimal c.args.lever) (codes " has no row\n")
+    c.in_ok-put_box.ensures)
     c.write.ensures.bytes

@@ -4,4 +4,6 @@ use Rattle.plan_text.specs.Printing.{box_lines, printed}
 use Rattle.plan_text.proofs.printing.put_boxes.Given as goal
 
 abbrev pub invariant-loop-box_plan : goal.invariant-loop-box_plan
-invariant-loop-box_plan l = l.out.items ++ printed (flat_map box_lines (drop l.box_plan-index l.boxes)) ≡ l.initial.out.items ++ printed (flat_map box_lines l.boxes)
+invariant-loop-box_plan l =
+    l.out.items ++ printed (flat_map box_lines (drop l.box_plan-index l.boxes))
+    ≡ l.initial.out.items ++ printed (flat_map box_lines l.boxes)

@@ -10,9 +10,12 @@ pub returns : goal.returns
 unfolding plan_lines plan_text
 returns c =
     let plan = c.args.plan.now in
-    whole _ _ _ _ _ _ (head_lines plan) (map (class_line plan.codes) (drop 4 plan.classes)) (flat_map box_lines plan.boxes) (map (train_line plan) plan.trains)
+    whole _ _ _ _ _ _ (head_lines plan) (map (class_line plan.codes) (drop 4 plan.classes))
+    (flat_map box_lines plan.boxes) (map (train_line plan) plan.trains)
     c.in_ok-put_head.ensures
     c.in_ok-put_classes.ensures
-    (subst (λ (boxes : List BoxFields). c.put_boxes.new.out.items ≡ c.put_classes.new.out.items ++ printed (flat_map box_lines boxes)) (c.as_slice.ensures ∙ ap (λ (p : PlanFields). p.boxes) c.plan.view_is) c.in_ok-put_boxes.ensures)
+    (subst (λ (boxes : List BoxFields). c.put_boxes.new.out.items
+    ≡ c.put_classes.new.out.items ++ printed (flat_map box_lines boxes))
+    (c.as_slice.ensures ∙ ap (λ (p : PlanFields). p.boxes) c.plan.view_is) c.in_ok-put_boxes.ensures)
     c.in_ok-put_trains.ensures
     c.in_ok-put_first.ensures

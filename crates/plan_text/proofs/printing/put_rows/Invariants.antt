@@ -3,4 +3,6 @@ use Rattle.plan_text.specs.Printing.{row_line, printed}
 use Rattle.plan_text.proofs.printing.put_rows.Given as goal
 
 abbrev pub invariant-loop-row : goal.invariant-loop-row
-invariant-loop-row l = l.out.items ++ printed (map row_line (drop l.row-index l.rows)) ≡ l.initial.out.items ++ printed (map row_line l.rows)
+invariant-loop-row l =
+    l.out.items ++ printed (map row_line (drop l.row-index l.rows))
+    ≡ l.initial.out.items ++ printed (map row_line l.rows)

@@ -3,4 +3,6 @@ use Rattle.plan_text.specs.Printing.{train_line, printed}
 use Rattle.plan_text.proofs.printing.put_trains.Given as goal
 
 abbrev pub invariant-loop-train : goal.invariant-loop-train
-invariant-loop-train l = l.out.items ++ printed (map (train_line l.plan) (drop l.train-index l.train-items)) ≡ l.initial.out.items ++ printed (map (train_line l.plan) l.plan.trains)
+invariant-loop-train l =
+    l.out.items ++ printed (map (train_line l.plan) (drop l.train-index l.train-items))
+    ≡ l.initial.out.items ++ printed (map (train_line l.plan) l.plan.trains)

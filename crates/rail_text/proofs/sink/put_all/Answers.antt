@@ -9,6 +9,11 @@ pub loop-at-preserved : goal.loop-at-preserved
 loop-at-preserved g c = record {
   within = omega (arith, c.in_ok-n.ensures.bound);
   taken = appended-on _ _ _ c.args.bytes.now c.loop-at.at c.in_ok-n.n c.loop-at.invariant.taken c.in_ok-n.ensures.took;
-  start = λ none. absurd (omega (arith, c.in_ok-n.ensures.some (omega (arith, ap length (rest_is c.args.bytes.now c.loop-at.at), length-drop {A = ℕ}))));
+  start = λ none.
+      absurd (omega (
+        arith,
+        c.in_ok-n.ensures.some
+            (omega (arith, ap length (rest_is c.args.bytes.now c.loop-at.at), length-drop {A = ℕ})),
+      ));
   later = omega (arith, c.loop-at.invariant.later, c.put.ensures.later);
 }

@@ -11,8 +11,10 @@ pub returns-clause-fresh : goal.returns-clause-fresh
 returns-clause-fresh c hit =
     let v = c.args.post.now.seat.me.0 in
     let b = c.args.box_no in
-    subst (λ (w : View). Fresh c.args.plan.now w × (caller_of w.posts ≡ b)) (sym (c.take.ensures.drew (same_number c.take.result b hit))) (
+    subst (λ (w : View). Fresh c.args.plan.now w × (caller_of w.posts ≡ b))
+    (sym (c.take.ensures.drew (same_number c.take.result b hit))) (
       drawn c.args.plan.now v b c.requires.free.0 c.requires.free.1 c.requires.free.2
-          (subst (λ (n : ℕ). b < n) (c.len.ensures ∙ ap (λ (p : PlanFields). length p.boxes) c.plan.view_is) c.if-box_no-len.false),
+          (subst (λ (n : ℕ). b < n) (c.len.ensures ∙ ap (λ (p : PlanFields). length p.boxes) c.plan.view_is)
+          c.if-box_no-len.false),
       refl,
     )

@@ -19,7 +19,8 @@ step-requires-clause-op c =
     let new = c.block_word-new.result in
     subst (λ (p : PlanFields). OpFits p (caller_of v.posts) (turn_call LineClear) (ops.Turn Down new) v) (sym same)
     (fits_clear plan (subst IsPlan same c.args.line.now.is_plan) v c.requires.fresh.0
-    (subst (IsAbsolute plan) (sym c.requires.fresh.1) (c.if-not-is_absolute.ensures refl)) new c.block_word-new.ensures.word)
+    (subst (IsAbsolute plan) (sym c.requires.fresh.1) (c.if-not-is_absolute.ensures refl)) new
+    c.block_word-new.ensures.word)
 
 pub returns-clause-given : goal.returns-clause-given
 returns-clause-given c =
@@ -32,7 +33,8 @@ returns-clause-given c =
     let whose = c.requires.fresh.1 in (
       gives plan (subst IsPlan same c.args.line.now.is_plan) v c.requires.fresh.0
           (subst (IsAbsolute plan) (sym whose) (c.if-not-is_absolute.ensures refl)) met new w
-          (subst (λ (b : ℕ). KnowsCall plan b (turn_call LineClear)) (sym whose) (sym c.knows.ensures ∙ c.if-not-knows.false))
+          (subst (λ (b : ℕ). KnowsCall plan b (turn_call LineClear)) (sym whose)
+          (sym c.knows.ensures ∙ c.if-not-knows.false))
           (subst (λ (p : PlanFields). Tells p (turn_call LineClear) (ops.Turn Down new) true v met w) same
           c.step.ensures.told),
       ap caller_of c.step.ensures.posts ∙ whose,

@@ -15,8 +15,11 @@ returns-clause-standing c =
     let v = c.args.post.now.seat.me.0 in
     let s = c.args.sent in
     let same = c.requires.line.1 in
-    brings plan (subst IsPlan same c.args.line.now.is_plan) v c.args.place s (2 * s) c.step.result c.step.new.self.seat.me.0
+    brings plan (subst IsPlan same c.args.line.now.is_plan) v c.args.place s (2 * s) c.step.result
+    c.step.new.self.seat.me.0
     c.requires.waiting (c.if-not-is_brought_at.ensures refl)
-    (subst (λ (b : ℕ). KnowsCall plan b (bring_call (s + 1))) (sym c.requires.whose) (sym c.knows.ensures ∙ c.if-not-knows.false))
-    (subst (λ (p : PlanFields). Tells p (bring_call (s + 1)) ops.Local true v c.step.result c.step.new.self.seat.me.0) same
+    (subst (λ (b : ℕ). KnowsCall plan b (bring_call (s + 1))) (sym c.requires.whose)
+    (sym c.knows.ensures ∙ c.if-not-knows.false))
+    (subst (λ (p : PlanFields). Tells p (bring_call (s + 1)) ops.Local true v c.step.result c.step.new.self.seat.me.0)
+    same
     c.step.ensures.told)

@@ -18,4 +18,5 @@ returns-clause-knows c =
     berths plan (subst IsPlan same c.args.line.now.is_plan) v c.requires.fresh
     (subst (IsAbsolute plan) (sym c.requires.whose) (c.if-not-is_absolute.ensures refl)) mask c.step.result w
     (subst (λ (b : ℕ). KnowsCall plan b berth_call) (sym c.requires.whose) (sym c.knows.ensures ∙ c.if-not-knows.false))
-    (subst (λ (p : PlanFields). Tells p berth_call (ops.TakeOut Down mask) true v c.step.result w) same c.step.ensures.told)
+    (subst (λ (p : PlanFields). Tells p berth_call (ops.TakeOut Down mask) true v c.step.result w) same
+    c.step.ensures.told)

@@ -7,5 +7,6 @@ abbrev pub invariant-loop-box_no : goal.invariant-loop-box_no
 invariant-loop-box_no l =
     record {
       each : length l.registers.items ≡ l.box_no;
-      opened : (b : ℕ) → b < l.box_no → register_at l.registers.items b ≡ record { box_no = b; entries = []; spare = slice_index l.rooms b };
+      opened : (b : ℕ) → b < l.box_no
+          → register_at l.registers.items b ≡ record { box_no = b; entries = []; spare = slice_index l.rooms b };
     }

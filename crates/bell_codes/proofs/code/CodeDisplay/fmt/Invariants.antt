@@ -5,4 +5,5 @@ use Rattle.bell_codes.proofs.code.CodeDisplay.fmt.Given as goal
 
 abbrev pub invariant-loop-beats : goal.invariant-loop-beats
 invariant-loop-beats g l =
-    IsPlainFormatter l.fn.f → HasWritten g.W.Write.write_str_gives l.fn.f (code_text (get_or l.self 0 0 ∷ take l.beats-index l.rest)) l.f
+    IsPlainFormatter l.fn.f
+    → HasWritten g.W.Write.write_str_gives l.fn.f (code_text (get_or l.self 0 0 ∷ take l.beats-index l.rest)) l.f

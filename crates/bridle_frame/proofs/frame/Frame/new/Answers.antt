@@ -8,4 +8,5 @@ invariant_of-result c =
     let normal : c.in_ok-ends.ends.items ≡ replicate c.args.levers NormalEnd = search rules in
     let made = c.in_ok-uses.ensures in
     let h = c.as_slice.ensures.value in
-    new_frame c.args.levers c.args.bridles.items c.in_ok-ends.ends.items c.in_ok-uses.uses.items normal (search rules) c.requires.few c.requires.fits c.requires.seated
+    new_frame c.args.levers c.args.bridles.items c.in_ok-ends.ends.items c.in_ok-uses.uses.items normal (search rules)
+    c.requires.few c.requires.fits c.requires.seated

@@ -7,6 +7,8 @@ use Rattle.bridle_frame.proofs.frame.Frame.shift.Goals as goal
 
 pub invariant_of-self : goal.invariant_of-self
 invariant_of-self c =
-    moved_frame c.self.inside.ends.items c.self.inside.bridles.items c.self.inside.uses.items c.args.lever c.other-other.result c.self.invariant
+    moved_frame c.self.inside.ends.items c.self.inside.bridles.items c.self.inside.uses.items c.args.lever
+    c.other-other.result c.self.invariant
     (subst (λ (f : FrameState). IsLever (length f.ends) c.args.lever) (sym c.self.view_is) c.requires)
-    (ap (λ (f : FrameState). shift_of f.ends c.args.lever f.bridles) c.self.view_is ∙ (sym c.test-reply.ensures ∙ c.in-Shifted.is))
+    (ap (λ (f : FrameState). shift_of f.ends c.args.lever f.bridles) c.self.view_is
+    ∙ (sym c.test-reply.ensures ∙ c.in-Shifted.is))

@@ -9,4 +9,5 @@ use Rattle.lever_frame.proofs.frame.LeverFrame.bridles.Goals as goal
 pub returns-clause-holds : goal.returns-clause-holds
 returns-clause-holds c =
     subst (λ (f : LeverFrameFields). All (RowHolds (at_ends f.ends)) f.rows) c.self.view_is
-    (rows_hold c.seated_where_row_holds.ensures (at_ends c.self.inside.frame.ends) c.self.inside.frame.bridles c.self.invariant.made c.bridles.ensures.seated)
+    (rows_hold c.seated_where_row_holds.ensures (at_ends c.self.inside.frame.ends) c.self.inside.frame.bridles
+    c.self.invariant.made c.bridles.ensures.seated)

@@ -8,4 +8,5 @@ use Rattle.line_law.proofs.call.Reply.is.Goals as goal
 pub returns-then-number-clause-one : goal.returns-then-number-clause-one
 returns-then-number-clause-one c =
     let e : c.eq.result ≡ same_reply c.args.self.now c.args.other.now = search rules in
-    subst (λ (b : Bool). IsTrue b ↔ (c.args.self.now ≡ c.args.other.now)) (sym e) (same_reply_is c.args.self.now c.args.other.now)
+    subst (λ (b : Bool). IsTrue b ↔ (c.args.self.now ≡ c.args.other.now)) (sym e)
+    (same_reply_is c.args.self.now c.args.other.now)

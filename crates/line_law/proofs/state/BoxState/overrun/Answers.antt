@@ -4,7 +4,8 @@ use Rattle.line_law.specs.Levers.{starter_way}
 use Rattle.line_law.proofs.state.BoxState.overrun.Goals as goal
 
 pub overrun_signal-requires-clause-room : goal.overrun_signal-requires-clause-room
-overrun_signal-requires-clause-room c = λ way starts. c.requires.room way (ap starter_way (sym c.in-Some.ensures) ∙ starts)
+overrun_signal-requires-clause-room c =
+    λ way starts. c.requires.room way (ap starter_way (sym c.in-Some.ensures) ∙ starts)
 
 pub returns-in-Some : goal.returns-in-Some
 returns-in-Some c =

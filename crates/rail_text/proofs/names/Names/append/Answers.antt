@@ -5,7 +5,9 @@ use Rattle.rail_text.proofs.DistinctNames.{numbered-append}
 use Rattle.rail_text.proofs.names.Names.append.Goals as goal
 
 pub returns-clause-ok : goal.returns-clause-ok
-returns-clause-ok c = names-inserted c.self.inside.set.keys c.insert.new.self.keys c.in_ok-name.name c.args.self.now c.args.name.now c.self.view_is c.in_ok-name.ensures.ok c.requires.absent c.in_ok-insert.ensures.keys
+returns-clause-ok c =
+    names-inserted c.self.inside.set.keys c.insert.new.self.keys c.in_ok-name.name c.args.self.now c.args.name.now
+    c.self.view_is c.in_ok-name.ensures.ok c.requires.absent c.in_ok-insert.ensures.keys
 
 pub invariant_of-self-2 : goal.invariant_of-self-2
 invariant_of-self-2 c =

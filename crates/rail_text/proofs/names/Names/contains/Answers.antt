@@ -3,4 +3,5 @@ use Rattle.rail_text.proofs.NameLemmas.{list_any-names}
 use Rattle.rail_text.proofs.names.Names.contains.Goals as goal
 
 pub returns-clause-there : goal.returns-clause-there
-returns-clause-there c = rw (← c.self.view_is, list_any-names (bytes_eq c.args.name.now) c.self.inside.set.keys) c.contains.ensures
+returns-clause-there c =
+    rw (← c.self.view_is, list_any-names (bytes_eq c.args.name.now) c.self.inside.set.keys) c.contains.ensures

@@ -12,7 +12,8 @@ returns-clause-knows c =
     let w = c.step-met.new.self.seat.me.0 in
     let met = c.step-met.result in
     let same = c.requires.line.1 in
-    hears c.args.plan.now (subst IsPlan same c.args.line.now.is_plan) v hand.rung hand.calls c.requires.knows hand.box_no
+    hears c.args.plan.now (subst IsPlan same c.args.line.now.is_plan) v hand.rung hand.calls c.requires.knows
+    hand.box_no
     met c.args.side w c.requires.whose (c.if-not-may.ensures refl).1
     (subst (λ (p : PlanFields). Tells p (hear_call c.args.side) (ops.Hear c.args.side) true v met w) same
     c.step-met.ensures.told)

@@ -33,7 +33,8 @@ returns-then-bell_code-code-clause-knows c =
     subst (λ (n : ℕ). Knows c.args.plan.now w hand.rung n) counts
     (looks c.args.plan.now (subst IsPlan same c.args.line.now.is_plan) v hand.rung hand.calls c.requires.knows
     c.args.last hand.box_no c.args.code met c.args.side w c.requires.whose (c.if-not-may.ensures refl).1
-    (subst (λ (p : PlanFields). Tells p (await_call c.args.side c.args.code) (ops.LookBell c.args.side) c.args.last v met w)
+    (subst (λ (p : PlanFields). Tells p (await_call c.args.side c.args.code) (ops.LookBell c.args.side) c.args.last v
+    met w)
     same c.step-met.ensures.told))
 
 pub returns-else-last-clause-knows : goal.returns-else-last-clause-knows
@@ -45,12 +46,14 @@ returns-else-last-clause-knows c =
     let same = c.requires.line.1 in
     let counts : after c.args.last (bell_code met == c.args.code) hand.calls ≡ hand.calls =
     elim c.else-last.branch [
-      | else-last-via-then-last+else-bell_code-code w ↦ shown c.args.last (bell_code met) c.args.code hand.calls w.if-last.true
+      | else-last-via-then-last+else-bell_code-code w ↦
+          shown c.args.last (bell_code met) c.args.code hand.calls w.if-last.true
           (sym w.bell_code.ensures.unheard ∙ w.if-bell_code-code.false)
       | else-last-via-else-last w ↦ ap (λ (t : Bool). after t (bell_code met == c.args.code) hand.calls) w.if-last.false
     ] in
     subst (λ (n : ℕ). Knows c.args.plan.now w hand.rung n) counts
     (looks c.args.plan.now (subst IsPlan same c.args.line.now.is_plan) v hand.rung hand.calls c.requires.knows
     c.args.last hand.box_no c.args.code met c.args.side w c.requires.whose (c.if-not-may.ensures refl).1
-    (subst (λ (p : PlanFields). Tells p (await_call c.args.side c.args.code) (ops.LookBell c.args.side) c.args.last v met w)
+    (subst (λ (p : PlanFields). Tells p (await_call c.args.side c.args.code) (ops.LookBell c.args.side) c.args.last v
+    met w)
     same c.step-met.ensures.told))

@@ -17,7 +17,8 @@ returns-clause-knows c =
     let silent = c.bell_word-silent.result in
     let rung = c.bell_word-rung.result in
     subst (λ (r : ℕ). Knows c.args.plan.now w r (hand.calls + 1)) (sym c.rung_after-self.ensures)
-    (rings c.args.plan.now (subst IsPlan same c.args.line.now.is_plan) v hand.rung hand.calls c.requires.knows hand.box_no
+    (rings c.args.plan.now (subst IsPlan same c.args.line.now.is_plan) v hand.rung hand.calls c.requires.knows
+    hand.box_no
     c.args.code silent rung met w c.requires.whose (c.if-not-may.ensures refl).1
     (subst (λ (p : PlanFields). Tells p (ring_call c.args.code) (ops.Ring Down silent rung) true v met w) same
     c.step-met.ensures.told))

@@ -11,4 +11,5 @@ returns-clause-knows c =
     let b = c.args.box_no in
     subst (λ (w : View). Knows c.args.plan.now w 0 0) (sym (c.take-found.ensures.drew c.if-found-box_no.false))
     (fresh c.args.plan.now v b c.requires.free.0 c.requires.free.1 c.requires.free.2
-    (subst (λ (n : ℕ). b < n) (c.len.ensures ∙ ap (λ (p : PlanFields). length p.boxes) c.plan.view_is) c.if-box_no-len.false))
+    (subst (λ (n : ℕ). b < n) (c.len.ensures ∙ ap (λ (p : PlanFields). length p.boxes) c.plan.view_is)
+    c.if-box_no-len.false))
