@@ -42,7 +42,7 @@ fn first_bytes<F: Read>(alloc: Global, file: &mut F, most: usize) -> Result<Vec<
     ensures { IfOk result (λ v. vec_len v ≤ most) }
 {
     let mut bytes = Vec::new(alloc);
-    let mut piece = [0u8; 4096];
+    let mut piece = [0u8; 65_536];
     while bytes.len() < most {
         let want = piece.len().min(most - bytes.len());
         match file.read(&mut piece[..want]) {

@@ -42,30 +42,7 @@ pub found_at : (names : List (List ℕ)) (i : ℕ) → are_new [] names ≡ true
     → position (bytes_eq (get_or names i [])) names ≡ Some i
 found_at names i distinct h = position-distinct names i (get_or names i []) distinct (slice_get-get_or names i [] h)
 
--- a word that isn't formed as a name is none of them
-pub no_name : (names : List (List ℕ)) (word : List ℕ) → list_all is_name names ≡ true → is_name word ≡ false
-    → position (bytes_eq word) names ≡ None
-no_name names word all none = go (position (bytes_eq word) names) refl where
-  go : (o : Option ℕ) → position (bytes_eq word) names ≡ o → o ≡ None
-  go None e = refl
-  go (Some i) e =
-      let f = found_is names word i e in
-      let is : is_name word ≡ true = ap is_name f.1 ∙ valid_at is_name names i all f.0 in
-      absurd cc
-
-pub formed_name : (word name : List ℕ) → name_in word ≡ Ok name → word ≡ name
-formed_name word name e = go (is_name word) e where
-  go : (b : Bool) → cond b (Ok word) (Err causes.BadName) ≡ Ok name → word ≡ name
-  go true e = cc
-  go false e = absurd cc
-
-pub ruleset naming_rules = (no_name, formed_name)
-
 -- ---- places and trains
-
-pub box_named : (plan : PlanFields) (b : ℕ) → IsPlan plan → b < length plan.boxes
-    → list_all is_name (box_at plan.boxes b).places ≡ true
-box_named plan b p h = (p.each b h).named
 
 place_there : (plan : PlanFields) (b place : ℕ) → is_place plan b place ≡ true
     → place < length (box_at plan.boxes b).places

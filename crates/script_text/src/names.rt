@@ -1,10 +1,7 @@
 //! The words that name things of a plan and of its boxes.
 
-ghost use Rattle.std.specs.Prelude.{◌≡◌, ◌<◌, ◌++◌, ◌∷◌, decimal, length, position, bytes_eq, true, string_bytes};
-ghost use Rattle.std.specs.Prelude.{IsTrue, OnOk};
-ghost use Rattle.std.specs.List.{list_all};
+ghost use Rattle.std.specs.Prelude.{◌≡◌, ◌<◌, ◌++◌, ◌∷◌, decimal, length, string_bytes, IsTrue, OnOk};
 ghost use Rattle.bell_codes.specs.Codes.{code_text};
-ghost use Rattle.rail_text.specs.Words.{is_name};
 ghost use Rattle.line_law.specs.Known.{is_code_no};
 ghost use Rattle.line_plan.specs.Plans.{is_train};
 ghost use Rattle.script_text.specs.Names.{code_named, code_no_text, place_named, place_text, position_named};
@@ -15,7 +12,6 @@ use crate::numbers::put_number;
 use bell_codes::{CodeNo, read_code};
 use block_words::{Position, Way};
 use line_plan::Plan;
-use rail_text::{Names, name_in};
 use std::alloc::AllocError;
 
 /// The way that a word names.
@@ -56,33 +52,20 @@ pub fn code_named(plan: &Plan, word: &[u8]) -> Option<CodeNo>
     }
 }
 
-// The number of a name among names.
-#[tactic(auto, using(crate::proofs::Named::naming_rules))]
-fn number_named(names: &Names, word: &[u8]) -> Option<u32>
-    requires { list_all is_name names.now ≡ true }
-    ensures { result ≡ position (bytes_eq word.now) names.now }
-{
-    match name_in(word) {
-        Ok(name) => names.number_of(name),
-        Err(_) => None,
-    }
-}
-
 /// The place of a box with this name.
-#[tactic(auto, using(crate::proofs::Named::box_named))]
 pub fn place_named(plan: &Plan, box_no: u32, word: &[u8]) -> Option<u32>
     requires { box_no < length plan.now.boxes }
     ensures { result ≡ place_named plan.now box_no word.now }
 {
     let here = &plan.boxes.as_slice()[box_no as usize];
-    number_named(&here.places, word)
+    here.places.number_of_word(word)
 }
 
 /// The train with this name. Trains are numbered from 1.
 pub fn train_named(plan: &Plan, word: &[u8]) -> Option<u32>
     ensures { result ≡ train_named plan.now word.now }
 {
-    let number = number_named(&plan.train_names, word)?;
+    let number = plan.train_names.number_of_word(word)?;
     Some(number + 1)
 }
 

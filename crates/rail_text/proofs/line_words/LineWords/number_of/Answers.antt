@@ -1,4 +1,4 @@
-use Rattle.std.proofs.Common.{◌≡◌, ◌∙◌, ℕ, ap, arith, bytes_eq, length, option_map, sym}
+use Rattle.std.proofs.Common.{◌≡◌, ◌∙◌, ap, arith, bytes_eq, length, option_map, sym}
 use Rattle.rail_text.specs.Lines.{words_of}
 use Rattle.rail_text.proofs.WordEnds.{length_of_row, not_there, sought_here, sought_never, sought_on, sought_start}
 use Rattle.rail_text.proofs.line_words.LineWords.number_of.Goals as goal

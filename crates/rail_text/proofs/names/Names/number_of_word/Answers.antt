@@ -1,4 +1,4 @@
-use Rattle.std.proofs.Common.{◌≡◌, ℕ, List, Option, sym, ap, ◌∙◌, bytes_eq, position}
+use Rattle.std.proofs.Common.{ℕ, List, sym, ap, ◌∙◌, bytes_eq, position}
 use Rattle.rail_text.proofs.NameLemmas.{no_text, position-names}
 use Rattle.rail_text.proofs.names.Names.number_of_word.Goals as goal
 
