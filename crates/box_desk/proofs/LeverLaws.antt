@@ -1,5 +1,5 @@
 -- The lever frame answers what the law answers.
-use Rattle.std.proofs.Common.{◌≡◌, ℕ, ◌-◌, List, [], ◌∷◌, Bool, if◌then◌else◌, refl, sym, ap, ◌∙◌}
+use Rattle.std.proofs.Common.{◌≡◌, ℕ, ◌-◌, List, [], ◌∷◌, Bool, true, false, if◌then◌else◌, refl, sym, ap, ◌∙◌}
 use Rattle.std.specs.Prelude.{Option, Some, None, is_some, slice_set}
 use Rattle.locking_table.specs.declared.places.End.{End}
 use Rattle.locking_table.specs.declared.places.End.TheVariants as ends
@@ -14,8 +14,8 @@ use Rattle.track_circuits.specs.Tracks.{occupant_of}
 use Rattle.lever_frame.specs.declared.reply.LeverReply.{LeverReply}
 use Rattle.lever_frame.specs.declared.reply.LeverReply.TheVariants as frame
 use Rattle.lever_frame.specs.LeverFrames.{LeverFrameFields, arm_pulled, lock_answer, moved_by, pull_answer, put_answer}
-use Rattle.lever_frame.specs.LeverFrames.{pulled as frame_pulled, put_back as frame_put_back}
-use Rattle.lever_frame.specs.LeverPlans.{is_spare, lever_plan_of}
+use Rattle.lever_frame.specs.LeverFrames.{lock_reply, pull_reply, pulled as frame_pulled, put_back as frame_put_back}
+use Rattle.lever_frame.specs.LeverPlans.{is_spare, lever_plan_of, plan_at}
 use Rattle.lever_frame.specs.Replies.{place_reply, row_reply, track_reply}
 use Rattle.line_law.specs.declared.call.Reply.{Reply}
 use Rattle.line_law.specs.declared.call.Reply.TheVariants.{AlreadyNormal, AlreadyReversed, Put}
@@ -130,19 +130,65 @@ arm_goes box lever None = refl
 arm_goes box lever (Some signal) = refl
 
 -- a lever that is free is reversed, with its arm
-pub reversed_here : (box_plan : BoxFields) (box : Equipment) (lever : ℕ) (answer : LeverReply)
-    (new : LeverFrameFields)
-    → refusal_of AlreadyReversed answer ≡ None → new ≡ moved_by answer (frame_pulled box.frame lever) box.frame
+pub reversed_here : (box_plan : BoxFields) (box : Equipment) (lever : ℕ) (new : LeverFrameFields)
+    → new ≡ frame_pulled box.frame lever
     → (frame_pulled box.frame lever).off ≡ arm_pulled (lever_plan_of box_plan lever).arm box.frame.off lever
     → here_of (record box { frame = new }) ≡ pulled (here_of box) lever (signal_of box_plan lever)
-reversed_here box_plan box lever answer new none moved arm =
-    ap (λ (f : LeverFrameFields). here_of (record box { frame = f }))
-    (freed AlreadyReversed answer (frame_pulled box.frame lever) box.frame new none moved)
+reversed_here box_plan box lever new moved arm =
+    ap (λ (f : LeverFrameFields). here_of (record box { frame = f })) moved
     ∙ ap (λ (off : List Bool). record (here_of box) {
       ends = slice_set box.frame.ends (lever - 1) ends.Reversed;
       off = off;
     }) arm
     ∙ arm_goes box lever (signal_of box_plan lever)
+
+-- ---- a lever whose pull nothing refuses
+
+free_end : (end : End) (later : LeverReply)
+    → refusal_of AlreadyReversed (if is_reversed (stand_at end) then frame.AlreadyThere else later) ≡ None
+    → (end ≡ ends.Normal) × (refusal_of AlreadyReversed later ≡ None)
+free_end ends.Normal later none = (refl, none)
+free_end ends.Reversed later none = absurd cc
+
+free_plan : (spare : Bool) (later : LeverReply)
+    → refusal_of AlreadyReversed (if spare then frame.Spare else later) ≡ None
+    → (spare ≡ false) × (refusal_of AlreadyReversed later ≡ None)
+free_plan true later none = absurd cc
+free_plan false later none = (refl, none)
+
+free_rows : (holder : Option Holder) (later : LeverReply) → refusal_of AlreadyReversed (row_reply holder later) ≡ None
+    → holder ≡ None
+free_rows None later none = refl
+free_rows (Some holder) later none = absurd cc
+
+-- the lever is normal and not spare, and no row of the table holds it
+pub record IsFree (box_frame : LeverFrameFields) (lever : ℕ) : Type 0 where
+  pub normal : end_at box_frame.ends lever ≡ ends.Normal
+  pub used : (plan_at box_frame.levers lever).spare ≡ false
+  pub rows : holder_of box_frame.ends lever box_frame.rows ≡ None
+
+is_free : (box_frame : LeverFrameFields) (lever : ℕ) (tracks : List (Option ℕ))
+    → refusal_of AlreadyReversed (pull_reply box_frame lever tracks) ≡ None → IsFree box_frame lever
+is_free box_frame lever tracks none =
+    let lock = lock_reply box_frame lever tracks in
+    let spare = (plan_at box_frame.levers lever).spare in
+    let at_end = free_end (end_at box_frame.ends lever) (if spare then frame.Spare else lock) none in
+    let planned = free_plan spare lock at_end.1 in
+    record {
+      normal = at_end.0;
+      used = planned.0;
+      rows = free_rows (holder_of box_frame.ends lever box_frame.rows)
+          (track_reply tracks (plan_at box_frame.levers lever).places) planned.1;
+    }
+
+pub free_here : (box_plan : BoxFields) (box : Equipment) (lever : ℕ)
+    → pull_reply box.frame lever box.tracks
+    ≡ pull_answer (lever_plan_of box_plan lever) box_plan.rows box.frame.ends lever box.tracks
+    → pull_refusal box_plan (here_of box) lever ≡ None → IsFree box.frame lever
+free_here box_plan box lever answer none =
+    is_free box.frame lever box.tracks
+    (ap (λ (reply : LeverReply). refusal_of AlreadyReversed reply) answer
+    ∙ (pull_tells box_plan (here_of box) lever ∙ none))
 
 -- one that is refused stays
 refused : (r : Option Reply) (reply : Reply) (here : BoxState) (rest : Decision) → r ≡ Some reply

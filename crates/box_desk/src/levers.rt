@@ -59,7 +59,7 @@ impl Equipment {
     {
         answer_law();
         frame_law();
-        self.frame.pull_local(lever, &self.tracks);
+        self.frame.reverse(lever);
     }
 
     /// Pulls a lever, where that is decided in the box alone; a starter that nothing in the box holds stays, since its

@@ -3,12 +3,13 @@
 ghost use Rattle.std.specs.Prelude.{◌≡◌, ◌≤◌, ◌==◌, ◌↔◌, All, IsTrue, length, replicate};
 ghost use Rattle.std.specs.List.{list_any};
 ghost use Rattle.locking_table.specs.declared.places.End.TheVariants.{Normal as NormalEnd};
-ghost use Rattle.locking_table.specs.Places.{IsLever, at_ends, stand_of};
+ghost use Rattle.locking_table.specs.declared.places.Stand.TheVariants.{AtMid};
+ghost use Rattle.locking_table.specs.Places.{IsLever, at_ends, stand_at, stand_of};
 ghost use Rattle.bridle_frame.specs.Seated.{BridleFits, DogFits, IsSeated, all_normal, dogs_differ, has_notch};
 ghost use Rattle.bridle_frame.specs.Seated.{holding_lever_in, lies_in, seated};
 
 use crate::dogs::Dogs;
-use locking_table::{End, Stand, stand_of};
+use locking_table::{End, Stand, end_of, stand_of};
 
 /// At which ends of its lever a dog has a notch. There is none at mid.
 #[derive(Clone, Copy, Debug, PartialEq, Eq, Hash)]
@@ -46,6 +47,15 @@ impl Notches {
             Notches::Both => stand == Stand::AtNormal || stand == Stand::AtReversed,
         }
     }
+
+    // Whether there is a notch where a lever stands at that end. Nothing here is a branch.
+    fn has_end(self, end: End) -> bool
+        ensures { result ≡ has_notch self (stand_at end) }
+    {
+        let at_normal = (self != Notches::Reversed) & (end == End::Normal);
+        let at_reversed = (self != Notches::Normal) & (end == End::Reversed);
+        at_normal | at_reversed
+    }
 }
 
 impl Dog {
@@ -56,6 +66,14 @@ impl Dog {
     {
         self.notches.has(stand_of(ends, moved, place, self.lever))
     }
+
+    // Whether the dog lies in a notch, with one lever at mid and all others at their ends.
+    fn lies_at_mid(&self, ends: &[End], moved: u32) -> bool
+        requires { DogFits (length ends.now) self.now }
+        ensures { result ≡ lies_in (stand_of ends.now moved AtMid) self.now }
+    {
+        (self.lever != moved) & self.notches.has_end(end_of(ends, self.lever))
+    }
 }
 
 impl Bridle {
@@ -65,6 +83,14 @@ impl Bridle {
         ensures { result ≡ seated (stand_of ends.now moved place) self.now }
     {
         any_lies(self.dogs.as_slice(), ends, moved, place)
+    }
+
+    /// Whether the bridle is seated, with the lever `moved` at mid and all others at their ends.
+    pub fn is_seated_at_mid(&self, ends: &[End], moved: u32) -> bool
+        requires { BridleFits (length ends.now) self.now }
+        ensures { result ≡ seated (stand_of ends.now moved AtMid) self.now }
+    {
+        any_lies_at_mid(self.dogs.as_slice(), ends, moved)
     }
 
     /// Whether the bridle has two to four dogs, on different levers of a frame of levers 1 to `levers`.
@@ -105,6 +131,19 @@ fn any_lies(dogs: &[Dog], ends: &[End], moved: u32, place: Stand) -> bool
     ensures { result ≡ list_any (lies_in (stand_of ends.now moved place)) dogs.now }
 {
     dogs.iter().any(|dog| dog.lies(ends, moved, place))
+}
+
+// Whether some dog lies in a notch with one lever at mid. Each dog is looked at, and none of it is a branch: where the
+// levers stand, which nothing foretells, would decide it.
+fn any_lies_at_mid(dogs: &[Dog], ends: &[End], moved: u32) -> bool
+    requires { All (DogFits (length ends.now)) dogs.now }
+    ensures { result ≡ list_any (lies_in (stand_of ends.now moved AtMid)) dogs.now }
+{
+    let mut lies = false;
+    for dog in dogs {
+        lies |= dog.lies_at_mid(ends, moved);
+    }
+    lies
 }
 
 // Whether some dog has a notch at normal.

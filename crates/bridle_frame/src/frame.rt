@@ -4,13 +4,14 @@ ghost use Rattle.std.specs.Prelude.{◌≡◌, ◌<◌, ◌^◌, ◌↔◌, All,
 ghost use Rattle.locking_table.specs.declared.places.End.TheVariants.{Normal as NormalEnd};
 ghost use Rattle.locking_table.specs.declared.places.Stand.TheVariants.{AtMid};
 ghost use Rattle.locking_table.specs.Places.{IsLever, at_ends, end_at, stand_of};
+ghost use Rattle.bridle_frame.specs.declared.frame.Shift.TheVariants.{Shifted};
 ghost use Rattle.bridle_frame.specs.Seated.{BridleFits, IsSeated};
 ghost use Rattle.bridle_frame.specs.Shifts.{ends_after, first_holder, shift_of};
 ghost use Rattle.bridle_frame.specs.Frames.{first_of, naming};
 
 use crate::bridle::Bridle;
 use crate::index::{Uses, index_of};
-use locking_table::{End, Holder, NoMemory, Stand, end_of};
+use locking_table::{End, Holder, NoMemory, end_of};
 use std::alloc::Global;
 use std::marker::Model;
 
@@ -50,7 +51,7 @@ fn first_of(ends: &[End], lever: u32, bridles: &[Bridle], numbers: &[u32]) -> Sh
     ensures { result ≡ first_of (stand_of ends.now lever AtMid) bridles.now numbers.now }
 {
     for number in numbers {
-        if !bridles[*number as usize].is_seated(ends, lever, Stand::AtMid) {
+        if !bridles[*number as usize].is_seated_at_mid(ends, lever) {
             return Shift::HeldBy {
                 bridle: *number + 1,
             };
@@ -116,10 +117,19 @@ impl Frame {
     {
         let reply = self.test(lever);
         if let Shift::Shifted = reply {
-            let other = end_of(&self.ends, lever).other();
-            self.ends[lever as usize - 1] = other;
+            self.throw(lever);
         }
         reply
+    }
+
+    /// Moves a lever that nothing holds to its other end: `test` answers `Shifted`, and isn't asked again.
+    pub fn throw(&mut self, lever: u32)
+        requires lever { IsLever (length self.old.ends) lever }
+        requires free { shift_of self.old.ends lever self.old.bridles ≡ Shifted }
+        ensures { self.new ≡ record self.old { ends = ends_after self.old.ends lever Shifted } }
+    {
+        let other = end_of(&self.ends, lever).other();
+        self.ends[lever as usize - 1] = other;
     }
 
     /// The row that holds a lever, with the lever that it names, or `None` where the lever may move.

@@ -80,6 +80,18 @@ fn is_held_by(rt: &impl Abort, frame: &mut Frame, lever: u32, holder: (u32, u32)
     }
 }
 
+// Throws a lever where nothing holds it. Is it thrown?
+fn is_thrown(rt: &impl Abort, frame: &mut Frame, lever: u32) -> bool {
+    assert!(rt; 1 <= lever && lever as usize <= frame.ends().len());
+    match frame.test(lever) {
+        Shift::Shifted => {
+            frame.throw(lever);
+            true
+        }
+        Shift::HeldBy { .. } => false,
+    }
+}
+
 // Does the lever stand reversed?
 fn is_reversed(rt: &impl Abort, frame: &Frame, lever: u32) -> bool {
     assert!(rt; 1 <= lever && lever as usize <= frame.ends().len());
@@ -142,6 +154,18 @@ fn is_moved(rt: &impl Abort, frame: &mut Frame, lever: u32, holder: (u32, u32), 
     );
 }
 
+// Throws levers of a new frame: 2, and 5, which it holds. Is each thrown, and does it then stand reversed?
+fn are_thrown(rt: &impl Abort, alloc: Global, table: &Table) -> [bool; 4] {
+    assert!(rt; table.fits(8));
+    let mut frame = frame_of(alloc, 8, table).expect(rt, "memory");
+    [
+        is_thrown(rt, &mut frame, 2),
+        is_reversed(rt, &frame, 2),
+        is_thrown(rt, &mut frame, 5),
+        is_reversed(rt, &frame, 5),
+    ]
+}
+
 fn is_worked(rt: &impl Abort, alloc: Global, table: &Table) {
     for moves in MOVES.iter() {
         hold(rt, "three bridles", are_moved(rt, alloc, table, moves) == 3);
@@ -152,4 +176,10 @@ fn is_worked(rt: &impl Abort, alloc: Global, table: &Table) {
 fn the_frame_does_what_the_table_says(rt: HostRuntime) {
     let table = table_of(&rt, rt.alloc(), &ASH);
     is_worked(&rt, rt.alloc(), &table);
+    let thrown = are_thrown(&rt, rt.alloc(), &table);
+    hold(
+        &rt,
+        "a free lever alone",
+        thrown == [true, true, false, false],
+    );
 }

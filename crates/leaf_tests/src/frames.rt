@@ -74,6 +74,8 @@ fn compare(rt: &impl Abort, bar: &Bridle, other: &Bridle) {
             ("lever 2 lies past the last", !bar.fits(1)),
             ("not seated", !bar.is_seated(&ends, 1, Stand::AtMid)),
             ("seated", other.is_seated(&ends, 1, Stand::AtMid)),
+            ("not seated at mid", !bar.is_seated_at_mid(&ends, 1)),
+            ("seated at mid", other.is_seated_at_mid(&ends, 1)),
             ("what holds lever 1", other.holding_lever(1) == 2),
             ("what holds lever 2", other.holding_lever(2) == 1),
         ],

@@ -7,6 +7,7 @@ ghost use Rattle.locking_table.specs.Places.{IsLever, at_ends, end_at};
 ghost use Rattle.locking_table.specs.Sound.{RowFits};
 ghost use Rattle.tappet_compiler.specs.Compiled.{compiled};
 ghost use Rattle.line_plan.specs.Frames.{frame_size};
+ghost use Rattle.lever_frame.specs.LeverPlans.{plan_at};
 ghost use Rattle.lever_frame.specs.LeverFrames.{HasPlacesOf, IsFrameOf, is_off, lock_reply, moved_by, passed};
 ghost use Rattle.lever_frame.specs.LeverFrames.{pull_reply, pulled, put_back, put_reply};
 
@@ -121,15 +122,17 @@ impl LeverFrame {
         self.lock_reply(lever, tracks)
     }
 
-    // Reverses a lever that nothing holds; its arm, if it has one, goes off.
-    fn reverse(&mut self, lever: u32)
+    /// Reverses a lever that nothing holds, as `pull_test` answered; its arm, if it has one, goes off. Nothing is
+    /// tested again.
+    pub fn reverse(&mut self, lever: u32)
         requires lever { IsLever (length self.old.ends) lever }
         requires normal { end_at self.old.ends lever ≡ NormalEnd }
+        requires used { (plan_at self.old.levers lever).spare ≡ false }
         requires free { holder_of self.old.ends lever self.old.rows ≡ None }
         ensures { self.new ≡ pulled self.old lever }
     {
         same_holder();
-        self.frame.shift(lever);
+        self.frame.throw(lever);
         if self.levers[lever as usize - 1].arm {
             self.off[lever as usize - 1] = true;
         }
@@ -143,7 +146,7 @@ impl LeverFrame {
         ensures { self.new ≡ put_back self.old lever }
     {
         same_holder();
-        self.frame.shift(lever);
+        self.frame.throw(lever);
         self.off[lever as usize - 1] = false;
     }
 

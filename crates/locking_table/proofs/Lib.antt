@@ -1,6 +1,7 @@
 pub mod LeverWords
 pub mod WordLemmas
 pub mod RowLemmas
+pub mod MidLemmas
 pub mod PrintLemmas
 pub mod Holding
 pub mod Indexes

@@ -1,7 +1,7 @@
 //! The index of a table: for each lever the rows that name it.
 
 ghost use Rattle.std.specs.Prelude.{◌≡◌, ◌≤◌, ◌-◌, ◌<◌, ◌^◌, ◌∷◌, ◌++◌, [], All, IsTrue, OnOk, OnErr, length};
-ghost use Rattle.std.specs.Prelude.{slice_index_or, take};
+ghost use Rattle.std.specs.Prelude.{IfOk, slice_index_or, take};
 ghost use Rattle.locking_table.specs.Index.{AreAlike, AreFiled, first_of};
 ghost use Rattle.locking_table.specs.Places.{IsLever};
 ghost use Rattle.locking_table.specs.Sound.{IsRow, RowFits, all_differ, levers_of};
@@ -11,6 +11,9 @@ use crate::places::End;
 use crate::row::{Holder, Row};
 use std::alloc::Global;
 use std::marker::Model;
+
+// The rows of a lever for which there is room at first.
+const USES_AT_FIRST: usize = 16;
 
 /// The numbers, from 0, of the rows that name one lever, in table order.
 #[derive(Debug, Drop)]
@@ -27,12 +30,13 @@ impl Model for Uses {
 }
 
 impl Uses {
-    fn new(alloc: Global) -> Self
-        ensures { result ≡ [] }
+    // No numbers yet, with room for those of a lever of most tables.
+    fn new(alloc: Global) -> Result<Self, NoMemory>
+        ensures { IfOk result (λ uses. uses ≡ []) }
     {
-        Uses {
-            numbers: Vec::new(alloc),
-        }
+        Ok(Uses {
+            numbers: Vec::with_capacity(alloc, USES_AT_FIRST)?,
+        })
     }
 
     fn push(&mut self, number: u32) -> Result<(), NoMemory>
@@ -65,7 +69,7 @@ fn widen(uses: &mut Vec<Uses>, alloc: Global, lever: u32) -> Result<(), NoMemory
     ensures same { AreAlike uses.old.items uses.new.items }
 {
     while uses.len() <= lever as usize {
-        uses.push(Uses::new(alloc))?;
+        uses.push(Uses::new(alloc)?)?;
     }
     Ok(())
 }

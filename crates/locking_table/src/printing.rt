@@ -1,6 +1,6 @@
 //! Rows as they are printed.
 
-ghost use Rattle.std.specs.Prelude.{◌≡◌, ◌++◌, IfOk, OnOk, codes, drop, string_bytes};
+ghost use Rattle.std.specs.Prelude.{◌≡◌, ◌++◌, IfOk, OnOk, codes, decimal, drop, string_bytes};
 ghost use Rattle.std.specs.List.{flat_map};
 ghost use Rattle.locking_table.specs.Printing.{cond_words, end_word, kind_words, row_text, when_words};
 ghost use Rattle.locking_table.specs.Sound.{IsRow};
@@ -9,8 +9,8 @@ ghost use Rattle.locking_table.specs.Words.{spaced};
 use crate::memory::NoMemory;
 use crate::places::End;
 use crate::row::{Cond, Row, RowKind};
+use itoa::Buffer;
 use std::alloc::{AllocError, Global};
-use std::fmt::Write;
 
 fn end_word(end: End) -> &'static str
     ensures { result.now ≡ end_word end }
@@ -21,16 +21,30 @@ fn end_word(end: End) -> &'static str
     }
 }
 
+#[tactic(auto, using(std::proofs::lemmas::Fmt::decimal_digit))]
+fn put_number(out: &mut String, number: u32) -> Result<(), AllocError>
+    ensures { OnOk result (string_bytes out.new ≡ string_bytes out.old ++ decimal number) }
+{
+    if number < 10 {
+        return out.push(char::from(b'0' + number as u8));
+    }
+    let mut buffer = Buffer::new();
+    out.push_str(buffer.format(number))
+}
+
 // What a row says of its object.
 #[tactic(auto, using(crate::proofs::PrintLemmas::print_rules))]
 fn put_kind(out: &mut String, kind: RowKind, object: u32) -> Result<(), AllocError>
     ensures { OnOk result (string_bytes out.new ≡ string_bytes out.old ++ spaced (kind_words kind object)) }
 {
-    match kind {
-        RowKind::LocksNormal => write!(out, " locks {object} normal"),
-        RowKind::ReleasedBy => write!(out, " released by {object}"),
-        RowKind::LocksBoth => write!(out, " locks {object} both ways"),
-    }
+    let (before, behind) = match kind {
+        RowKind::LocksNormal => (" locks ", " normal"),
+        RowKind::ReleasedBy => (" released by ", ""),
+        RowKind::LocksBoth => (" locks ", " both ways"),
+    };
+    out.push_str(before)?;
+    put_number(out, object)?;
+    out.push_str(behind)
 }
 
 // A condition behind the word that joins it on.
@@ -38,9 +52,12 @@ fn put_kind(out: &mut String, kind: RowKind, object: u32) -> Result<(), AllocErr
 fn put_cond(out: &mut String, joint: &str, cond: &Cond) -> Result<(), AllocError>
     ensures { OnOk result (string_bytes out.new ≡ string_bytes out.old ++ spaced (cond_words joint.now cond.now)) }
 {
-    let lever = cond.lever;
-    let end = end_word(cond.end);
-    write!(out, " {joint} {lever} {end}")
+    out.push_str(" ")?;
+    out.push_str(joint)?;
+    out.push_str(" ")?;
+    put_number(out, cond.lever)?;
+    out.push_str(" ")?;
+    out.push_str(end_word(cond.end))
 }
 
 // Conditions behind another one.
@@ -74,8 +91,7 @@ fn put_conds(out: &mut String, conds: &[Cond]) -> Result<(), AllocError>
 pub fn put_row(out: &mut String, row: &Row) -> Result<(), AllocError>
     ensures { OnOk result (string_bytes out.new ≡ string_bytes out.old ++ row_text row.now) }
 {
-    let subject = row.subject;
-    write!(out, "{subject}")?;
+    put_number(out, row.subject)?;
     put_kind(out, row.kind, row.object)?;
     put_conds(out, row.when.as_slice())
 }

@@ -1,8 +1,9 @@
 //! Rows of a locking table, and what they mean.
 
-ghost use Rattle.std.specs.Prelude.{◌≡◌, ◌==◌, ◌↔◌, ◌∷◌, All, IsTrue, length, map};
+ghost use Rattle.std.specs.Prelude.{◌≡◌, ◌≤◌, ◌==◌, ◌↔◌, ◌∷◌, All, IsTrue, length, map, not};
 ghost use Rattle.std.specs.List.{list_all, list_any};
-ghost use Rattle.locking_table.specs.Places.{IsLever, at_ends, other_end, end_at, stand_at, stand_of};
+ghost use Rattle.locking_table.specs.declared.places.Stand.TheVariants.{AtMid};
+ghost use Rattle.locking_table.specs.Places.{IsLever, at_ends, is_normal, stand_at, stand_of};
 ghost use Rattle.locking_table.specs.Meaning.{acts, breaks, holding_lever, row_holds, row_allows};
 ghost use Rattle.locking_table.specs.Sound.{CondFits, IsRow, RowFits, all_differ, conds_differ, levers_of};
 
@@ -56,9 +57,25 @@ impl Cond {
             End::Normal => stand != Stand::AtReversed,
         }
     }
+
+    // Whether the condition doesn't act with the lever `moved` at mid: that of another lever, which stands elsewhere.
+    fn is_idle(&self, ends: &[End], moved: u32) -> bool
+        requires { IsLever (length ends.now) self.now.lever }
+        ensures { result ≡ not (acts (stand_of ends.now moved AtMid) self.now) }
+    {
+        (self.lever != moved) & (end_of(ends, self.lever) != self.end)
+    }
 }
 
 impl RowKind {
+    // Whether an object at this end keeps to the kind.
+    fn lets(self, end: End) -> bool
+        ensures { result ≡ not (breaks self (stand_at end)) }
+    {
+        ((self != RowKind::LocksNormal) | (end == End::Normal))
+            & ((self != RowKind::ReleasedBy) | (end == End::Reversed))
+    }
+
     /// Whether an object that stands so breaks the kind.
     fn is_broken_by(self, stand: Stand) -> bool
         ensures { result ≡ breaks self stand }
@@ -69,6 +86,19 @@ impl RowKind {
             RowKind::LocksBoth => stand == Stand::AtMid,
         }
     }
+}
+
+// How many of the conditions don't act with the lever `moved` at mid: each of another lever, which stands elsewhere.
+fn idle_count(conds: &[Cond], ends: &[End], moved: u32) -> usize
+    requires { All (CondFits (length ends.now)) conds.now }
+    ensures few { result ≤ length conds.now }
+    ensures none { (result == 0) ≡ list_all (acts (stand_of ends.now moved AtMid)) conds.now }
+{
+    let mut idle = 0;
+    for cond in conds {
+        idle += usize::from(cond.is_idle(ends, moved));
+    }
+    idle
 }
 
 fn all_act(conds: &[Cond], ends: &[End], moved: u32, place: Stand) -> bool
@@ -166,14 +196,34 @@ impl Row {
         self.holds(ends, 0, Stand::AtMid)
     }
 
+    // Whether the subject stands normal with the lever `moved` at mid.
+    fn subject_is_normal(&self, ends: &[End], moved: u32) -> bool
+        requires { RowFits (length ends.now) self.now }
+        ensures { result ≡ is_normal (stand_of ends.now moved AtMid self.now.subject) }
+    {
+        (self.subject != moved) & (end_of(ends, self.subject) == End::Normal)
+    }
+
+    // Whether the object keeps to the kind with the lever `moved` at mid.
+    fn object_keeps(&self, ends: &[End], moved: u32) -> bool
+        requires { RowFits (length ends.now) self.now }
+        ensures { result ≡ not (breaks self.now.kind (stand_of ends.now moved AtMid self.now.object)) }
+    {
+        (self.object != moved) & self.kind.lets(end_of(ends, self.object))
+    }
+
     /// Whether the row lets a lever move to its other end: it holds with the lever at mid and at its new end.
+    ///
+    /// With the lever at mid each condition on it acts, and it breaks every kind: what holds there holds at the new end.
+    /// What makes the row hold is counted, and not looked for part by part.
     pub fn allows(&self, ends: &[End], lever: u32) -> bool
         requires lever { IsLever (length ends.now) lever }
         requires row { RowFits (length ends.now) self.now }
         ensures { result ≡ row_allows ends.now lever self.now }
     {
-        let new_end = end_of(ends, lever).other();
-        self.holds(ends, lever, Stand::AtMid) && self.holds(ends, lever, new_end.stand())
+        let subject = usize::from(self.subject_is_normal(ends, lever));
+        let object = usize::from(self.object_keeps(ends, lever));
+        subject + object + idle_count(self.when.as_slice(), ends, lever) != 0
     }
 
     /// The lever that the row names where it holds the lever `moved`: its object where `moved` is its
