@@ -1,9 +1,8 @@
 -- What is found by its number.
-use Rattle.std.proofs.Common.{◌≡◌, ℕ, zero, suc, ◌+◌, ◌-◌, Bool, true, false, cond, not, ◌||◌, eqb, ltb, List, [], ◌∷◌}
+use Rattle.std.proofs.Common.{◌≡◌, ℕ, zero, suc, ◌+◌, ◌-◌, Bool, true, false, cond, not, ltb, List, [], ◌∷◌}
 use Rattle.std.proofs.Common.{length, map, get_or, None, Some, refl, sym, ap, ◌∙◌, arith, position, slice_get}
-use Rattle.std.specs.List.{find, list_any, position_or_len}
+use Rattle.std.specs.List.{find, position_or_len}
 use Rattle.std.proofs.lemmas.List.{length-map}
-use Rattle.std.proofs.lemmas.Bool.{eq-eqb, eqb-true}
 use Rattle.std.proofs.lemmas.Bool.Decides.{Decides-ltb, not_from_Decides}
 use Rattle.std.proofs.lemmas.List.Folds.{find_at}
 use Rattle.std.proofs.lemmas.Option.{slice_get-get_or, slice_get_past}
@@ -63,19 +62,3 @@ last_is [] lever at = absurd cc
 last_is (l ∷ levers) lever at =
     let e : length (l ∷ levers) - 1 ≡ length levers = omega arith in
     sym (last_at 0 (l ∷ levers) (length levers) lever refl (ap (slice_get (l ∷ levers)) (sym e) ∙ at))
-
-turned : (a b : ℕ) → eqb a b ≡ eqb b a
-turned a b = go (eqb a b) (eqb b a) refl refl where
-  go : (p q : Bool) → eqb a b ≡ p → eqb b a ≡ q → p ≡ q
-  go true true e f = refl
-  go false false e f = refl
-  go true false e f = sym (eq-eqb b a (sym (eqb-true a b e))) ∙ f
-  go false true e f = sym e ∙ eq-eqb a b (sym (eqb-true b a f))
-
-any_turned : (n : ℕ) (ks : List ℕ) → list_any (λ k. eqb n k) ks ≡ list_any (λ k. eqb k n) ks
-any_turned n [] = refl
-any_turned n (k ∷ ks) = rw (turned n k) (ap (λ (b : Bool). eqb k n || b) (any_turned n ks))
-
--- a number that isn't there, said the other way round
-pub absent_turned : (n : ℕ) (ks : List ℕ) → list_any (λ k. eqb k n) ks ≡ false → list_any (λ k. eqb n k) ks ≡ false
-absent_turned n ks e = any_turned n ks ∙ e

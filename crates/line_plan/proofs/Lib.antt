@@ -1,4 +1,5 @@
 pub mod Named
 mod Finding
+mod Indexed
 pub mod Listed
 mod Copied

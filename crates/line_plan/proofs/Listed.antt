@@ -26,7 +26,7 @@ less_more : (b : Bool) (n m : ℕ) (c : Bool) → ltb n m ≡ c → ltb (cond (n
 less_more true n m c e = grind (arith, nat_tests)
 less_more false n m c e = let same : ltb (1 + n) (1 + m) ≡ ltb n m = grind (arith, nat_tests) in same ∙ e
 
-position_less : {A : Type 0} (p : A → Bool) (xs : List A) → ltb (position_or_len p xs) (length xs) ≡ list_any p xs
+pub position_less : {A : Type 0} (p : A → Bool) (xs : List A) → ltb (position_or_len p xs) (length xs) ≡ list_any p xs
 position_less p [] = refl
 position_less p (x ∷ xs) =
     let whole : length (x ∷ xs) ≡ 1 + length xs = omega arith in

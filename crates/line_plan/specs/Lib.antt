@@ -1,4 +1,5 @@
 pub mod Limits
+pub mod Numbers
 pub mod Ways
 pub mod Frames
 pub mod Berths

@@ -1,9 +1,10 @@
-use Rattle.std.proofs.Common.{refl, sym, ◌∙◌}
-use Rattle.line_plan.proofs.Finding.{absent_turned}
+use Rattle.std.proofs.Common.{◌∙◌, arith}
+use Rattle.line_plan.proofs.Indexed.{index_more}
 use Rattle.line_plan.proofs.numbers.Numbers.add.Goals as goal
 
-pub returns-clause-ok : goal.returns-clause-ok
-returns-clause-ok c =
-    rw (sym c.self.view_is)
-    (c.in_ok-insert.ensures.keys
-    ∙ rw (absent_turned c.args.number c.self.inside.set.keys (rw c.self.view_is c.requires)) refl)
+pub invariant_of-self-2 : goal.invariant_of-self-2
+invariant_of-self-2 c =
+    rw c.in_ok-push.ensures.items
+    (index_more c.self.inside.numbers.items c.self.inside.places.items c.widen.new.places.items c.args.number
+    c.len.result c.self.invariant c.in_ok-widen.ensures.same c.in_ok-widen.ensures.ok (rw c.self.view_is c.requires)
+    (c.len.ensures ∙ c.in_ok-push.ensures.len ∙ omega (arith, c.self.inside.numbers.ok)))
