@@ -11,7 +11,7 @@ ghost use Rattle.text_fetch.specs.FromTexts.{Makes};
 
 use line_plan::Plan;
 use plan_check::{check_plan, print_findings};
-use plan_text::{print_plan, upgrade};
+use plan_text::{into_upgraded, print_plan};
 use rail_text::{NoMemory, Shelf};
 use std::alloc::Global;
 use text_fetch::{Stop, fetch_plan};
@@ -25,10 +25,10 @@ fn findings_text(alloc: Global, plan: &Plan) -> Result<Vec<u8>, NoMemory>
 }
 
 // The upgrade of a plan as it is printed.
-fn upgrade_text(alloc: Global, plan: &Plan) -> Result<Vec<u8>, NoMemory>
-    ensures { IfOk result (λ text. text.items ≡ plan_text (upgraded plan.now)) }
+fn upgrade_text(alloc: Global, plan: Plan) -> Result<Vec<u8>, NoMemory>
+    ensures { IfOk result (λ text. text.items ≡ plan_text (upgraded plan)) }
 {
-    let newer = upgrade(alloc, plan)?;
+    let newer = into_upgraded(plan);
     let text = print_plan(alloc, &newer);
     drop(newer);
     text
@@ -66,9 +66,7 @@ pub fn upgrade_outcome<S: Shelf>(
     ensures same { (n : List ℕ) → S.held shelf.new n ≡ S.held shelf.old n }
 {
     let plan = fetch_plan(alloc, shelf, plan_name)?;
-    let text = upgrade_text(alloc, &plan);
-    drop(plan);
-    match text {
+    match upgrade_text(alloc, plan) {
         Ok(text) => Ok(text),
         Err(NoMemory) => Err(Stop::NoMemory),
     }

@@ -4,7 +4,6 @@ use Rattle.std.proofs.Common.{append_assoc}
 use Rattle.std.proofs.lemmas.List.{append-nil}
 use Rattle.std.proofs.lemmas.List.Concat.{flat_map-append}
 use Rattle.std.proofs.lemmas.Option.{get_or_from_slice_get, unwrap_or-slice_get}
-use Rattle.std.specs.Option.{unwrap_or}
 use Rattle.bell_codes.specs.Codes.{code_text}
 use Rattle.line_plan.specs.Frames.{BoxFields}
 use Rattle.line_plan.proofs.Named.{none_here}

@@ -11,4 +11,4 @@ mod upgrading;
 pub use printing::print_plan;
 pub use reading::{read_is_a_plan, read_plan};
 pub use spelling::{printed_is_read, spelled_is_read};
-pub use upgrading::upgrade;
+pub use upgrading::{into_upgraded, upgrade};

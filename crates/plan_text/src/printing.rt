@@ -1,8 +1,7 @@
 //! The one printed spelling of a plan.
 
-ghost use Rattle.std.specs.Prelude.{◌≡◌, ◌++◌, ◌∷◌, [], All, OnOk, IfOk, decimal, drop, map, option_map};
+ghost use Rattle.std.specs.Prelude.{◌≡◌, ◌++◌, ◌∷◌, [], OnOk, IfOk, decimal, drop, map, option_map, string_bytes};
 ghost use Rattle.std.specs.List.{flat_map};
-ghost use Rattle.locking_table.specs.Sound.{IsRow};
 ghost use Rattle.locking_table.specs.Words.{joined, spaced};
 ghost use Rattle.line_plan.specs.Plans.{box_at};
 ghost use Rattle.plan_text.specs.Printing.{arm_words, back_lines, berth_lines, box_lines, class_line, clear_lines};
@@ -15,46 +14,45 @@ ghost use Rattle.line_plan.specs.Ways.{way_word};
 
 use bell_codes::{CodeNo, CodeTable};
 use block_words::Way;
+use itoa::Buffer;
 use line_plan::{
     Berth, BoxPlan, Class, Kind, Lever, Plan, Signal, To, TrackLock, TrainPlan, kind_word, way_word,
 };
-use locking_table::{Row, print_row};
+use locking_table::{Row, put_row};
 use rail_text::{Names, NoMemory};
-use std::alloc::Global;
+use std::alloc::{AllocError, Global};
+use std::fmt::Write;
 
 // ---- words
 
 // The first word of a line.
-fn put_first(out: &mut Vec<u8>, word: &str) -> Result<(), NoMemory>
-    ensures { OnOk result (out.new.items ≡ out.old.items ++ word.now) }
+fn put_first(out: &mut String, word: &str) -> Result<(), AllocError>
+    ensures { OnOk result (string_bytes out.new ≡ string_bytes out.old ++ word.now) }
 {
-    out.extend_from_slice(word.as_bytes())?;
-    Ok(())
+    out.push_str(word)
 }
 
 // A further word.
-fn put_word(out: &mut Vec<u8>, word: &str) -> Result<(), NoMemory>
-    ensures { OnOk result (out.new.items ≡ out.old.items ++ spaced (word.now ∷ [])) }
+fn put_word(out: &mut String, word: &str) -> Result<(), AllocError>
+    ensures { OnOk result (string_bytes out.new ≡ string_bytes out.old ++ spaced (word.now ∷ [])) }
 {
-    out.push(b' ')?;
-    out.extend_from_slice(word.as_bytes())?;
-    Ok(())
+    out.push(' ')?;
+    out.push_str(word)
 }
 
 // A number.
-fn put_number(alloc: Global, out: &mut Vec<u8>, number: usize) -> Result<(), NoMemory>
-    ensures { OnOk result (out.new.items ≡ out.old.items ++ spaced (decimal number ∷ [])) }
+fn put_number(out: &mut String, number: usize) -> Result<(), AllocError>
+    ensures { OnOk result (string_bytes out.new ≡ string_bytes out.old ++ spaced (decimal number ∷ [])) }
 {
-    let text = format!(in alloc; "{number}")?;
-    put_word(out, text.as_str())
+    let mut buffer = Buffer::new();
+    put_word(out, buffer.format(number))
 }
 
 // The end of a line.
-fn put_end(out: &mut Vec<u8>) -> Result<(), NoMemory>
-    ensures { OnOk result (out.new.items ≡ out.old.items ++ 10 ∷ []) }
+fn put_end(out: &mut String) -> Result<(), AllocError>
+    ensures { OnOk result (string_bytes out.new ≡ string_bytes out.old ++ 10 ∷ []) }
 {
-    out.push(b'\n')?;
-    Ok(())
+    out.push('\n')
 }
 
 // The name with this number.
@@ -71,8 +69,8 @@ fn name_word(names: &Names, number: u32) -> &str
 
 // The names of places.
 #[tactic(auto, using(crate::proofs::Printed::print_rules))]
-fn put_places(out: &mut Vec<u8>, names: &Names, places: &[u32]) -> Result<(), NoMemory>
-    ensures { OnOk result (out.new.items ≡ out.old.items ++ spaced (place_words names.now places.now)) }
+fn put_places(out: &mut String, names: &Names, places: &[u32]) -> Result<(), AllocError>
+    ensures { OnOk result (string_bytes out.new ≡ string_bytes out.old ++ spaced (place_words names.now places.now)) }
 {
     for place in places {
         put_word(out, name_word(names, *place))?;
@@ -84,8 +82,8 @@ fn put_places(out: &mut Vec<u8>, names: &Names, places: &[u32]) -> Result<(), No
 
 // `KEYWORD NAME`
 #[tactic(auto, using(crate::proofs::Printed::print_rules))]
-fn put_pair(out: &mut Vec<u8>, keyword: &str, word: &str) -> Result<(), NoMemory>
-    ensures { OnOk result (out.new.items ≡ out.old.items ++ printed_words (keyword.now ∷ word.now ∷ [])) }
+fn put_pair(out: &mut String, keyword: &str, word: &str) -> Result<(), AllocError>
+    ensures { OnOk result (string_bytes out.new ≡ string_bytes out.old ++ printed_words (keyword.now ∷ word.now ∷ [])) }
 {
     put_first(out, keyword)?;
     put_word(out, word)?;
@@ -94,51 +92,48 @@ fn put_pair(out: &mut Vec<u8>, keyword: &str, word: &str) -> Result<(), NoMemory
 
 // `KEYWORD NUMBER`
 #[tactic(auto, using(crate::proofs::Printed::print_rules))]
-fn put_count(alloc: Global, out: &mut Vec<u8>, keyword: &str, number: usize) -> Result<(), NoMemory>
-    ensures { OnOk result (out.new.items ≡ out.old.items ++ printed_words (keyword.now ∷ decimal number ∷ [])) }
+fn put_count(out: &mut String, keyword: &str, number: usize) -> Result<(), AllocError>
+    ensures { OnOk result (string_bytes out.new
+        ≡ string_bytes out.old ++ printed_words (keyword.now ∷ decimal number ∷ [])) }
 {
     put_first(out, keyword)?;
-    put_number(alloc, out, number)?;
+    put_number(out, number)?;
     put_end(out)
 }
 
 #[tactic(auto, using(crate::proofs::Printed::print_rules))]
-fn put_lever(alloc: Global, out: &mut Vec<u8>, lever: Lever) -> Result<(), NoMemory>
-    ensures { OnOk result (out.new.items ≡ out.old.items ++ printed_words (lever_line lever)) }
+fn put_lever(out: &mut String, lever: Lever) -> Result<(), AllocError>
+    ensures { OnOk result (string_bytes out.new ≡ string_bytes out.old ++ printed_words (lever_line lever)) }
 {
     put_first(out, "lever")?;
-    put_number(alloc, out, lever.number as usize)?;
+    put_number(out, lever.number as usize)?;
     put_word(out, kind_word(lever.kind))?;
     put_end(out)
 }
 
 // What a signal's or starter's line says of its lever and its ends.
 #[tactic(auto, using(crate::proofs::Printed::print_rules))]
-fn put_arm(
-    alloc: Global,
-    out: &mut Vec<u8>,
-    places: &Names,
-    signal: &Signal,
-) -> Result<(), NoMemory>
-    ensures { OnOk result (out.new.items ≡ out.old.items ++ joined (arm_words places.now signal.now signal.now.to)) }
+fn put_arm(out: &mut String, places: &Names, signal: &Signal) -> Result<(), AllocError>
+    ensures { OnOk result (string_bytes out.new
+        ≡ string_bytes out.old ++ joined (arm_words places.now signal.now signal.now.to)) }
 {
     match signal.to {
         To::Place(place) => {
             put_first(out, "signal")?;
-            put_number(alloc, out, signal.lever as usize)?;
+            put_number(out, signal.lever as usize)?;
             put_word(out, name_word(places, signal.from))?;
             put_word(out, name_word(places, place))
         }
         To::Away => {
             put_first(out, "signal")?;
-            put_number(alloc, out, signal.lever as usize)?;
+            put_number(out, signal.lever as usize)?;
             put_word(out, name_word(places, signal.from))?;
             put_word(out, "away")
         }
         To::Section(way) => {
             put_first(out, "starter")?;
             put_word(out, way_word(way))?;
-            put_number(alloc, out, signal.lever as usize)?;
+            put_number(out, signal.lever as usize)?;
             put_word(out, name_word(places, signal.from))
         }
     }
@@ -146,8 +141,8 @@ fn put_arm(
 
 // The places over which a signal runs, if there are any.
 #[tactic(auto, using(crate::proofs::Printed::print_rules))]
-fn put_over(out: &mut Vec<u8>, places: &Names, over: &[u32]) -> Result<(), NoMemory>
-    ensures { OnOk result (out.new.items ≡ out.old.items ++ spaced (over_words places.now over.now)) }
+fn put_over(out: &mut String, places: &Names, over: &[u32]) -> Result<(), AllocError>
+    ensures { OnOk result (string_bytes out.new ≡ string_bytes out.old ++ spaced (over_words places.now over.now)) }
 {
     match over {
         [] => Ok(()),
@@ -159,15 +154,11 @@ fn put_over(out: &mut Vec<u8>, places: &Names, over: &[u32]) -> Result<(), NoMem
 }
 
 #[tactic(auto, using(crate::proofs::Printed::print_rules))]
-fn put_signal(
-    alloc: Global,
-    out: &mut Vec<u8>,
-    places: &Names,
-    signal: &Signal,
-) -> Result<(), NoMemory>
-    ensures { OnOk result (out.new.items ≡ out.old.items ++ printed_words (signal_line places.now signal.now)) }
+fn put_signal(out: &mut String, places: &Names, signal: &Signal) -> Result<(), AllocError>
+    ensures { OnOk result (string_bytes out.new
+        ≡ string_bytes out.old ++ printed_words (signal_line places.now signal.now)) }
 {
-    put_arm(alloc, out, places, signal)?;
+    put_arm(out, places, signal)?;
     put_over(out, places, signal.over.as_slice())?;
     put_end(out)
 }
@@ -175,13 +166,13 @@ fn put_signal(
 // The line of a berth, if there is one.
 #[tactic(auto, using(crate::proofs::Printed::print_rules))]
 fn put_berth(
-    out: &mut Vec<u8>,
+    out: &mut String,
     places: &Names,
     way: Way,
     berth: Option<&Berth>,
-) -> Result<(), NoMemory>
-    ensures { OnOk result (out.new.items
-        ≡ out.old.items ++ printed (berth_lines places.now way (option_map (λ berth. berth.now) berth.entry))) }
+) -> Result<(), AllocError>
+    ensures { OnOk result (string_bytes out.new
+        ≡ string_bytes out.old ++ printed (berth_lines places.now way (option_map (λ berth. berth.now) berth.entry))) }
 {
     let Some(berth) = berth else {
         return Ok(());
@@ -195,12 +186,13 @@ fn put_berth(
 // The line of clearing places, if there are any.
 #[tactic(auto, using(crate::proofs::Printed::print_rules))]
 fn put_clearing(
-    out: &mut Vec<u8>,
+    out: &mut String,
     places: &Names,
     way: Way,
     clearing: &[u32],
-) -> Result<(), NoMemory>
-    ensures { OnOk result (out.new.items ≡ out.old.items ++ printed (clearing_lines places.now way clearing.now)) }
+) -> Result<(), AllocError>
+    ensures { OnOk result (string_bytes out.new
+        ≡ string_bytes out.old ++ printed (clearing_lines places.now way clearing.now)) }
 {
     match clearing {
         [] => Ok(()),
@@ -214,13 +206,13 @@ fn put_clearing(
 }
 
 fn put_clear(
-    out: &mut Vec<u8>,
+    out: &mut String,
     places: &Names,
     way: Way,
     berth: Option<&Berth>,
-) -> Result<(), NoMemory>
-    ensures { OnOk result (out.new.items
-        ≡ out.old.items ++ printed (clear_lines places.now way (option_map (λ berth. berth.now) berth.entry))) }
+) -> Result<(), AllocError>
+    ensures { OnOk result (string_bytes out.new
+        ≡ string_bytes out.old ++ printed (clear_lines places.now way (option_map (λ berth. berth.now) berth.entry))) }
 {
     match berth {
         Some(berth) => put_clearing(out, places, way, berth.clearing.as_slice()),
@@ -230,73 +222,60 @@ fn put_clear(
 
 // The line of a line that is permissive of so many.
 #[tactic(auto, using(crate::proofs::Printed::print_rules))]
-fn put_permit(alloc: Global, out: &mut Vec<u8>, way: Way, most: usize) -> Result<(), NoMemory>
-    ensures { OnOk result (out.new.items ≡ out.old.items ++ printed (most_lines way (Some most))) }
+fn put_permit(out: &mut String, way: Way, most: usize) -> Result<(), AllocError>
+    ensures { OnOk result (string_bytes out.new ≡ string_bytes out.old ++ printed (most_lines way (Some most))) }
 {
     put_first(out, "permissive")?;
     put_word(out, way_word(way))?;
-    put_number(alloc, out, most)?;
+    put_number(out, most)?;
     put_end(out)
 }
 
 // How many trains a line is permissive of, if it is.
-fn put_most(alloc: Global, out: &mut Vec<u8>, way: Way, most: Option<u8>) -> Result<(), NoMemory>
-    ensures { OnOk result (out.new.items ≡ out.old.items ++ printed (most_lines way most)) }
+fn put_most(out: &mut String, way: Way, most: Option<u8>) -> Result<(), AllocError>
+    ensures { OnOk result (string_bytes out.new ≡ string_bytes out.old ++ printed (most_lines way most)) }
 {
     match most {
-        Some(most) => put_permit(alloc, out, way, most as usize),
+        Some(most) => put_permit(out, way, most as usize),
         None => Ok(()),
     }
 }
 
-fn put_permissive(
-    alloc: Global,
-    out: &mut Vec<u8>,
-    way: Way,
-    berth: Option<&Berth>,
-) -> Result<(), NoMemory>
-    ensures { OnOk result (out.new.items
-        ≡ out.old.items ++ printed (permissive_lines way (option_map (λ berth. berth.now) berth.entry))) }
+fn put_permissive(out: &mut String, way: Way, berth: Option<&Berth>) -> Result<(), AllocError>
+    ensures { OnOk result (string_bytes out.new
+        ≡ string_bytes out.old ++ printed (permissive_lines way (option_map (λ berth. berth.now) berth.entry))) }
 {
     match berth {
-        Some(berth) => put_most(alloc, out, way, berth.permissive),
+        Some(berth) => put_most(out, way, berth.permissive),
         None => Ok(()),
     }
 }
 
 #[tactic(auto, using(crate::proofs::Printed::print_rules))]
-fn put_track(
-    alloc: Global,
-    out: &mut Vec<u8>,
-    places: &Names,
-    track: &TrackLock,
-) -> Result<(), NoMemory>
-    ensures { OnOk result (out.new.items ≡ out.old.items ++ printed_words (track_line places.now track.now)) }
+fn put_track(out: &mut String, places: &Names, track: &TrackLock) -> Result<(), AllocError>
+    ensures { OnOk result (string_bytes out.new
+        ≡ string_bytes out.old ++ printed_words (track_line places.now track.now)) }
 {
     put_first(out, "track")?;
-    put_number(alloc, out, track.lever as usize)?;
+    put_number(out, track.lever as usize)?;
     put_places(out, places, track.places.as_slice())?;
     put_end(out)
 }
 
 #[tactic(auto, using(crate::proofs::Printed::print_rules))]
-fn put_row(alloc: Global, out: &mut Vec<u8>, row: &Row) -> Result<(), NoMemory>
-    requires { IsRow row.now }
-    ensures { OnOk result (out.new.items ≡ out.old.items ++ printed_words (row_line row.now)) }
+fn put_row_line(out: &mut String, row: &Row) -> Result<(), AllocError>
+    ensures { OnOk result (string_bytes out.new ≡ string_bytes out.old ++ printed_words (row_line row.now)) }
 {
     put_first(out, "row ")?;
-    match print_row(alloc, row) {
-        Ok(text) => out.extend_from_slice(&text)?,
-        Err(_) => return Err(NoMemory),
-    }
+    put_row(out, row)?;
     put_end(out)
 }
 
 // ---- a box
 
 #[tactic(auto, using(crate::proofs::Printed::print_rules))]
-fn put_place_lines(out: &mut Vec<u8>, places: &Names) -> Result<(), NoMemory>
-    ensures { OnOk result (out.new.items ≡ out.old.items ++ printed (map place_line places.now)) }
+fn put_place_lines(out: &mut String, places: &Names) -> Result<(), AllocError>
+    ensures { OnOk result (string_bytes out.new ≡ string_bytes out.old ++ printed (map place_line places.now)) }
 {
     for number in 0..places.len() {
         put_pair(out, "place", name_word(places, number as u32))?;
@@ -305,71 +284,62 @@ fn put_place_lines(out: &mut Vec<u8>, places: &Names) -> Result<(), NoMemory>
 }
 
 #[tactic(auto, using(crate::proofs::Printed::print_rules))]
-fn put_levers(alloc: Global, out: &mut Vec<u8>, levers: &[Lever]) -> Result<(), NoMemory>
-    ensures { OnOk result (out.new.items ≡ out.old.items ++ printed (map lever_line levers.now)) }
+fn put_levers(out: &mut String, levers: &[Lever]) -> Result<(), AllocError>
+    ensures { OnOk result (string_bytes out.new ≡ string_bytes out.old ++ printed (map lever_line levers.now)) }
 {
     for lever in levers {
-        put_lever(alloc, out, *lever)?;
+        put_lever(out, *lever)?;
     }
     Ok(())
 }
 
 #[tactic(auto, using(crate::proofs::Printed::print_rules))]
-fn put_signals(
-    alloc: Global,
-    out: &mut Vec<u8>,
-    places: &Names,
-    signals: &[Signal],
-) -> Result<(), NoMemory>
-    ensures { OnOk result (out.new.items ≡ out.old.items ++ printed (map (signal_line places.now) signals.now)) }
+fn put_signals(out: &mut String, places: &Names, signals: &[Signal]) -> Result<(), AllocError>
+    ensures { OnOk result (string_bytes out.new
+        ≡ string_bytes out.old ++ printed (map (signal_line places.now) signals.now)) }
 {
     for signal in signals {
-        put_signal(alloc, out, places, signal)?;
+        put_signal(out, places, signal)?;
     }
     Ok(())
 }
 
 #[tactic(auto, using(crate::proofs::Printed::print_rules))]
-fn put_tracks(
-    alloc: Global,
-    out: &mut Vec<u8>,
-    places: &Names,
-    tracks: &[TrackLock],
-) -> Result<(), NoMemory>
-    ensures { OnOk result (out.new.items ≡ out.old.items ++ printed (map (track_line places.now) tracks.now)) }
+fn put_tracks(out: &mut String, places: &Names, tracks: &[TrackLock]) -> Result<(), AllocError>
+    ensures { OnOk result (string_bytes out.new
+        ≡ string_bytes out.old ++ printed (map (track_line places.now) tracks.now)) }
 {
     for track in tracks {
-        put_track(alloc, out, places, track)?;
+        put_track(out, places, track)?;
     }
     Ok(())
 }
 
 #[tactic(auto, using(crate::proofs::Printed::print_rules))]
-fn put_rows(alloc: Global, out: &mut Vec<u8>, rows: &[Row]) -> Result<(), NoMemory>
-    requires { All IsRow rows.now }
-    ensures { OnOk result (out.new.items ≡ out.old.items ++ printed (map row_line rows.now)) }
+fn put_rows(out: &mut String, rows: &[Row]) -> Result<(), AllocError>
+    ensures { OnOk result (string_bytes out.new ≡ string_bytes out.old ++ printed (map row_line rows.now)) }
 {
     for row in rows {
-        put_row(alloc, out, row)?;
+        put_row_line(out, row)?;
     }
     Ok(())
 }
 
 // The lines of a box up to those of its starters.
 #[tactic(auto, using(crate::proofs::Printed::line_rules))]
-fn put_front(alloc: Global, out: &mut Vec<u8>, box_plan: &BoxPlan) -> Result<(), NoMemory>
-    ensures { OnOk result (out.new.items ≡ out.old.items ++ printed (front_lines box_plan.now)) }
+fn put_front(out: &mut String, box_plan: &BoxPlan) -> Result<(), AllocError>
+    ensures { OnOk result (string_bytes out.new ≡ string_bytes out.old ++ printed (front_lines box_plan.now)) }
 {
     put_pair(out, "box", box_plan.name.as_str())?;
     put_place_lines(out, &box_plan.places)?;
-    put_levers(alloc, out, box_plan.levers.as_slice())?;
-    put_signals(alloc, out, &box_plan.places, box_plan.signals.as_slice())
+    put_levers(out, box_plan.levers.as_slice())?;
+    put_signals(out, &box_plan.places, box_plan.signals.as_slice())
 }
 
 // The lines of its berths.
 #[tactic(auto, using(crate::proofs::Printed::line_rules))]
-fn put_berths(alloc: Global, out: &mut Vec<u8>, box_plan: &BoxPlan) -> Result<(), NoMemory>
-    ensures { OnOk result (out.new.items ≡ out.old.items ++ printed (way_lines box_plan.now)) }
+fn put_berths(out: &mut String, box_plan: &BoxPlan) -> Result<(), AllocError>
+    ensures { OnOk result (string_bytes out.new ≡ string_bytes out.old ++ printed (way_lines box_plan.now)) }
 {
     let places = &box_plan.places;
     let up = box_plan.berth_up.as_ref();
@@ -378,34 +348,34 @@ fn put_berths(alloc: Global, out: &mut Vec<u8>, box_plan: &BoxPlan) -> Result<()
     put_berth(out, places, Way::Down, down)?;
     put_clear(out, places, Way::Up, up)?;
     put_clear(out, places, Way::Down, down)?;
-    put_permissive(alloc, out, Way::Up, up)?;
-    put_permissive(alloc, out, Way::Down, down)
+    put_permissive(out, Way::Up, up)?;
+    put_permissive(out, Way::Down, down)
 }
 
 // The lines behind those of its berths.
 #[tactic(auto, using(crate::proofs::Printed::line_rules))]
-fn put_back(alloc: Global, out: &mut Vec<u8>, box_plan: &BoxPlan) -> Result<(), NoMemory>
-    ensures { OnOk result (out.new.items ≡ out.old.items ++ printed (back_lines box_plan.now)) }
+fn put_back(out: &mut String, box_plan: &BoxPlan) -> Result<(), AllocError>
+    ensures { OnOk result (string_bytes out.new ≡ string_bytes out.old ++ printed (back_lines box_plan.now)) }
 {
-    put_tracks(alloc, out, &box_plan.places, box_plan.tracks.as_slice())?;
-    put_rows(alloc, out, box_plan.table.rows())
+    put_tracks(out, &box_plan.places, box_plan.tracks.as_slice())?;
+    put_rows(out, box_plan.table.rows())
 }
 
 #[tactic(auto, using(crate::proofs::Printed::line_rules), unfolding(crate::specs::Printing::box_lines))]
-fn put_box(alloc: Global, out: &mut Vec<u8>, box_plan: &BoxPlan) -> Result<(), NoMemory>
-    ensures { OnOk result (out.new.items ≡ out.old.items ++ printed (box_lines box_plan.now)) }
+fn put_box(out: &mut String, box_plan: &BoxPlan) -> Result<(), AllocError>
+    ensures { OnOk result (string_bytes out.new ≡ string_bytes out.old ++ printed (box_lines box_plan.now)) }
 {
-    put_front(alloc, out, box_plan)?;
-    put_berths(alloc, out, box_plan)?;
-    put_back(alloc, out, box_plan)
+    put_front(out, box_plan)?;
+    put_berths(out, box_plan)?;
+    put_back(out, box_plan)
 }
 
 #[tactic(auto, using(crate::proofs::Printed::line_rules))]
-fn put_boxes(alloc: Global, out: &mut Vec<u8>, boxes: &[BoxPlan]) -> Result<(), NoMemory>
-    ensures { OnOk result (out.new.items ≡ out.old.items ++ printed (flat_map box_lines boxes.now)) }
+fn put_boxes(out: &mut String, boxes: &[BoxPlan]) -> Result<(), AllocError>
+    ensures { OnOk result (string_bytes out.new ≡ string_bytes out.old ++ printed (flat_map box_lines boxes.now)) }
 {
     for box_plan in boxes {
-        put_box(alloc, out, box_plan)?;
+        put_box(out, box_plan)?;
     }
     Ok(())
 }
@@ -414,48 +384,36 @@ fn put_boxes(alloc: Global, out: &mut Vec<u8>, boxes: &[BoxPlan]) -> Result<(), 
 
 // The code with this number.
 #[tactic(auto, using(crate::proofs::Printed::name_rules))]
-fn put_code(
-    alloc: Global,
-    out: &mut Vec<u8>,
-    table: &CodeTable,
-    number: CodeNo,
-) -> Result<(), NoMemory>
-    ensures { OnOk result (out.new.items ≡ out.old.items ++ spaced (code_word table.now number ∷ [])) }
+fn put_code(out: &mut String, table: &CodeTable, number: CodeNo) -> Result<(), AllocError>
+    ensures { OnOk result (string_bytes out.new ≡ string_bytes out.old ++ spaced (code_word table.now number ∷ [])) }
 {
     let place = (number as usize).saturating_sub(1);
     match table.codes().get(place) {
-        Some(code) => {
-            let text = format!(in alloc; "{code}")?;
-            put_word(out, text.as_str())
-        }
+        Some(code) => write!(out, " {code}"),
         None => put_word(out, ""),
     }
 }
 
 #[tactic(auto, using(crate::proofs::Printed::print_rules))]
-fn put_class(
-    alloc: Global,
-    out: &mut Vec<u8>,
-    table: &CodeTable,
-    class_plan: &Class,
-) -> Result<(), NoMemory>
-    ensures { OnOk result (out.new.items ≡ out.old.items ++ printed_words (class_line table.now class_plan.now)) }
+fn put_class(out: &mut String, table: &CodeTable, class_plan: &Class) -> Result<(), AllocError>
+    ensures { OnOk result (string_bytes out.new
+        ≡ string_bytes out.old ++ printed_words (class_line table.now class_plan.now)) }
 {
     put_first(out, "class")?;
     put_word(out, class_plan.name.as_str())?;
-    put_code(alloc, out, table, class_plan.code)?;
+    put_code(out, table, class_plan.code)?;
     put_end(out)
 }
 
 // Classes beyond the first four.
 #[tactic(auto, using(crate::proofs::Printed::print_rules))]
-fn put_classes(alloc: Global, out: &mut Vec<u8>, plan: &Plan) -> Result<(), NoMemory>
-    ensures { OnOk result (out.new.items
-        ≡ out.old.items ++ printed (map (class_line plan.now.codes) (drop 4 plan.now.classes))) }
+fn put_classes(out: &mut String, plan: &Plan) -> Result<(), AllocError>
+    ensures { OnOk result (string_bytes out.new
+        ≡ string_bytes out.old ++ printed (map (class_line plan.now.codes) (drop 4 plan.now.classes))) }
 {
     let classes = plan.classes.as_slice();
     for i in 4..classes.len() {
-        put_class(alloc, out, &plan.codes, &classes[i])?;
+        put_class(out, &plan.codes, &classes[i])?;
     }
     Ok(())
 }
@@ -472,8 +430,9 @@ fn place_word(boxes: &[BoxPlan], box_no: u32, place: u32) -> &str
 }
 
 #[tactic(auto, using(crate::proofs::Printed::print_rules))]
-fn put_train(out: &mut Vec<u8>, plan: &Plan, train: &TrainPlan) -> Result<(), NoMemory>
-    ensures { OnOk result (out.new.items ≡ out.old.items ++ printed_words (train_line plan.now train.now)) }
+fn put_train(out: &mut String, plan: &Plan, train: &TrainPlan) -> Result<(), AllocError>
+    ensures { OnOk result (string_bytes out.new
+        ≡ string_bytes out.old ++ printed_words (train_line plan.now train.now)) }
 {
     put_first(out, "train")?;
     put_word(out, train.name.as_str())?;
@@ -487,8 +446,9 @@ fn put_train(out: &mut Vec<u8>, plan: &Plan, train: &TrainPlan) -> Result<(), No
 }
 
 #[tactic(auto, using(crate::proofs::Printed::print_rules))]
-fn put_trains(out: &mut Vec<u8>, plan: &Plan) -> Result<(), NoMemory>
-    ensures { OnOk result (out.new.items ≡ out.old.items ++ printed (map (train_line plan.now) plan.now.trains)) }
+fn put_trains(out: &mut String, plan: &Plan) -> Result<(), AllocError>
+    ensures { OnOk result (string_bytes out.new
+        ≡ string_bytes out.old ++ printed (map (train_line plan.now) plan.now.trains)) }
 {
     for train in plan.trains.as_slice() {
         put_train(out, plan, train)?;
@@ -498,31 +458,30 @@ fn put_trains(out: &mut Vec<u8>, plan: &Plan) -> Result<(), NoMemory>
 
 // The first four lines.
 #[tactic(auto, using(crate::proofs::Printed::print_rules))]
-fn put_head(alloc: Global, out: &mut Vec<u8>, plan: &Plan) -> Result<(), NoMemory>
-    ensures { OnOk result (out.new.items ≡ out.old.items ++ printed (head_lines plan.now)) }
+fn put_head(out: &mut String, plan: &Plan) -> Result<(), AllocError>
+    ensures { OnOk result (string_bytes out.new ≡ string_bytes out.old ++ printed (head_lines plan.now)) }
 {
-    put_count(alloc, out, "plan", plan.version as usize)?;
-    put_count(alloc, out, "boxes", plan.boxes.len())?;
-    put_count(alloc, out, "delay", plan.delay as usize)?;
-    put_count(alloc, out, "looks", plan.looks as usize)
+    put_count(out, "plan", plan.version as usize)?;
+    put_count(out, "boxes", plan.boxes.len())?;
+    put_count(out, "delay", plan.delay as usize)?;
+    put_count(out, "looks", plan.looks as usize)
 }
 
-fn put_plan(alloc: Global, out: &mut Vec<u8>, plan: &Plan) -> Result<(), NoMemory>
-    ensures { OnOk result (out.new.items ≡ out.old.items ++ plan_text plan.now) }
+fn put_plan(out: &mut String, plan: &Plan) -> Result<(), AllocError>
+    ensures { OnOk result (string_bytes out.new ≡ string_bytes out.old ++ plan_text plan.now) }
 {
-    put_head(alloc, out, plan)?;
-    put_classes(alloc, out, plan)?;
-    put_boxes(alloc, out, plan.boxes.as_slice())?;
+    put_head(out, plan)?;
+    put_classes(out, plan)?;
+    put_boxes(out, plan.boxes.as_slice())?;
     put_trains(out, plan)?;
-    put_first(out, "end\n")?;
-    Ok(())
+    put_first(out, "end\n")
 }
 
 /// The plan as it is printed: the one text of its lines in their order.
 pub fn print_plan(alloc: Global, plan: &Plan) -> Result<Vec<u8>, NoMemory>
     ensures { IfOk result (λ text. text.items ≡ plan_text plan.now) }
 {
-    let mut out = Vec::new(alloc);
-    put_plan(alloc, &mut out, plan)?;
-    Ok(out)
+    let mut out = String::new(alloc);
+    put_plan(&mut out, plan)?;
+    Ok(out.into_bytes())
 }

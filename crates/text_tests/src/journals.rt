@@ -42,7 +42,7 @@ const BUSY: &str = "journal 1\n1 Beech 10:00 ring up 3-1 -> bell_busy 4 1\nend\n
 
 const BUSY_SHOWN: &str = "Journal { entries: Items { items: [Entry { box_no: 1, \
     call: Call { moment: 600, act: Ring { side: Up, code: 3 } }, \
-    reply: BellBusy { k: 4, code: 1 } }] } }";
+    reply: BellBusy { code: 1, k: 4 } }] } }";
 
 // Whether a journal is printed back.
 fn is_printed_back(alloc: Global, plan: &Plan, text: &str) -> Result<bool, ReadError> {

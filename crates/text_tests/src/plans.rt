@@ -7,7 +7,9 @@ use line_plan::{
     BoxPlan, Items, Kind, Label, Numbers, Plan, comes_in, has_neighbour, kind_word, leaves,
     most_boxes, most_delay, way_word,
 };
-use plan_text::{print_plan, printed_is_read, read_is_a_plan, read_plan, spelled_is_read, upgrade};
+use plan_text::{
+    into_upgraded, print_plan, printed_is_read, read_is_a_plan, read_plan, spelled_is_read, upgrade,
+};
 use rail_text::{NoMemory, ReadError};
 use std::alloc::Global;
 use std::process::Abort;
@@ -35,6 +37,14 @@ fn upgraded_numbers(alloc: Global, plan: &Plan) -> Result<[usize; 5], NoMemory> 
     Ok(numbers)
 }
 
+// The numbers of the upgraded plan, into which the older one goes.
+fn numbers_once_upgraded(plan: Plan) -> [usize; 5] {
+    let newer = into_upgraded(plan);
+    let numbers = numbers_of(&newer);
+    drop(newer);
+    numbers
+}
+
 // Whether its boxes are Ash and Beech alone.
 fn has_two_names(plan: &Plan) -> bool {
     plan.boxes.len() == 2
@@ -50,7 +60,7 @@ fn plan_of_two_names_is_read(rt: HostRuntime) -> Result<(), Fail> {
     let has_names = has_two_names(&plan);
     let numbers = numbers_of(&plan);
     let newer = upgraded_numbers(rt.alloc(), &plan);
-    drop(plan);
+    let taken = numbers_once_upgraded(plan);
     let newer = newer?;
     all_hold(
         &rt,
@@ -58,6 +68,7 @@ fn plan_of_two_names_is_read(rt: HostRuntime) -> Result<(), Fail> {
             ("two names", has_names),
             ("numbers", numbers == [1, 2, 1_000_000_000, 10, 2]),
             ("upgraded", newer == [2, 120, 1_000_000_000, 10, 2]),
+            ("taken", taken == [2, 120, 1_000_000_000, 10, 2]),
         ],
     );
     Ok(())

@@ -20,17 +20,17 @@ const REPLIES: &[(&str, &str, &str)] = &[
     (
         "10:00 ring up 1",
         "bell_busy 1 3-1",
-        "BellBusy { k: 1, code: 3 }",
+        "BellBusy { code: 3, k: 1 }",
     ),
     (
         "10:00 await_bell up 1",
         "not_yet 0 none",
-        "BellNotYet { k: 0, shown: None }",
+        "BellNotYet { shown: None, k: 0 }",
     ),
     (
         "10:00 await_bell up 1",
         "not_yet 1 4",
-        "BellNotYet { k: 1, shown: Some(2) }",
+        "BellNotYet { shown: Some(2), k: 1 }",
     ),
     (
         "10:00 turn up normal",
@@ -45,12 +45,12 @@ const REPLIES: &[(&str, &str, &str)] = &[
     (
         "10:00 await_block up normal",
         "not_yet 2 line_clear",
-        "BlockNotYet { v: 2, shown: LineClear }",
+        "BlockNotYet { shown: LineClear, v: 2 }",
     ),
     (
         "10:00 pull 1",
         "held_by_instrument up 0 line_clear spent",
-        "HeldByInstrument { way: Up, v: 0, shown: LineClear, spent: true }",
+        "HeldByInstrument { way: Up, shown: LineClear, spent: true, v: 0 }",
     ),
     (
         "10:00 put 1",
@@ -62,7 +62,7 @@ const REPLIES: &[(&str, &str, &str)] = &[
         "held_by_track DB none",
         "HeldByTrack { place: 0, train: 3 }",
     ),
-    ("10:00 pass 1", "entered 2 t1", "Entered { k: 2, train: 1 }"),
+    ("10:00 pass 1", "entered 2 t1", "Entered { train: 1, k: 2 }"),
     (
         "10:00 berth up",
         "occupied given",

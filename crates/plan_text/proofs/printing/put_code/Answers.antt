@@ -9,4 +9,4 @@ returns-in-None c =
     ap (λ (i : ℕ). slice_get c.args.table.now i) (sym c.saturating_sub-place.ensures)
     ∙ ap (λ (table : List (List ℕ)). slice_get table c.saturating_sub-place.result) (sym c.codes.ensures)
     ∙ slice_get_past c.codes.result.now c.saturating_sub-place.result c.in-None.ensures.lookup.3 in
-    rw (sym (no_code c.args.table.now (c.args.number - 1) past)) c.put_word-in-None.ensures
+    rw (sym (no_code c.args.table.now (c.args.number - 1) past)) c.put_word.ensures

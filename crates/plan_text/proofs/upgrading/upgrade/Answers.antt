@@ -1,4 +1,4 @@
-use Rattle.std.proofs.Common.{◌≡◌, ◌∙◌, refl, sym, ap}
+use Rattle.std.proofs.Common.{◌∙◌, refl, sym, ap}
 use Rattle.line_plan.specs.Plans.{PlanFields, names_of, names_of_classes, names_of_trains}
 use Rattle.line_plan.specs.Upgrades.{upgraded}
 use Rattle.plan_text.proofs.Upgraded.{newer_is}
