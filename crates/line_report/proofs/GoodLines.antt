@@ -1,10 +1,10 @@
 -- Lines of a journal that are read one after another, none of them with a fault.
-use Rattle.std.proofs.Common.{◌≡◌, List, [], ◌∷◌, ◌++◌, Result, Ok, Err, IsOk, refl, sym, ap, ◌∙◌, append_assoc}
+use Rattle.std.proofs.Common.{◌≡◌, false, List, [], ◌∷◌, ◌++◌, Result, Ok, Err, IsOk, refl, sym, ap, ◌∙◌, append_assoc}
 use Rattle.rail_text.specs.Gives.{◌>>=◌}
 use Rattle.rail_text.specs.Lines.{Line}
 use Rattle.rail_text.specs.declared.cause.Cause.{Cause}
 use Rattle.line_report.specs.Drafts.{DraftFields}
-use Rattle.line_report.specs.Reading.{AreReadTo, GoesOn, line_onto, more_onto}
+use Rattle.line_report.specs.Reading.{AreReadTo, GoesOn, has_ended, line_onto, more_onto}
 
 -- before the first line none is read
 pub none_read : (draft : DraftFields) (lines left : List Line) → lines ≡ left → AreReadTo draft draft lines left
@@ -40,11 +40,12 @@ next_read old draft next lines left later line h split e = record {
 
 -- the first of the lines that are left has no fault, and leaves what was read
 pub goes_on : (old draft new : DraftFields) (lines left later : List Line) (line : Line)
-    → AreReadTo old draft lines left → left ≡ line ∷ later → IsOk (line_onto draft line) × (new ≡ draft)
-    → GoesOn old new lines
-goes_on old draft new lines left later line h split kept = rw kept.1 (record {
+    → AreReadTo old draft lines left → has_ended draft.stage ≡ false → left ≡ line ∷ later
+    → IsOk (line_onto draft line) × (new ≡ draft) → GoesOn old new lines
+goes_on old draft new lines left later line h not_ended split kept = rw kept.1 (record {
   line = line;
   later = later;
   before = record { front = h.front; whole = h.whole ∙ ap (λ (ls : List Line). h.front ++ ls) split; read = h.read };
+  not_ended = not_ended;
   good = kept.0;
 })

@@ -157,11 +157,12 @@ pub record AreReadTo (old new : DraftFields) (lines left : List Line) : Type 0 w
   pub whole : lines ≡ front ++ left
   pub read : more_onto old front ≡ Ok new
 
--- the first of these lines make that of the journal, and the next one has no fault
+-- the first of these lines make that of the journal, `end` isn't one of them, and the next one has no fault
 pub record GoesOn (old new : DraftFields) (lines : List Line) : Type 0 where
   pub line : Line
   pub later : List Line
   pub before : AreReadTo old new lines (line ∷ later)
+  pub not_ended : has_ended new.stage ≡ false
   pub good : IsOk (line_onto new line)
 
 -- Want of memory is told only of a line that has no fault: the lines before it are read.

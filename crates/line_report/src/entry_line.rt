@@ -1,14 +1,12 @@
 //! The words of an entry's line: its number, its box, its call, `->` and its reply.
 
-ghost use Rattle.std.specs.Prelude.{◌≡◌, ◌<◌, IfOk, length, position, bytes_eq, drop, true};
-ghost use Rattle.std.specs.List.{list_all};
-ghost use Rattle.rail_text.specs.Words.{is_name};
+ghost use Rattle.std.specs.Prelude.{◌≡◌, ◌<◌, IfOk, length, drop};
 ghost use Rattle.line_report.specs.Arrows.{before_arrow, behind_arrow};
 ghost use Rattle.line_report.specs.Reading.{box_in, entry_number, later_call_in, told_reply_in};
 
 use line_law::{Call, Reply};
 use line_plan::Plan;
-use rail_text::{Cause, LineWords, Names, name_in, read_number};
+use rail_text::{Cause, LineWords, read_number};
 use script_text::{moment_in, read_act, reply_in};
 
 /// The number of an entry, which begins its line: it is the next one.
@@ -23,18 +21,6 @@ pub fn entry_number(next: u64, words: &LineWords<'_>) -> Result<u64, Cause>
     }
 }
 
-// The number of a name among names.
-#[tactic(auto, using(script_text::proofs::Named::naming_rules))]
-fn number_named(names: &Names, word: &[u8]) -> Option<u32>
-    requires { list_all is_name names.now ≡ true }
-    ensures { result ≡ position (bytes_eq word.now) names.now }
-{
-    match name_in(word) {
-        Ok(name) => names.number_of(name),
-        Err(_) => None,
-    }
-}
-
 /// The box that the second word names.
 #[tactic(auto, using(crate::proofs::Boxes::named_below), unfolding(crate::specs::Reading::box_in))]
 pub fn box_in(plan: &Plan, words: &LineWords<'_>) -> Result<u32, Cause>
@@ -44,7 +30,7 @@ pub fn box_in(plan: &Plan, words: &LineWords<'_>) -> Result<u32, Cause>
     let Some(word) = words.word(1) else {
         return Err(Cause::UnknownName);
     };
-    match number_named(&plan.box_names, word) {
+    match plan.box_names.number_of_word(word) {
         None => Err(Cause::UnknownName),
         Some(box_no) => Ok(box_no),
     }

@@ -1,6 +1,6 @@
 //! The journal that a text spells.
 
-ghost use Rattle.std.specs.Prelude.{◌≡◌, ◌<◌, ◌≤◌, ◌+◌, ◌^◌, ℕ, List, All, Ok, IfOk, IsErrOf, length};
+ghost use Rattle.std.specs.Prelude.{◌≡◌, ◌<◌, ◌≤◌, ◌+◌, ◌^◌, ℕ, List, All, Ok, IfOk, IsErrOf, false, length};
 ghost use Rattle.rail_text.specs.Gives.{GivesText};
 ghost use Rattle.rail_text.specs.Lines.{lines_of};
 ghost use Rattle.rail_text.specs.declared.cause.Cause.{Cause};
@@ -8,7 +8,7 @@ ghost use Rattle.line_plan.specs.Plans.{IsPlan, PlanFields};
 ghost use Rattle.line_law.specs.declared.call.Entry.{Entry};
 ghost use Rattle.script_text.specs.Entries.{IsSpelled};
 ghost use Rattle.line_report.specs.Asked.{AreAsked, AreFewEntries};
-ghost use Rattle.line_report.specs.Reading.{RunsOutAt, journal_of, lines_onto, most_journal_bytes};
+ghost use Rattle.line_report.specs.Reading.{RunsOutAt, has_ended, journal_of, lines_onto, most_journal_bytes};
 ghost use Rattle.line_report.specs.Spelled.{SpellsJournal};
 
 use crate::journal_draft::JournalDraft;
@@ -32,7 +32,8 @@ pub fn most_journal_bytes(version: u8) -> usize
 // line, it is `NoEnd` behind the last. Want of memory is told only of a line that has no fault.
 #[tactic(auto, unfolding(crate::specs::Reading::lines_onto))]
 fn read_lines(draft: &mut JournalDraft<'_>, bytes: &[u8]) -> Result<(), ReadError>
-    requires { length bytes.now + 1 < 2 ^ 32 }
+    requires few { length bytes.now + 1 < 2 ^ 32 }
+    requires not_ended { has_ended draft.old.stage ≡ false }
     ensures gives { GivesText (λ _. draft.new) result (lines_onto 1 draft.old (lines_of bytes.now)) }
     ensures memory { RunsOutAt draft.old draft.new (lines_of bytes.now) result }
 {
