@@ -39,7 +39,8 @@ use Rattle.box_top.specs.declared.status.Status.{Status}
 use Rattle.box_top.specs.declared.status.Status.TheVariants as statuses
 use Rattle.text_fetch.specs.declared.stop.Stop.{Stop}
 use Rattle.command_words.specs.Commands.{desk_shown}
-use Rattle.desk_reports.specs.Audits.{audit_told, audited_by, audited_text}
+use Rattle.reg_audit.specs.Texts.{audited_by, audited_text}
+use Rattle.desk_reports.specs.Audits.{audit_told}
 use Rattle.desk_reports.specs.Charts.{chart_told, plan_chart_told}
 use Rattle.desk_reports.specs.Frames.{box_named, box_told, frame_text, frame_told, plan_frame_told}
 use Rattle.desk_reports.specs.Reports.{findings_told, upgrade_told}

@@ -1,4 +1,3 @@
 pub mod Cases
 pub mod PlanReports
-pub mod Audited
 pub mod Worked

@@ -1,7 +1,7 @@
 -- Every reply of a legal history is a reply of its call's row.
-use Rattle.std.proofs.Common.{◌≡◌, ℕ, ◌+◌, ◌-◌, ◌<◌, ◌∷◌, List, [], ◌++◌, Bool, true, false, cond, IsTrue, Option}
-use Rattle.std.proofs.Common.{Some, None, IfSome, All, length, refl, sym, ap, subst, ◌∙◌, arith}
-use Rattle.std.specs.Prelude.{◌==◌, ◌&&◌, nat_lt, is_some}
+use Rattle.std.proofs.Common.{◌≡◌, ℕ, ◌+◌, ◌-◌, ◌<◌, ◌∷◌, List, [], Bool, true, false, cond, IsTrue, Option}
+use Rattle.std.proofs.Common.{Some, None, IfSome, All, length, refl, sym, subst, arith}
+use Rattle.std.specs.Prelude.{◌==◌, nat_lt, is_some}
 use Rattle.std.proofs.lemmas.Bool.Decides.{nat_tests}
 use Rattle.std.proofs.lemmas.List.Elements.{All-cons, All-nil}
 use Rattle.block_words.specs.declared.Position.{Position}
@@ -14,7 +14,7 @@ use Rattle.locking_table.specs.Meaning.{holder_of}
 use Rattle.locking_table.specs.declared.row.Holder.{Holder}
 use Rattle.line_plan.specs.Frames.{BoxFields, berth_of, kind_of, signal_of, track_of}
 use Rattle.line_plan.specs.Plans.{IsPlan, PlanFields, train_at}
-use Rattle.line_plan.specs.Sections.{IsSection, advance_of, most_of}
+use Rattle.line_plan.specs.Sections.{advance_of, most_of}
 use Rattle.line_plan.specs.Ways.{comes_in, leaves}
 use Rattle.line_plan.specs.declared.berth.Berth.{Berth}
 use Rattle.line_plan.specs.declared.frame.Kind.{Kind}
@@ -45,18 +45,18 @@ use Rattle.line_law.specs.Controls.{normal_refusal, release_refusal, soon_refusa
 use Rattle.line_law.specs.Controls.{released_here, wound_here}
 use Rattle.line_law.specs.Decisions.{Decision, Here, OnBlock, OnPlainLine, Told, on_pair, or_later, unless}
 use Rattle.line_law.specs.History.{IsLegal, IsLegalFrom, after_entry}
-use Rattle.line_law.specs.Instruments.{clear_refusal, clearing_refusal, control_refusal, from_refusal, home_refusal}
+use Rattle.line_law.specs.Instruments.{clearing_refusal, control_refusal, from_refusal, home_refusal}
 use Rattle.line_law.specs.Instruments.{position_refusal, same_position, turn, turn_refusal, turned, welwyn_refusal}
 use Rattle.line_law.specs.Known.{KnowsCall, knows_act}
 use Rattle.line_law.specs.Law.{at_moment, box_plan_of, decide, link_of, pair_of, step}
 use Rattle.line_law.specs.LeverEnds.{first_reversed, is_off, is_pulled}
-use Rattle.line_law.specs.Levers.{is_unspent_clear, lock_refusal, pull_at, pull_refusal, pulled, put_back, put_refusal}
+use Rattle.line_law.specs.Levers.{is_unspent_clear, pull_at, pull_refusal, pulled, put_back, put_refusal}
 use Rattle.line_law.specs.Levers.{row_refusal, spare_refusal, starter_way, track_refusal}
 use Rattle.line_law.specs.Lines.{AreNumbered, IsFirst, IsLineOf, PlainState, plain_line_of}
 use Rattle.line_law.specs.Links.{pair_no, way_of}
-use Rattle.line_law.specs.States.{LineState, box_at, opening_state, pair_at}
+use Rattle.line_law.specs.States.{box_at, opening_state, pair_at}
 use Rattle.line_law.specs.Tracks.{first_standing, train_on}
-use Rattle.line_law.specs.Trains.{bring_refusal, brought_here, danger_refusal, end_of, enter, go, holds, left_by, move}
+use Rattle.line_law.specs.Trains.{bring_refusal, brought_here, danger_refusal, end_of, go, holds, left_by, move}
 use Rattle.line_law.specs.Trains.{off_refusal, overrun_refusal, overrun_signal, pass_refusal, pass_signal}
 use Rattle.line_law.specs.Trains.{place_refusal, standing_refusal, was_brought, way_refusal}
 use Rattle.line_law.specs.Ways.{of_way}
@@ -65,9 +65,9 @@ use Rattle.line_law.proofs.Keeping.{stays}
 use Rattle.line_law.proofs.Opens.{opens}
 use Rattle.line_law.proofs.Sides.{known_parts}
 use Rattle.script_text.specs.Rows.{answers_await_bell, answers_await_block, answers_await_train, answers_berth}
-use Rattle.script_text.specs.Rows.{answers_berth_part, answers_bring, answers_clear_portion, answers_hear, answers_move}
+use Rattle.script_text.specs.Rows.{answers_berth_part, answers_bring, answers_clear_portion, answers_hear}
 use Rattle.script_text.specs.Rows.{answers_overrun, answers_pass, answers_pull, answers_put, answers_release}
-use Rattle.script_text.specs.Rows.{answers_ring, answers_turn, answers_wind, may_answer, refuses_berth}
+use Rattle.script_text.specs.Rows.{answers_ring, answers_turn, answers_wind, may_answer}
 use Rattle.line_report.specs.Spelled.{IsAnswered}
 
 -- ---- refusals of a row

@@ -1,15 +1,14 @@
 -- The first word `->` among words, and what stands before and behind it.
 use Rattle.std.proofs.Common.{◌≡◌, ℕ, zero, suc, ◌+◌, ◌-◌, ◌<◌, ◌≤◌, Bool, true, false, not, ltb, cond, List, [], ◌∷◌}
 use Rattle.std.proofs.Common.{length}
-use Rattle.std.proofs.Common.{take, drop, Option, Some, None, option_map, Result, Ok, Err, min, refl, sym, ap, ◌∙◌}
-use Rattle.std.proofs.Common.{arith, codes, bytes_eq, position, ◌&&◌}
+use Rattle.std.proofs.Common.{take, drop, Option, Some, None, option_map, min, refl, sym, ap, ◌∙◌}
+use Rattle.std.proofs.Common.{arith, codes, bytes_eq, position}
 use Rattle.std.specs.List.{join_with_byte, list_all, prefix_len}
 use Rattle.std.proofs.lemmas.Bool.{le-ltb, lt-ltb, ltb-false, ltb-true}
 use Rattle.std.proofs.lemmas.List.{take_rest}
 use Rattle.std.proofs.lemmas.List.Quantifiers.{position-Some}
 use Rattle.std.proofs.lemmas.Slice.Eq.{bytes_eq-Decides}
 use Rattle.rail_text.specs.Lines.{lacks, words_of}
-use Rattle.rail_text.specs.declared.cause.Cause.{Cause}
 use Rattle.rail_text.proofs.PrintedLines.{both, words_are, words_of-joined}
 use Rattle.line_plan.specs.Plans.{PlanFields}
 use Rattle.line_law.specs.declared.call.Act.{Act}

@@ -13,14 +13,7 @@ use Rattle.line_law.specs.Known.{KnowsCall}
 use Rattle.line_law.specs.Serial.{AreCalls}
 use Rattle.script_text.specs.Entries.{IsSpelled}
 use Rattle.line_report.specs.Asked.{AreAsked}
-use Rattle.line_report.specs.Spelled.{IsAnswered}
-
--- an entry behind these last moments of the boxes: it is spelled, its reply may answer its call, and its moment isn't
--- below the last one of its box
-pub record IsBehind (plan : PlanFields) (moments : List ℕ) (e : Entry) : Type 0 where
-  pub spelled : IsSpelled plan e
-  pub answered : IsAnswered e
-  pub later : get_or moments e.box_no 0 ≤ e.call.moment
+use Rattle.line_report.specs.Spelled.{IsAnswered, IsBehind}
 
 -- the last moments of the boxes after an entry
 abbrev pub after : List ℕ → Entry → List ℕ
@@ -72,7 +65,7 @@ behind_calls plan b moments (e ∷ es) each h =
     (behind_calls plan b (after moments e) es (length-set moments e.box_no e.call.moment ∙ each) h.1)
 
 -- no moment of a box is below the start of the day
-no_moment : (n b : ℕ) → ◌≡◌ {A = ℕ} (get_or (replicate n 0) b 0) 0
+pub no_moment : (n b : ℕ) → ◌≡◌ {A = ℕ} (get_or (replicate n 0) b 0) 0
 no_moment n b = elim (cases_lt b n) [
   | inl lt ↦ get_or-replicate n b 0 0 lt
   | inr le ↦ get_or_past (replicate n 0) b 0 (omega (arith, le, length-replicate {A = ℕ} n 0))

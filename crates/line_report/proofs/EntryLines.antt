@@ -1,6 +1,6 @@
 -- The line of an entry is read as the entry, and only so.
 use Rattle.std.proofs.Common.{◌≡◌, ℕ, ◌+◌, ◌^◌, ◌<◌, ◌≤◌, Bool, true, false, cond, eqb, ltb, List, [], ◌∷◌, ◌++◌}
-use Rattle.std.proofs.Common.{length, drop, get_or, Option, Some, None, option_map, Result, Ok, Err, IsTrue, refl, sym}
+use Rattle.std.proofs.Common.{length, drop, get_or, Option, Some, None, option_map, Result, Ok, Err, refl, sym}
 use Rattle.std.proofs.Common.{ap, ◌∙◌, arith, append_assoc, codes, bytes_eq, decimal, position, slice_get}
 use Rattle.std.specs.List.{list_all, join_with_byte}
 use Rattle.std.specs.Char.{is_ascii_digit}
@@ -31,7 +31,7 @@ use Rattle.script_text.specs.Acts.{act_of, act_words}
 use Rattle.script_text.specs.Answers.{lone_reply, shaped_reply, reply_in, reply_of}
 use Rattle.script_text.specs.Calls.{moment_in, call_in, call_of, call_words, call_text}
 use Rattle.script_text.specs.Moments.{moment_text}
-use Rattle.script_text.specs.Replies.{reply_words, reply_text, is_spelled_reply}
+use Rattle.script_text.specs.Replies.{reply_words, reply_text}
 use Rattle.script_text.specs.Scripts.{not_falling}
 use Rattle.script_text.specs.Spelled.{SpellsCall}
 use Rattle.script_text.specs.Entries.{IsSpelled, told_text}
@@ -41,11 +41,11 @@ use Rattle.script_text.proofs.Named.{valid_at, found_is, found_at}
 use Rattle.script_text.proofs.ReplyTexts.{printed_reply, spelled_reply}
 use Rattle.script_text.proofs.ReplyWords.{reply_words_are}
 use Rattle.line_report.specs.Arrows.{before_arrow, behind_arrow}
-use Rattle.line_report.specs.Drafts.{DraftFields}
+use Rattle.line_report.specs.Readers.{SoFar}
 use Rattle.line_report.specs.Journals.{entry_text}
 use Rattle.line_report.specs.Reading.{counted, entry_number, box_named, known_box, box_in, call_told, reply_told}
 use Rattle.line_report.specs.Reading.{call_after, reply_behind, entry_in}
-use Rattle.line_report.proofs.AskedEntries.{IsBehind}
+use Rattle.line_report.specs.Spelled.{IsBehind}
 use Rattle.line_report.proofs.PlainWords.{plain, differ, call_plain}
 use Rattle.line_report.proofs.ReplyLengths.{length-reply_text}
 
@@ -279,26 +279,26 @@ line_is plan number e text n name call reply =
     (spelled_reply plan e.box_no e.call.act (join_with_byte 32 r.behind) e.reply read).printed
 
 -- an entry is read of its line, behind those before it
-pub record IsEntryOf (draft : DraftFields) (text : List ℕ) (e : Entry) : Type 0 where
-  pub behind : IsBehind draft.plan draft.moments e
-  pub line : text ≡ line_text draft.plan (length draft.entries + 1) e
+pub record IsEntryOf (so_far : SoFar) (text : List ℕ) (e : Entry) : Type 0 where
+  pub behind : IsBehind so_far.plan so_far.moments e
+  pub line : text ≡ line_text so_far.plan (so_far.count + 1) e
 
-pub entry_is : (draft : DraftFields) (text : List ℕ) → OfOk (IsEntryOf draft text) (entry_in draft (words_of text))
+pub entry_is : (so_far : SoFar) (text : List ℕ) → OfOk (IsEntryOf so_far text) (entry_in so_far (words_of text))
 unfolding entry_in
-entry_is draft text =
-    let P : Entry → Type 0 = IsEntryOf draft text in
+entry_is so_far text =
+    let P : Entry → Type 0 = IsEntryOf so_far text in
     let words : List (List ℕ) = words_of text in
-    bind_keeps (λ number. keyword words ≡ decimal (length draft.entries + 1)) P
-    (entry_number (length draft.entries + 1) words) _ (next_is (length draft.entries + 1) words) (λ number n.
-    bind_keeps (IsNamed draft.plan words) P (box_in draft.plan words) _ (box_is draft.plan words) (λ b name.
-    bind_keeps (IsCallAfter draft.plan b (get_or draft.moments b 0) (call_told words)) P
-    (call_after draft.plan b (get_or draft.moments b 0) (call_told words)) _
-    (call_is draft.plan b (get_or draft.moments b 0) (call_told words) name.there) (λ call c.
-    bind_keeps (IsReplyBehind draft.plan b call.act (reply_told words)) P
-    (reply_behind draft.plan b call.act (reply_told words)) _ (reply_is draft.plan b call.act (reply_told words))
+    bind_keeps (λ number. keyword words ≡ decimal (so_far.count + 1)) P
+    (entry_number (so_far.count + 1) words) _ (next_is (so_far.count + 1) words) (λ number n.
+    bind_keeps (IsNamed so_far.plan words) P (box_in so_far.plan words) _ (box_is so_far.plan words) (λ b name.
+    bind_keeps (IsCallAfter so_far.plan b (get_or so_far.moments b 0) (call_told words)) P
+    (call_after so_far.plan b (get_or so_far.moments b 0) (call_told words)) _
+    (call_is so_far.plan b (get_or so_far.moments b 0) (call_told words) name.there) (λ call c.
+    bind_keeps (IsReplyBehind so_far.plan b call.act (reply_told words)) P
+    (reply_behind so_far.plan b call.act (reply_told words)) _ (reply_is so_far.plan b call.act (reply_told words))
     (λ reply r.
     let e : Entry = record { box_no = b; call = call; reply = reply } in
-    let spells = spelled_reply draft.plan b call.act r.text reply r.read in
+    let spells = spelled_reply so_far.plan b call.act r.text reply r.read in
     record {
       behind = record {
         spelled = record { box = name.there; call = c.spells.known; reply = spells.spelled };
@@ -306,7 +306,7 @@ entry_is draft text =
             spells.answers;
         later = c.later;
       };
-      line = line_is draft.plan (length draft.entries + 1) e text n name.word c.spells r;
+      line = line_is so_far.plan (so_far.count + 1) e text n name.word c.spells r;
     }))))
 
 -- ---- what is printed is read
@@ -453,13 +453,13 @@ unfolding reply_behind
 reply_read plan b act reply read = read
 
 -- an entry is read of its line
-pub entry_read : (draft : DraftFields) (e : Entry) → IsPlan draft.plan → length draft.entries + 1 < 10 ^ 10
-    → IsBehind draft.plan draft.moments e
-    → entry_in draft (words_of (line_text draft.plan (length draft.entries + 1) e)) ≡ Ok e
+pub entry_read : (so_far : SoFar) (e : Entry) → IsPlan so_far.plan → so_far.count + 1 < 10 ^ 10
+    → IsBehind so_far.plan so_far.moments e
+    → entry_in so_far (words_of (line_text so_far.plan (so_far.count + 1) e)) ≡ Ok e
 unfolding entry_in
-entry_read draft e p few h =
-    let plan : PlanFields = draft.plan in
-    let number : ℕ = length draft.entries + 1 in
+entry_read so_far e p few h =
+    let plan : PlanFields = so_far.plan in
+    let number : ℕ = so_far.count + 1 in
     let s = h.spelled in
     rw (
       words_of-line plan number e p few s,
@@ -468,7 +468,7 @@ entry_read draft e p few h =
       box_read plan e.box_no (decimal number) (call_words plan e.call ++ codes "->" ∷ reply_words plan e.box_no e.reply)
           p s.box,
       call_told-line plan number e p s,
-      call_read plan e.box_no (get_or draft.moments e.box_no 0) e.call p s.call h.later,
+      call_read plan e.box_no (get_or so_far.moments e.box_no 0) e.call p s.call h.later,
       reply_told-line plan number e p s,
       reply_read plan e.box_no e.call.act e.reply
           (printed_reply plan e.box_no e.call.act e.reply p s.box h.answered s.reply),

@@ -18,4 +18,7 @@ pub mod PairTexts
 pub mod Verdicts
 pub mod NoneSkipped
 pub mod PrintedJournals
-mod GoodLines
+pub mod NextEntry
+pub mod Heard
+pub mod HeardMore
+pub mod HeardTexts

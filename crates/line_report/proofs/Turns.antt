@@ -93,7 +93,7 @@ opening_moment trains [] b = refl
 opening_moment trains (box_plan ∷ boxes) zero = refl
 opening_moment trains (box_plan ∷ boxes) (suc b) = opening_moment trains boxes b
 
-starts_at : (plan : PlanFields) (b : ℕ) → (box_at (opening_state plan) b).moment ≡ 0
+pub starts_at : (plan : PlanFields) (b : ℕ) → (box_at (opening_state plan) b).moment ≡ 0
 unfolding opening_state
 starts_at plan b = opening_moment (length plan.trains) plan.boxes b
 

@@ -1,9 +1,9 @@
 -- What a judge finds of a journal whose calls may be made.
-use Rattle.std.proofs.Common.{◌≡◌, ◌≢◌, ℕ, zero, suc, ◌+◌, ◌-◌, ◌<◌, ◌≤◌, ◌^◌, Bool, true, false, cond, All, IsTrue}
-use Rattle.std.proofs.Common.{List, [], ◌∷◌, length, take, drop, get_or, Some, slice_get, refl, sym, ap, subst, ◌∙◌}
+use Rattle.std.proofs.Common.{◌≡◌, ◌≢◌, ℕ, zero, suc, ◌+◌, ◌-◌, ◌<◌, ◌^◌, Bool, true, false, cond, All, IsTrue}
+use Rattle.std.proofs.Common.{List, [], ◌∷◌, length, take, map, get_or, Some, slice_get, refl, sym, ap, subst, ◌∙◌}
 use Rattle.std.proofs.Common.{arith}
 use Rattle.std.specs.Prelude.{◌↔◌}
-use Rattle.std.proofs.lemmas.List.{drop_all, drop_more, get_or-map, length-take}
+use Rattle.std.proofs.lemmas.List.{get_or-map, length-take}
 use Rattle.std.proofs.lemmas.List.Elements.{All-head, All-tail}
 use Rattle.line_plan.specs.Plans.{IsPlan, PlanFields}
 use Rattle.line_law.specs.declared.call.Call.{Call}
@@ -21,60 +21,17 @@ use Rattle.line_law.proofs.ToldHistories.{each_told}
 use Rattle.script_text.specs.Replies.{is_spelled_reply}
 use Rattle.script_text.specs.Entries.{IsSpelled}
 use Rattle.line_report.specs.Asked.{AreAsked, AreFewEntries}
-use Rattle.line_report.specs.Verdicts.{IsWrongAt, box_of_entry, judgement_text, legal_text, verdict_from, verdict_of}
-use Rattle.line_report.specs.Verdicts.{verdict_text, wrong_text}
+use Rattle.line_report.specs.Verdicts.{CanPrint, IsWrongAt, box_of_entry, verdict_from, verdict_of}
 use Rattle.line_report.specs.declared.judging.Verdict.{Verdict}
 use Rattle.line_report.specs.declared.judging.Verdict.TheVariants.{Legal, WrongAt}
 use Rattle.line_report.proofs.Spellings.{told_spelled}
-use Rattle.line_report.proofs.Turns.{AreAskedFrom, asked_first, asked_now, asked_then}
+use Rattle.line_report.proofs.Turns.{AreAskedFrom, asked_first, asked_now, asked_then, no_entry}
 
 -- ---- one entry more
 
 -- by whether the reply is the law's: the verdict on the rest, or that this entry is wrong
 abbrev judged : Bool → PlanFields → ℕ → Entry → List Entry → Done → Verdict
 judged same plan k e es done = cond same (verdict_from plan done.after (k + 1) es) (WrongAt k e.reply done.reply)
-
-abbrev done_as : Reply → LineState → Done
-done_as reply after = record { reply = reply; after = after }
-
-entry_judged : (same : Bool) (plan : PlanFields) (state after : LineState) (es : List Entry) (i k : ℕ) (d : Entry)
-    (law : Reply) (verdict : Verdict) → i < length es
-    → step plan state (get_or es i d).box_no (get_or es i d).call ≡ done_as law after
-    → same_reply (get_or es i d).reply law ≡ same → verdict_from plan state k (drop i es) ≡ verdict
-    → judged same plan k (get_or es i d) (drop (i + 1) es) (done_as law after) ≡ verdict
-entry_judged same plan state after es i k d law verdict lt told is found =
-    let e : Entry = get_or es i d in
-    let rest : List Entry = drop (i + 1) es in
-    let here : judged (same_reply e.reply (step plan state e.box_no e.call).reply) plan k e rest
-    (step plan state e.box_no e.call) ≡ verdict =
-    subst (λ (xs : List Entry). verdict_from plan state k xs ≡ verdict) (drop_more es i d lt) found in
-    let there : judged (same_reply e.reply law) plan k e rest (done_as law after) ≡ verdict =
-    subst (λ (done : Done). judged (same_reply e.reply done.reply) plan k e rest done ≡ verdict) told here in
-    subst (λ (b : Bool). judged b plan k e rest (done_as law after) ≡ verdict) is there
-
--- an entry whose reply is the law's
-pub right_on : (plan : PlanFields) (state after : LineState) (es : List Entry) (i k : ℕ) (d : Entry) (law : Reply)
-    (verdict : Verdict) → i < length es
-    → step plan state (get_or es i d).box_no (get_or es i d).call ≡ done_as law after
-    → same_reply (get_or es i d).reply law ≡ true → verdict_from plan state k (drop i es) ≡ verdict
-    → verdict_from plan after (k + 1) (drop (i + 1) es) ≡ verdict
-right_on plan state after es i k d law verdict lt told is found =
-    entry_judged true plan state after es i k d law verdict lt told is found
-
--- one whose reply isn't
-pub wrong_here : (plan : PlanFields) (state after : LineState) (es : List Entry) (i k : ℕ) (d : Entry) (law : Reply)
-    (verdict : Verdict) → i < length es
-    → step plan state (get_or es i d).box_no (get_or es i d).call ≡ done_as law after
-    → same_reply (get_or es i d).reply law ≡ false → verdict_from plan state k (drop i es) ≡ verdict
-    → WrongAt k (get_or es i d).reply law ≡ verdict
-wrong_here plan state after es i k d law verdict lt told is found =
-    entry_judged false plan state after es i k d law verdict lt told is found
-
--- no entry is left
-pub all_right : (plan : PlanFields) (state : LineState) (es : List Entry) (i k : ℕ) (verdict : Verdict) → length es ≤ i
-    → verdict_from plan state k (drop i es) ≡ verdict → Legal ≡ verdict
-all_right plan state es i k verdict le found =
-    subst (λ (xs : List Entry). verdict_from plan state k xs ≡ verdict) (drop_all i es le) found
 
 -- ---- legal journals
 
@@ -198,30 +155,7 @@ wrong_exactly plan es k said law is asked found =
       differs = h.differs;
     }
 
--- ---- how a verdict is printed
-
-pub legal_printed : (plan : PlanFields) (es : List Entry) → verdict_of plan es ≡ Legal
-    → judgement_text plan es ≡ legal_text (length es)
-unfolding judgement_text
-legal_printed plan es found = ap (λ (v : Verdict). verdict_text plan es v) found
-
-pub wrong_printed : (plan : PlanFields) (es : List Entry) (k b : ℕ) (said law : Reply)
-    → verdict_of plan es ≡ WrongAt k said law → b ≡ box_of_entry es k
-    → judgement_text plan es ≡ wrong_text plan b k said law
-unfolding judgement_text
-wrong_printed plan es k b said law found box =
-    ap (λ (v : Verdict). verdict_text plan es v) found ∙ ap (λ (n : ℕ). wrong_text plan n k said law) (sym box)
-
 -- ---- wrong entries can be printed
-
--- entry k, from 1, of box b is there, and both replies can be spelled at that box
-pub record CanPrint (plan : PlanFields) (es : List Entry) (k b : ℕ) (said law : Reply) : Type 0 where
-  pub low : 1 ≤ k
-  pub high : k - 1 < length es
-  pub box : b < length plan.boxes
-  pub said_there : IsTrue (is_spelled_reply plan b said)
-  pub law_there : IsTrue (is_spelled_reply plan b law)
-  pub same : b ≡ box_of_entry es k
 
 -- an item of a list that is there
 at_within : (es : List Entry) (i : ℕ) (d e : Entry) → slice_get es i ≡ Some e → (i < length es) × (get_or es i d ≡ e)
@@ -242,18 +176,20 @@ law_spelled plan es b call is few legal may =
     told_spelled (step plan (state_of plan es) b call).reply plan b (length es + 1) is few
     (each_told plan es [] (entry_of plan (state_of plan es) b call) is (history_grows plan es b call legal may))
 
-pub can_print : (plan : PlanFields) (es : List Entry) (k : ℕ) (said law : Reply) (d : Entry) → IsPlan plan
+pub can_print : (plan : PlanFields) (es : List Entry) (k b : ℕ) (said law : Reply) → IsPlan plan
     → All (IsSpelled plan) es → AreAsked plan es → AreFewEntries es → verdict_of plan es ≡ WrongAt k said law
-    → CanPrint plan es k (get_or es (k - 1) d).box_no said law
-can_print plan es k said law d is spelled asked few found =
+    → b ≡ box_of_entry es k → CanPrint plan b said law
+can_print plan es k b said law is spelled asked few found box =
     let h = first_wrong plan es k said law is asked found in
     let number = h.is in
     let place : h.place ≡ k - 1 = omega (arith, number) in
-    let there = at_within es h.place d h.entry h.at in
+    let there = at_within es h.place no_entry h.entry h.at in
     let within = there.0 in
     let one : IsSpelled plan h.entry = all_at (IsSpelled plan) es h.place h.entry h.at spelled in
-    let box : h.entry.box_no ≡ (get_or es (k - 1) d).box_no =
-    ap (λ (e : Entry). e.box_no) (sym there.1 ∙ ap (λ (p : ℕ). get_or es p d) place) in
+    let same : h.entry.box_no ≡ b =
+    ap (λ (e : Entry). e.box_no) (sym there.1)
+    ∙ sym (get_or-map (λ (e : Entry). e.box_no) es h.place no_entry 0 within)
+    ∙ ap (λ (p : ℕ). get_or (map (λ (e : Entry). e.box_no) es) p 0) place ∙ sym box in
     let short : length (take h.place es) + 1 < 10 ^ 10 = omega (arith, length-take h.place es, within, few) in
     let spelled_law : IsTrue (is_spelled_reply plan h.entry.box_no law) =
     subst (λ (r : Reply). IsTrue (is_spelled_reply plan h.entry.box_no r)) (sym h.lawful)
@@ -261,10 +197,7 @@ can_print plan es k said law d is spelled asked few found =
     let spelled_said : IsTrue (is_spelled_reply plan h.entry.box_no said) =
     subst (λ (r : Reply). IsTrue (is_spelled_reply plan h.entry.box_no r)) (sym h.told) one.reply in
     record {
-      low = omega (arith, number);
-      high = omega (arith, within, place);
-      box = subst (λ (b : ℕ). b < length plan.boxes) box one.box;
-      said_there = subst (λ (b : ℕ). IsTrue (is_spelled_reply plan b said)) box spelled_said;
-      law_there = subst (λ (b : ℕ). IsTrue (is_spelled_reply plan b law)) box spelled_law;
-      same = sym (get_or-map (λ (e : Entry). e.box_no) es (k - 1) d 0 (omega (arith, within, place)));
+      box = subst (λ (n : ℕ). n < length plan.boxes) same one.box;
+      said_there = subst (λ (n : ℕ). IsTrue (is_spelled_reply plan n said)) same spelled_said;
+      law_there = subst (λ (n : ℕ). IsTrue (is_spelled_reply plan n law)) same spelled_law;
     }

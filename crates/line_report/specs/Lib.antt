@@ -5,7 +5,8 @@ pub mod Gains
 pub mod Between
 pub mod Asked
 pub mod Verdicts
-pub mod Drafts
+pub mod Readers
 pub mod Arrows
 pub mod Reading
 pub mod Spelled
+pub mod Hearings

@@ -1,7 +1,7 @@
 -- Which journal a text gives, or its first fault.
-use Rattle.std.specs.Prelude.{ℕ, ◌+◌, ◌==◌, Bool, true, false, nat_lt, List, [], ◌∷◌, ◌++◌, length, drop, slice_get}
-use Rattle.std.specs.Prelude.{slice_set, slice_index, Option, Some, None, option_map, Result, Ok, Err, if◌then◌else◌}
-use Rattle.std.specs.Prelude.{◌≡◌, IsOk, bytes_eq, codes, position, cond}
+use Rattle.std.specs.Prelude.{ℕ, ◌+◌, ◌==◌, ◌≡◌, false, List, [], ◌∷◌, ◌++◌, length, drop, slice_get, slice_index}
+use Rattle.std.specs.Prelude.{nat_lt, Option, Some, None, option_map, Result, Ok, Err, if◌then◌else◌, bytes_eq, codes}
+use Rattle.std.specs.Prelude.{position, cond}
 use Rattle.std.specs.List.{join_with_byte}
 use Rattle.rail_text.specs.Forms.{form_of}
 use Rattle.rail_text.specs.Gives.{◌>>=◌, Fault}
@@ -21,10 +21,8 @@ use Rattle.line_law.specs.declared.call.Reply.{Reply}
 use Rattle.script_text.specs.Answers.{reply_in, reply_of}
 use Rattle.script_text.specs.Calls.{call_in, call_of, moment_in}
 use Rattle.script_text.specs.Scripts.{not_falling}
-use Rattle.line_report.specs.declared.journal_draft.Stage.{Stage}
-use Rattle.line_report.specs.declared.journal_draft.Stage.TheVariants as stages
 use Rattle.line_report.specs.Arrows.{before_arrow, behind_arrow}
-use Rattle.line_report.specs.Drafts.{DraftFields, start}
+use Rattle.line_report.specs.Readers.{ReaderFields, SoFar, entry_onto, start}
 
 -- the most bytes of a journal's text, by the plan's version
 abbrev pub most_journal_bytes : ℕ → ℕ
@@ -87,92 +85,117 @@ unfoldable pub told_reply_in : PlanFields → ℕ → Act → Option (List (List
 told_reply_in plan b act None = Err causes.WordCount
 told_reply_in plan b act (Some words) = reply_in plan b act words
 
--- ---- what a line of each kind makes of the journal so far
+-- ---- what a line of each kind tells
 
 -- journal V: V is the plan's version
-unfoldable pub heading_onto : DraftFields → List (List ℕ) → Result DraftFields Cause
-heading_onto draft words = do
+unfoldable pub version_in : PlanFields → List (List ℕ) → Result ℕ Cause
+version_in plan words = do
   word ← one_word words
-  version ← number_in draft.plan.version draft.plan.version word
-  Ok (record draft { stage = stages.Entries })
+  number_in plan.version plan.version word
+
+-- the keyword of the heading, and what stands behind it
+unfoldable pub heading_in : PlanFields → List (List ℕ) → Result ℕ Cause
+heading_in plan words =
+    if bytes_eq (keyword words) (codes "journal") then version_in plan words else Err causes.WrongKeyword
 
 -- the entry of a line: its number, its box, its call and its reply
-unfoldable pub entry_in : DraftFields → List (List ℕ) → Result Entry Cause
-entry_in draft words = do
-  number ← entry_number (length draft.entries + 1) words
-  b ← box_in draft.plan words
-  call ← call_after draft.plan b (slice_index draft.moments b) (call_told words)
-  reply ← reply_behind draft.plan b call.act (reply_told words)
+unfoldable pub entry_in : SoFar → List (List ℕ) → Result Entry Cause
+entry_in so_far words = do
+  number ← entry_number (so_far.count + 1) words
+  b ← box_in so_far.plan words
+  call ← call_after so_far.plan b (slice_index so_far.moments b) (call_told words)
+  reply ← reply_behind so_far.plan b call.act (reply_told words)
   Ok (record { box_no = b; call = call; reply = reply })
 
--- an entry more, whose moment is the last one of its box
-unfoldable pub entry_onto : DraftFields → List (List ℕ) → Result DraftFields Cause
-entry_onto draft words = do
-  e ← entry_in draft words
-  Ok (record draft { moments = slice_set draft.moments e.box_no e.call.moment; entries = draft.entries ++ e ∷ [] })
-
--- end: the journal ends
-unfoldable pub end_onto : DraftFields → List (List ℕ) → Result DraftFields Cause
-end_onto draft words = do
+-- end: it stands alone, and no entry is told
+unfoldable pub end_in : List (List ℕ) → Result (Option Entry) Cause
+end_in words = do
   nothing ← no_word words
-  Ok (record draft { stage = stages.Ended })
+  Ok None
+
+-- a line behind the heading tells an entry, or it is `end`
+unfoldable pub told_in : SoFar → List (List ℕ) → Result (Option Entry) Cause
+told_in so_far words =
+    if bytes_eq (keyword words) (codes "end") then end_in words else entry_in so_far words >>= (λ e. Ok (Some e))
 
 -- ---- lines
 
--- the lines that may stand at each stage: first `journal`, then entries up to `end`; behind it nothing is read
-unfoldable pub stage_onto : Stage → DraftFields → List (List ℕ) → Result DraftFields Cause
-stage_onto stages.Heading draft words =
-    if bytes_eq (keyword words) (codes "journal") then heading_onto draft words else Err causes.WrongKeyword
-stage_onto stages.Entries draft words =
-    if bytes_eq (keyword words) (codes "end") then end_onto draft words else entry_onto draft words
-stage_onto stages.Ended draft words = Ok draft
-
--- a line: its form first, by which none is skipped, then its words
-unfoldable pub line_onto : DraftFields → Line → Result DraftFields Cause
-line_onto draft line = do
+-- the heading: its form first, by which no line of a journal is skipped, then its words
+unfoldable pub heading_of : PlanFields → Line → Result ℕ Cause
+heading_of plan line = do
   form ← form_of false line
-  stage_onto draft.stage draft (words_of line.text)
+  heading_in plan (words_of line.text)
 
--- `end` has stood
-abbrev pub has_ended : Stage → Bool
-has_ended stages.Heading = false
-has_ended stages.Entries = false
-has_ended stages.Ended = true
+-- the same of a line behind it
+unfoldable pub told_by : SoFar → Line → Result (Option Entry) Cause
+told_by so_far line = do
+  form ← form_of false line
+  told_in so_far (words_of line.text)
 
--- the lines from number n on, up to the line `end`
-unfoldable pub lines_onto : ℕ → DraftFields → List Line → Result DraftFields Fault
-lines_onto n draft [] = Err (record { line = n; cause = causes.NoEnd })
-lines_onto n draft (line ∷ lines) =
-    at_line n (line_onto draft line) >>=
-    (λ next. if has_ended next.stage then Ok next else lines_onto (n + 1) next lines)
+-- the entry of a line before those of the lines behind it; `end` has none, and nothing behind it is read
+abbrev pub told_onto : (Entry → Result (List Entry) Fault) → Option Entry → Result (List Entry) Fault
+told_onto behind None = Ok []
+told_onto behind (Some e) = behind e >>= (λ es. Ok (e ∷ es))
 
--- what lines make of the journal so far, as far as none has a fault
-unfoldable pub more_onto : DraftFields → List Line → Result DraftFields Cause
-more_onto draft [] = Ok draft
-more_onto draft (line ∷ lines) = line_onto draft line >>= (λ next. more_onto next lines)
+-- the entries of the lines behind those that are read; the heading is line 1, so the next entry's line has its number
+-- and one more
+unfoldable pub entries_from : SoFar → List Line → Result (List Entry) Fault
+entries_from so_far [] = Err (record { line = so_far.count + 2; cause = causes.NoEnd })
+entries_from so_far (line ∷ lines) =
+    at_line (so_far.count + 2) (told_by so_far line) >>= told_onto (λ e. entries_from (entry_onto so_far e) lines)
 
--- the first of these lines make that of the journal, and these are left
-pub record AreReadTo (old new : DraftFields) (lines left : List Line) : Type 0 where
-  pub front : List Line
-  pub whole : lines ≡ front ++ left
-  pub read : more_onto old front ≡ Ok new
+-- the entries that a reader has left, or the first fault
+abbrev pub entries_left : ReaderFields → Result (List Entry) Fault
+entries_left reader = entries_from reader.so_far (lines_of reader.rest)
 
--- the first of these lines make that of the journal, `end` isn't one of them, and the next one has no fault
-pub record GoesOn (old new : DraftFields) (lines : List Line) : Type 0 where
-  pub line : Line
-  pub later : List Line
-  pub before : AreReadTo old new lines (line ∷ later)
-  pub not_ended : has_ended new.stage ≡ false
-  pub good : IsOk (line_onto new line)
-
--- Want of memory is told only of a line that has no fault: the lines before it are read.
-abbrev pub RunsOutAt : DraftFields → DraftFields → List Line → Result (Unit {0}) ReadError → Type 0
-RunsOutAt old new lines (Ok done) = Unit {0}
-RunsOutAt old new lines (Err (errors.Refused line cause)) = Unit {0}
-RunsOutAt old new lines (Err errors.NoMemory) = GoesOn old new lines
+-- the entries of all lines: first the heading
+unfoldable pub entries_of : PlanFields → List Line → Result (List Entry) Fault
+entries_of plan [] = Err (record { line = 1; cause = causes.NoEnd })
+entries_of plan (line ∷ lines) =
+    at_line 1 (heading_of plan line) >>= (λ version. entries_from (start plan) lines)
 
 -- the entries of the journal that the bytes spell, or the first fault
 unfoldable pub journal_of : PlanFields → List ℕ → Result (List Entry) Fault
 journal_of plan bytes =
     if nat_lt (most_journal_bytes plan.version) (length bytes) then Err (record { line = 0; cause = causes.TooLong })
-    else lines_onto 1 (start plan) (lines_of bytes) >>= (λ draft. Ok draft.entries)
+    else entries_of plan (lines_of bytes)
+
+-- ---- entry by entry
+
+-- a reader that has such entries left, or the first fault; want of memory is free
+abbrev pub GivesReader : Result ReaderFields ReadError → Result (List Entry) Fault → Type 0
+GivesReader (Ok reader) read = read ≡ entries_left reader
+GivesReader (Err (errors.Refused line cause)) read = read ≡ Err (record { line = line; cause = cause })
+GivesReader (Err errors.NoMemory) read = Unit {0}
+
+-- the next line that a reader has left tells this entry, and the reader is behind it
+pub record TellsNext (old new : ReaderFields) (e : Entry) : Type 0 where
+  pub line : Line
+  pub next : lines_of old.rest ≡ line ∷ lines_of new.rest
+  pub told : told_by old.so_far line ≡ Ok (Some e)
+  pub after : new.so_far ≡ entry_onto old.so_far e
+
+-- What a reader gives: an entry that its next line tells; nothing where that is `end`; or the first fault, for its line
+-- and cause. It takes no memory.
+abbrev pub GivesNext : ReaderFields → ReaderFields → Result (Option Entry) ReadError → Type 0
+GivesNext old new (Ok (Some e)) = TellsNext old new e
+GivesNext old new (Ok None) = entries_left old ≡ Ok []
+GivesNext old new (Err (errors.Refused line cause)) = entries_left old ≡ Err (record { line = line; cause = cause })
+GivesNext old new (Err errors.NoMemory) = ⊥
+
+-- where no entry is given, no more is read
+abbrev pub StandsStill : SoFar → SoFar → Result (Option Entry) ReadError → Type 0
+StandsStill old new (Ok (Some e)) = Unit {0}
+StandsStill old new (Ok None) = new ≡ old
+StandsStill old new (Err error) = new ≡ old
+
+-- the lines that a reader has left tell these entries one after another, without a fault, up to where another stands
+abbrev pub Tells : ReaderFields → List Entry → ReaderFields → Type 0
+Tells old [] new = old ≡ new
+Tells old (e ∷ es) new = (middle : ReaderFields) × TellsNext old middle e × Tells middle es new
+
+-- Want of memory is told only of a line without a fault: the entries that are kept were read, and one more.
+abbrev pub RunsOutAt : ReaderFields → ReaderFields → List Entry → Result (Unit {0}) ReadError → Type 0
+RunsOutAt old new kept (Ok done) = Unit {0}
+RunsOutAt old new kept (Err (errors.Refused line cause)) = Unit {0}
+RunsOutAt old new kept (Err errors.NoMemory) = (e : Entry) × Tells old (kept ++ e ∷ []) new

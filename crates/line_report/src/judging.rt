@@ -1,12 +1,11 @@
 //! The judge of a journal: whether each reply is the law's.
 
-ghost use Rattle.std.specs.Prelude.{◌≡◌, ◌↔◌, ◌++◌, ◌<◌, ℕ, All, IfOk, IsTrue, OnOk, length, string_bytes};
+ghost use Rattle.std.specs.Prelude.{◌≡◌, ◌↔◌, ◌++◌, ◌<◌, ◌+◌, ℕ, IfOk, IsTrue, Ok, OnOk, length, string_bytes};
 ghost use Rattle.line_law.specs.History.{IsLegal, opened};
 ghost use Rattle.line_law.specs.Lines.{IsLineOf};
 ghost use Rattle.line_report.specs.Asked.{AreAsked, AreFewEntries};
-ghost use Rattle.line_report.specs.Verdicts.{IsWrongAt, judgement_text, legal_text, verdict_of, wrong_text};
+ghost use Rattle.line_report.specs.Verdicts.{IsWrongAt, heard_all, legal_text, opening_judge, verdict_of, wrong_text};
 ghost use Rattle.script_text.specs.Replies.{is_spelled_reply};
-ghost use Rattle.script_text.specs.Entries.{IsSpelled};
 
 use line_law::{Entry, Journal, Plain, Reply};
 use line_plan::Plan;
@@ -14,6 +13,7 @@ use rail_text::NoMemory;
 use script_text::put_reply;
 use std::alloc::{AllocError, Global};
 use std::fmt::Write;
+use std::marker::Model;
 
 /// What a judge finds of a journal.
 #[derive(Clone, Copy, Debug)]
@@ -53,32 +53,113 @@ pub fn may_judge(alloc: Global, plan: &Plan, journal: &Journal) -> Result<bool, 
     Ok(may)
 }
 
-// What the judge finds of these entries, each of which is performed once on a line that has just opened.
-fn verdict_on(plan: &Plan, plain: &mut Plain, entries: &[Entry]) -> Verdict
-    requires asked { AreAsked plan.now entries.now }
-    requires few { AreFewEntries entries.now }
-    requires line { IsLineOf plan.now plain.old }
-    requires opening { plain.old ≡ opened plan.now }
-    ensures { result ≡ verdict_of plan.now entries.now }
-{
-    plan.meets_conditions();
-    for (place, entry) in entries.iter().enumerate() {
-        let law = plain.perform(plan, entry.box_no, &entry.call);
-        if !entry.reply.is(&law) {
-            return Verdict::WrongAt {
-                line: place as u32 + 1,
-                said: entry.reply,
-                law,
-            };
+/// What a judge finds who hears the entries of a journal one after another: each is performed once on a line that has
+/// just opened, up to the first whose reply isn't the law's. Contracts see the plan, the state of the line, how many
+/// entries he has heard, what he finds of them, and the box of the one that is wrong.
+#[derive(Drop)]
+pub(crate) struct Judgement<'a> {
+    plan: &'a Plan,
+    plain: Plain,
+    count: u32,
+    verdict: Verdict,
+    box_no: u32,
+}
+
+impl<'a> Model for Judgement<'a> {
+    ghost use Rattle.line_report.specs.Verdicts.{IsJudge, JudgeFields};
+
+    ghost Value = { JudgeFields };
+
+    ghost view = { λ judge. record {
+      plan = judge.plan.now;
+      state = judge.plain.line;
+      count = judge.count;
+      verdict = judge.verdict;
+      box_no = judge.box_no;
+    } };
+
+    ghost invariant = { λ judge. IsJudge judge.plan.now judge.plain judge.count };
+}
+
+impl<'a> Judgement<'a> {
+    ghost use Rattle.std.specs.Prelude.{◌≡◌, ◌++◌, ◌<◌, ◌+◌, ◌^◌, ℕ, IfOk, OnOk, string_bytes};
+    ghost use Rattle.line_law.specs.States.{IsStateOf};
+    ghost use Rattle.line_law.specs.declared.call.Reply.{Reply};
+    ghost use Rattle.line_report.specs.Verdicts.{CanPrint, MayHear, found_text, heard, opening_judge};
+
+    /// A judge who has heard nothing.
+    pub(crate) fn open(alloc: Global, plan: &'a Plan) -> Result<Judgement<'a>, NoMemory>
+        ensures { IfOk result (λ judge. judge ≡ opening_judge plan.now) }
+    {
+        Ok(Judgement {
+            plan,
+            plain: Plain::open(alloc, plan)?,
+            count: 0,
+            verdict: Verdict::Legal,
+            box_no: 0,
+        })
+    }
+
+    /// Hears an entry more. It takes no memory.
+    pub(crate) fn hear(&mut self, entry: &Entry)
+        requires few { self.old.count + 1 < 2 ^ 32 }
+        requires call { MayHear self.old entry.now }
+        ensures heard { self.new ≡ heard self.old entry.now }
+        ensures line { IsStateOf self.new.plan self.new.state }
+    {
+        self.count += 1;
+        if let Verdict::Legal = self.verdict {
+            let law = self.plain.perform(self.plan, entry.box_no, &entry.call);
+            if !entry.reply.is(&law) {
+                self.box_no = entry.box_no;
+                self.verdict = Verdict::WrongAt {
+                    line: self.count,
+                    said: entry.reply,
+                    law,
+                };
+            }
         }
     }
-    Verdict::Legal
+
+    /// What he finds of the entries so far.
+    pub(crate) fn verdict(&self) -> Verdict
+        ensures { result ≡ self.now.verdict }
+    {
+        self.verdict
+    }
+
+    /// What he finds, as it is printed.
+    pub(crate) fn put_found(&self, out: &mut String) -> Result<(), AllocError>
+        requires { (k : ℕ) (said law : Reply) → self.now.verdict ≡ Verdict.WrongAt k said law
+            → CanPrint self.now.plan self.now.box_no said law }
+        ensures { OnOk result (string_bytes out.new ≡ string_bytes out.old ++ found_text self.now) }
+    {
+        match self.verdict {
+            Verdict::Legal => put_legal(out, self.count),
+            Verdict::WrongAt { line, said, law } => {
+                put_wrong(out, self.plan, self.box_no, line, &said, &law)
+            }
+        }
+    }
+}
+
+// A judge who has heard nothing hears these entries.
+fn hear_all(judge: &mut Judgement<'_>, entries: &[Entry])
+    requires opening { judge.old ≡ opening_judge judge.old.plan }
+    requires asked { AreAsked judge.old.plan entries.now }
+    requires few { AreFewEntries entries.now }
+    ensures { judge.new ≡ heard_all judge.old entries.now }
+{
+    judge.plan.meets_conditions();
+    for entry in entries {
+        judge.hear(entry);
+    }
 }
 
 /// Judges a journal: whether each reply is the law's. The calls of each box are ones that the plan knows, with moments
 /// that don't fall, as `read_journal` gives them; and there are fewer than 2^32 entries. A journal is legal exactly
 /// where no reply is wrong; else the first that is wrong is named.
-#[tactic(auto, using(crate::proofs::Verdicts::legal_exactly, crate::proofs::Verdicts::wrong_exactly))]
+#[tactic(auto, using(crate::proofs::Verdicts::legal_exactly, crate::proofs::Verdicts::wrong_exactly, crate::proofs::Heard::all_heard))]
 pub fn judge(alloc: Global, plan: &Plan, journal: &Journal) -> Result<Verdict, NoMemory>
     requires asked { AreAsked plan.now journal.now.entries }
     requires few { AreFewEntries journal.now.entries }
@@ -88,15 +169,16 @@ pub fn judge(alloc: Global, plan: &Plan, journal: &Journal) -> Result<Verdict, N
         → IsWrongAt plan.now journal.now.entries k said law }
 {
     plan.meets_conditions();
-    let mut plain = Plain::open(alloc, plan)?;
-    let verdict = verdict_on(plan, &mut plain, journal.entries.as_slice());
-    drop(plain);
+    let mut judge = Judgement::open(alloc, plan)?;
+    hear_all(&mut judge, journal.entries.as_slice());
+    let verdict = judge.verdict();
+    drop(judge);
     Ok(verdict)
 }
 
 // The line of a legal journal of so many entries.
 #[tactic(auto, unfolding(crate::specs::Verdicts::legal_text))]
-fn put_legal(out: &mut String, count: usize) -> Result<(), AllocError>
+fn put_legal(out: &mut String, count: u32) -> Result<(), AllocError>
     ensures { OnOk result (string_bytes out.new ≡ string_bytes out.old ++ legal_text count) }
 {
     write!(out, "legal {count}\n")
@@ -123,47 +205,4 @@ fn put_wrong(
     out.push_str("\nlaw ")?;
     put_reply(out, plan, box_no, law)?;
     out.push_str("\n")
-}
-
-// A verdict on these entries.
-fn put_verdict(
-    out: &mut String,
-    plan: &Plan,
-    entries: &[Entry],
-    verdict: &Verdict,
-) -> Result<(), AllocError>
-    requires spelled { All (IsSpelled plan.now) entries.now }
-    requires asked { AreAsked plan.now entries.now }
-    requires few { AreFewEntries entries.now }
-    requires of { verdict.now ≡ verdict_of plan.now entries.now }
-    ensures { OnOk result (string_bytes out.new ≡ string_bytes out.old ++ judgement_text plan.now entries.now) }
-{
-    plan.meets_conditions();
-    match *verdict {
-        Verdict::Legal => put_legal(out, entries.len()),
-        Verdict::WrongAt { line, said, law } => {
-            let wrong = entries[line as usize - 1];
-            put_wrong(out, plan, wrong.box_no, line, &said, &law)
-        }
-    }
-}
-
-/// A verdict on a journal as it is printed: `legal` and the number of entries, or the three lines `wrong at` with the
-/// number of the entry, `said` with the reply that the journal gives there, and `law` with the law's. Each entry is one
-/// that the line can spell, as `is_spelled` tells.
-pub fn print_verdict(
-    alloc: Global,
-    plan: &Plan,
-    journal: &Journal,
-    verdict: &Verdict,
-) -> Result<Vec<u8>, NoMemory>
-    requires spelled { All (IsSpelled plan.now) journal.now.entries }
-    requires asked { AreAsked plan.now journal.now.entries }
-    requires few { AreFewEntries journal.now.entries }
-    requires of { verdict.now ≡ verdict_of plan.now journal.now.entries }
-    ensures { IfOk result (λ text. text.items ≡ judgement_text plan.now journal.now.entries) }
-{
-    let mut out = String::new(alloc);
-    put_verdict(&mut out, plan, journal.entries.as_slice(), verdict)?;
-    Ok(out.into_bytes())
 }

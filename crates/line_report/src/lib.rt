@@ -3,20 +3,23 @@
 #![tactic(auto)]
 
 mod entry_line;
+mod hearing;
 mod journal;
-mod journal_draft;
+mod journal_reader;
 mod judging;
 mod laws;
 mod reading;
 mod refusals;
 mod sections;
 
+pub use hearing::{Hearing, judge_text};
 pub use journal::{print_journal, put_entry, put_journal};
-pub use judging::{Verdict, judge, may_judge, print_verdict};
+pub use journal_reader::most_journal_bytes;
+pub use judging::{Verdict, judge, may_judge};
 pub use laws::{
     answers_law, held_law, histories_can_be_printed, most_trains_law, printed_journal_law,
     verdict_law,
 };
-pub use reading::{journals_law, most_journal_bytes, read_journal};
+pub use reading::{journals_law, read_journal};
 pub use refusals::{put_refusals, refused_count};
 pub use sections::{HeldTrains, count_on, most_trains, no_trains, put_sections};

@@ -20,11 +20,11 @@ use Rattle.line_law.specs.declared.call.Entry.{Entry}
 use Rattle.line_law.specs.declared.call.Reply.{Reply}
 use Rattle.line_law.specs.declared.call.Reply.TheVariants as replies
 use Rattle.line_law.specs.declared.ways.ByWay.{ByWay}
-use Rattle.line_law.specs.History.{IsLegal, after_entry, state_of}
+use Rattle.line_law.specs.History.{after_entry, state_of}
 use Rattle.line_law.specs.Known.{knows_act}
 use Rattle.line_law.specs.Law.{box_plan_of}
 use Rattle.line_law.specs.Sections.{held_by}
-use Rattle.line_law.specs.States.{LineState}
+use Rattle.line_law.specs.States.{LineState, opening_state}
 use Rattle.line_law.specs.Ways.{of_way}
 use Rattle.line_law.proofs.Found.{both}
 use Rattle.line_law.proofs.KeepingLaws.{history_keeps}
@@ -42,16 +42,9 @@ use Rattle.reg_audit.specs.declared.deed.Deed.{Deed}
 use Rattle.reg_audit.specs.declared.deed.Deed.TheVariants as deeds
 use Rattle.reg_audit.specs.Breaches.{section_into}
 use Rattle.reg_audit.specs.Deeds.{deed_by, deed_of, done_if, heard_from, is_berthed, is_rung, is_turned, went_past}
-use Rattle.reg_audit.specs.Held.{held_told, pair_into}
+use Rattle.reg_audit.specs.Held.{AreHeld, held_told, pair_into}
 use Rattle.reg_audit.specs.Marks.{held_beside}
-use Rattle.reg_audit.proofs.Places.{IsEntryAt}
-
--- the trains of each pair before this place: what each section holds, and no more than there are entries
-pub record AreHeld (plan : PlanFields) (es : List Entry) (i : ℕ) (trains : List (ByWay HeldTrains)) : Type 0 where
-  pub each : length trains + 1 ≡ length plan.boxes
-  pub held : (p : ℕ) (way : Way) → p < length trains
-      → (of_way (trains_at trains p) way).now ≡ held_by plan (state_of plan (take i es)) (section_between p way)
-  pub few : (p : ℕ) (way : Way) → p < length trains → (of_way (trains_at trains p) way).now ≤ i
+use Rattle.reg_audit.proofs.Places.{IsNext}
 
 -- ---- before the first entry
 
@@ -59,9 +52,9 @@ none_way : (trains : ByWay HeldTrains) (way : Way) → trains ≡ no_trains → 
 none_way trains Up e = ap (λ (t : ByWay HeldTrains). t.up.now) e
 none_way trains Down e = ap (λ (t : ByWay HeldTrains). t.down.now) e
 
-pub held_first : (plan : PlanFields) (es : List Entry) (n : ℕ) (trains : List (ByWay HeldTrains))
-    → n + 1 ≡ length plan.boxes → trains ≡ replicate n no_trains → AreHeld plan es 0 trains
-held_first plan es n trains pairs none =
+pub held_first : (plan : PlanFields) (n : ℕ) (trains : List (ByWay HeldTrains))
+    → n + 1 ≡ length plan.boxes → trains ≡ replicate n no_trains → AreHeld plan (opening_state plan) 0 trains
+held_first plan n trains pairs none =
     let each : length trains ≡ n = ap length none ∙ length-replicate n no_trains in
     let at : (p : ℕ) → trains_at trains p ≡ no_trains =
     λ p. ap (λ (ts : List (ByWay HeldTrains)). trains_at ts p) none ∙ all_one n p no_trains in
@@ -75,9 +68,9 @@ held_first plan es n trains pairs none =
     }
 
 -- each pair has room for a train more
-pub held_room : (plan : PlanFields) (es : List Entry) (i : ℕ) (trains : List (ByWay HeldTrains)) → i + 1 < 2 ^ 32
-    → AreHeld plan es i trains → (p : ℕ) → MayGain (trains_at trains p)
-held_room plan es i trains few h p = elim (cases_lt p (length trains)) [
+pub held_room : (plan : PlanFields) (state : LineState) (count : ℕ) (trains : List (ByWay HeldTrains))
+    → count + 1 < 2 ^ 32 → AreHeld plan state count trains → (p : ℕ) → MayGain (trains_at trains p)
+held_room plan state count trains few h p = elim (cases_lt p (length trains)) [
   | inl within ↦
       let up = h.few p Up within in
       let down = h.few p Down within in
@@ -88,14 +81,13 @@ held_room plan es i trains few h p = elim (cases_lt p (length trains)) [
 -- ---- one entry more
 
 -- what a section holds after an entry, by what it held before it
-held_next : (plan : PlanFields) (es : List Entry) (i : ℕ) (e : Entry) (section : Section) → IsPlan plan
-    → IsLegal plan (take i es) → IsSection plan section → IsEntryAt plan es i e
-    → held_by plan (state_of plan (take (i + 1) es)) section
-    ≡ held_after plan section e (held_by plan (state_of plan (take i es)) section)
-held_next plan es i e section is legal in_line h =
-    ap (λ (s : LineState). held_by plan s section) h.state
-    ∙ after_told plan (record { line = state_of plan (take i es); calls = length (take i es) }) e section is
-    (history_keeps plan (take i es) is legal) in_line h.may h.told
+held_next : (plan : PlanFields) (es : List Entry) (e : Entry) (section : Section) → IsPlan plan
+    → IsSection plan section → IsNext plan es e
+    → held_by plan (after_entry plan (state_of plan es) e) section
+    ≡ held_after plan section e (held_by plan (state_of plan es) section)
+held_next plan es e section is in_line h =
+    after_told plan (record { line = state_of plan es; calls = length es }) e section is
+    (history_keeps plan es is h.before) in_line h.may h.told
 
 still : (plan : PlanFields) (section : Section) (e : Entry) (n : ℕ) → gains plan section e ≡ false
     → loses plan section e ≡ false → held_after plan section e n ≡ n
@@ -155,10 +147,10 @@ same_length plan e old new counts = go (counts_trains e.reply) refl where
   go true is = (counts.beside is).each
   go false is = ap length (counts.none is)
 
-held_more : (plan : PlanFields) (es : List Entry) (i : ℕ) (e : Entry) (old new : List (ByWay HeldTrains))
-    → IsPlan plan → IsLegal plan (take i es) → IsEntryAt plan es i e → CountsOn plan e old new
-    → AreHeld plan es i old → AreHeld plan es (i + 1) new
-held_more plan es i e old new is legal at counts h =
+held_more : (plan : PlanFields) (es : List Entry) (count : ℕ) (e : Entry) (old new : List (ByWay HeldTrains))
+    → IsPlan plan → IsNext plan es e → CountsOn plan e old new → AreHeld plan (state_of plan es) count old
+    → AreHeld plan (after_entry plan (state_of plan es) e) (count + 1) new
+held_more plan es count e old new is next counts h =
     let each = same_length plan e old new counts in
     let all = h.each in
     record {
@@ -168,7 +160,7 @@ held_more plan es i e old new is legal at counts h =
           let in_line = is_between plan p way (omega (arith, within, all)) in
           now_then plan e old new p way counts within
           ∙ ap (λ (n : ℕ). held_after plan (section_between p way) e n) (h.held p way within)
-          ∙ sym (held_next plan es i e (section_between p way) is legal in_line at);
+          ∙ sym (held_next plan es e (section_between p way) is in_line next);
       few = λ p way lt.
           let within : p < length old = omega (arith, lt, each) in
           let now = now_then plan e old new p way counts within in
@@ -177,16 +169,17 @@ held_more plan es i e old new is legal at counts h =
           omega (arith, now, one, before);
     }
 
--- one entry more of a list, whose trains are then written back
-pub held_at : (plan : PlanFields) (es : List Entry) (i : ℕ) (e : Entry) (len : ℕ) (old new : List (ByWay HeldTrains))
-    → IsPlan plan → IsLegal plan (take i es) → IsEntryAt plan es i e → CountsOn plan e old new → len ≡ length old
-    → AreHeld plan es i old → AreHeld plan es (i + 1) (take len (new ++ drop (length new) old))
-held_at plan es i e len old new is legal at counts same h =
+-- the same where the trains are written back
+pub held_at : (plan : PlanFields) (es : List Entry) (count : ℕ) (e : Entry) (len : ℕ)
+    (old new : List (ByWay HeldTrains)) → IsPlan plan → IsNext plan es e → CountsOn plan e old new → len ≡ length old
+    → AreHeld plan (state_of plan es) count old
+    → AreHeld plan (after_entry plan (state_of plan es) e) (count + 1) (take len (new ++ drop (length new) old))
+held_at plan es count e len old new is next counts same h =
     let each = same_length plan e old new counts in
     let written : take len (new ++ drop (length new) old) ≡ new =
     take_at new (drop (length new) old) len (each ∙ sym same) in
-    subst (λ (trains : List (ByWay HeldTrains)). AreHeld plan es (i + 1) trains) (sym written)
-    (held_more plan es i e old new is legal at counts h)
+    subst (λ (ts : List (ByWay HeldTrains)). AreHeld plan (after_entry plan (state_of plan es) e) (count + 1) ts)
+    (sym written) (held_more plan es count e old new is next counts h)
 
 -- ---- the section of a turned line
 
@@ -257,24 +250,23 @@ same_section : (b : ℕ) (way : Way) → section_between (pair_into b way) way �
 same_section b Up = refl
 same_section b Down = refl
 
-held_by_deed : (deed : Deed) (plan : PlanFields) (es : List Entry) (i : ℕ) (e : Entry)
+held_by_deed : (deed : Deed) (plan : PlanFields) (state : LineState) (count : ℕ) (e : Entry)
     (trains : List (ByWay HeldTrains)) → deed_of plan e ≡ deed → IsTrue (knows_act plan e.box_no e.call.act)
-    → AreHeld plan es i trains
-    → held_told trains e.box_no deed ≡ held_beside plan (state_of plan (take i es)) e.box_no deed
-held_by_deed (deeds.Turned way position) plan es i e trains is known h =
+    → AreHeld plan state count trains
+    → held_told trains e.box_no deed ≡ held_beside plan state e.box_no deed
+held_by_deed (deeds.Turned way position) plan state count e trains is known h =
     let there = pair_there (length plan.boxes) e.box_no way
     (turned_comes plan e.box_no e.call.act e.reply way position is known) in
     let each = h.each in
     h.held (pair_into e.box_no way) way (omega (arith, there, each))
-    ∙ ap (λ (section : Section). held_by plan (state_of plan (take i es)) section) (same_section e.box_no way)
-held_by_deed deed plan es i e trains is known h = refl
+    ∙ ap (λ (section : Section). held_by plan state section) (same_section e.box_no way)
+held_by_deed deed plan state count e trains is known h = refl
 
 -- how many trains the section of a turned line holds after the entry
-pub held_turned : (plan : PlanFields) (es : List Entry) (i : ℕ) (e : Entry) (trains : List (ByWay HeldTrains))
-    → IsEntryAt plan es i e → AreHeld plan es (i + 1) trains
+pub held_turned : (plan : PlanFields) (es : List Entry) (count : ℕ) (e : Entry) (trains : List (ByWay HeldTrains))
+    → IsNext plan es e → AreHeld plan (after_entry plan (state_of plan es) e) count trains
     → held_told trains e.box_no (deed_of plan e)
-    ≡ held_beside plan (after_entry plan (state_of plan (take i es)) e) e.box_no (deed_of plan e)
-held_turned plan es i e trains at h =
-    held_by_deed (deed_of plan e) plan es (i + 1) e trains refl
-    (known_parts plan e.box_no e.call at.may.known).act h
-    ∙ ap (λ (s : LineState). held_beside plan s e.box_no (deed_of plan e)) at.state
+    ≡ held_beside plan (after_entry plan (state_of plan es) e) e.box_no (deed_of plan e)
+held_turned plan es count e trains next h =
+    held_by_deed (deed_of plan e) plan (after_entry plan (state_of plan es) e) count e trains refl
+    (known_parts plan e.box_no e.call next.may.known).act h

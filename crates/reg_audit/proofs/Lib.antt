@@ -8,4 +8,5 @@ pub mod BoxMarks
 pub mod InOrder
 pub mod Exactly
 pub mod HeldKept
-pub mod GoesOn
+pub mod EntryAudited
+pub mod HeardAudited

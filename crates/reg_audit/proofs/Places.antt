@@ -1,5 +1,5 @@
 -- An entry of a legal journal at its place.
-use Rattle.std.proofs.Common.{◌≡◌, ℕ, ◌+◌, ◌<◌, List, ◌∷◌, ◌++◌, length, take, drop, get_or, Some, slice_get}
+use Rattle.std.proofs.Common.{◌≡◌, ℕ, ◌+◌, ◌<◌, List, [], ◌∷◌, ◌++◌, length, take, drop, get_or, Some, slice_get}
 use Rattle.std.proofs.Common.{sym, ap, subst, ◌∙◌}
 use Rattle.std.proofs.lemmas.List.{drop_more, take-append-drop, take_more}
 use Rattle.std.proofs.lemmas.Option.{slice_get-get_or}
@@ -42,3 +42,21 @@ entry_at plan es i d legal within =
 pub legal_before : (plan : PlanFields) (es : List Entry) (i : ℕ) → IsLegal plan es → IsLegal plan (take i es)
 legal_before plan es i legal = prefix_legal plan (take i es) (drop i es)
     (subst (λ (xs : List Entry). IsLegal plan xs) (sym (take-append-drop i es)) legal)
+
+-- Behind a legal journal comes this entry, with which it is one again: the entry is of a box of the line, its call may
+-- be made there, and its reply is the law's.
+pub record IsNext (plan : PlanFields) (es : List Entry) (e : Entry) : Type 0 where
+  pub before : IsLegal plan es
+  pub may : MayCall plan (state_of plan es) e.box_no e.call
+  pub told : e.reply ≡ (step plan (state_of plan es) e.box_no e.call).reply
+  pub box_no : e.box_no < length plan.boxes
+
+pub is_next : (plan : PlanFields) (es : List Entry) (e : Entry) → IsLegal plan (es ++ e ∷ []) → IsNext plan es e
+is_next plan es e legal =
+    let found = entry_determined plan es [] e legal in
+    record {
+      before = prefix_legal plan es (e ∷ []) legal;
+      may = found.0;
+      told = ap (λ (x : Entry). x.reply) found.1;
+      box_no = known_box plan e.box_no e.call found.0.known;
+    }

@@ -4,5 +4,6 @@ pub mod Rules
 pub mod Breaches
 pub mod Marks
 pub mod Held
+pub mod Auditors
 pub mod Audits
 pub mod Texts

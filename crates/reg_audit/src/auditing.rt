@@ -16,6 +16,7 @@ use line_plan::Plan;
 use line_report::{HeldTrains, count_on, no_trains};
 use rail_text::NoMemory;
 use std::alloc::Global;
+use std::marker::Model;
 
 // All rules in their order.
 const ALL_RULES: [Rule; 9] = [
@@ -73,26 +74,86 @@ fn add_breaches(
     Ok(())
 }
 
+/// An audit of a legal history that goes on entry by entry, with a few marks for each side of each box. Contracts see
+/// the marks of each box, the trains of each pair of neighbours, how many entries were heard, and their breaches.
+#[derive(Drop)]
+pub(crate) struct Auditor {
+    marks: Vec<ByWay<SideMarks>>,
+    trains: Vec<ByWay<HeldTrains>>,
+    count: u32,
+    found: Vec<Breach>,
+}
+
+impl Model for Auditor {
+    ghost use Rattle.reg_audit.specs.Auditors.{AuditorFields};
+
+    ghost Value = { AuditorFields };
+
+    ghost view = { λ auditor. record {
+      marks = auditor.marks.items;
+      trains = auditor.trains.items;
+      count = auditor.count;
+      found = auditor.found.items;
+    } };
+}
+
+impl Auditor {
+    ghost use Rattle.std.specs.Prelude.{◌≡◌, [], ◌∷◌, ◌++◌, List, IfOk, OnOk};
+    ghost use Rattle.line_law.specs.declared.call.Entry.{Entry};
+    ghost use Rattle.line_law.specs.History.{IsLegal};
+    ghost use Rattle.reg_audit.specs.Auditors.{ComesNext, HasAudited};
+
+    /// An audit of a plan's line of which no entry was heard.
+    pub(crate) fn open(alloc: Global, plan: &Plan) -> Result<Auditor, NoMemory>
+        ensures { IfOk result (λ auditor. HasAudited plan.now [] auditor) }
+    {
+        plan.meets_conditions();
+        let boxes = plan.boxes.len();
+        Ok(Auditor {
+            marks: no_marks(alloc, boxes)?,
+            trains: no_trains(alloc, boxes - 1)?,
+            count: 0,
+            found: Vec::new(alloc),
+        })
+    }
+
+    /// Hears an entry more, behind those of a legal history, which with it is one again.
+    pub(crate) fn hear(&mut self, plan: &Plan, entry: &Entry) -> Result<(), NoMemory>
+        requires { ComesNext plan.now self.old entry.now }
+        ensures { (es : List Entry) → HasAudited plan.now es self.old → IsLegal plan.now (es ++ entry.now ∷ [])
+            → OnOk result (HasAudited plan.now (es ++ entry.now ∷ []) self.new) }
+    {
+        plan.meets_conditions();
+        let at = entry.box_no as usize;
+        let deed = deed_of(plan, entry);
+        count_on(&mut self.trains, plan, entry);
+        let held = held_told(&self.trains, entry.box_no, &deed);
+        let here = self.marks[at];
+        self.count += 1;
+        add_breaches(&mut self.found, plan, self.count, &here, held, &deed)?;
+        self.marks[at] = marks_after(plan, &deed, &here);
+        Ok(())
+    }
+
+    /// The breaches of the entries so far.
+    pub(crate) fn into_found(self) -> Vec<Breach>
+        ensures { result.items ≡ self.found }
+    {
+        self.found
+    }
+}
+
 // The breaches of a journal, entry by entry.
 fn breaches_in(alloc: Global, plan: &Plan, entries: &[Entry]) -> Result<Vec<Breach>, NoMemory>
     requires legal { IsLegal plan.now entries.now }
     requires few { AreFewEntries entries.now }
     ensures { IfOk result (λ breaches. breaches.items ≡ breaches_of plan.now entries.now) }
 {
-    plan.meets_conditions();
-    let mut marks = no_marks(alloc, plan.boxes.len())?;
-    let mut trains = no_trains(alloc, plan.boxes.len() - 1)?;
-    let mut found = Vec::new(alloc);
-    for (place, entry) in entries.iter().enumerate() {
-        let at = entry.box_no as usize;
-        let deed = deed_of(plan, entry);
-        count_on(&mut trains, plan, entry);
-        let held = held_told(&trains, entry.box_no, &deed);
-        let here = marks[at];
-        add_breaches(&mut found, plan, place as u32 + 1, &here, held, &deed)?;
-        marks[at] = marks_after(plan, &deed, &here);
+    let mut auditor = Auditor::open(alloc, plan)?;
+    for entry in entries {
+        auditor.hear(plan, entry)?;
     }
-    Ok(found)
+    Ok(auditor.into_found())
 }
 
 /// Audits a legal journal: each entry that breaks one of the nine rules is named with the rule, and nothing else is; by

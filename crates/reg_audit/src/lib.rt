@@ -9,6 +9,7 @@ mod laws;
 mod marks;
 mod printing;
 mod rule;
+mod text_audit;
 
 pub use auditing::audit;
 pub use bell::{BellEntry, BellKind};
@@ -16,3 +17,4 @@ pub use deed::Deed;
 pub use laws::audit_law;
 pub use printing::print_audit;
 pub use rule::{Breach, Rule};
+pub use text_audit::audit_text;

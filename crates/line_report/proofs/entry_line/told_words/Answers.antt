@@ -1,4 +1,4 @@
-use Rattle.std.proofs.Common.{◌≡◌, ◌∙◌, arith, sym, ap, Some}
+use Rattle.std.proofs.Common.{◌∙◌, sym, ap, Some}
 use Rattle.line_report.proofs.Arrows.{told_are, told_before, told_behind, told_whole}
 use Rattle.line_report.proofs.entry_line.told_words.Goals as goal
 

@@ -1,8 +1,7 @@
-use Rattle.std.proofs.Common.{◌≡◌, ℕ, ◌+◌, sym, ap, ◌∙◌}
+use Rattle.std.proofs.Common.{ℕ, ◌+◌, ap, ◌∙◌}
 use Rattle.line_plan.specs.Plans.{IsPlan}
 use Rattle.line_law.specs.Law.{Done}
 use Rattle.line_law.specs.Lines.{PlainState}
-use Rattle.line_law.specs.States.{opening_state}
 use Rattle.line_report.proofs.Turns.{asked_begins, asked_more}
 use Rattle.line_report.proofs.judging.may_perform_all.Goals as goal
 
