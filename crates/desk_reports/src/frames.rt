@@ -10,8 +10,8 @@ ghost use Rattle.text_fetch.specs.FromTexts.{Makes};
 use line_plan::{BoxPlan, Kind, Lever, Plan, kind_word};
 use locking_table::{Row, put_row};
 use rail_text::{Cause, Shelf};
+use script_text::put_number;
 use std::alloc::{AllocError, Global};
-use std::fmt::Write;
 use text_fetch::{Stop, fetch_plan};
 
 // The colour in which the levers of a kind are painted.
@@ -32,12 +32,13 @@ fn colour_word(kind: Kind) -> &'static str
 fn put_lever(out: &mut String, lever: Lever) -> Result<(), AllocError>
     ensures { OnOk result (string_bytes out.new ≡ string_bytes out.old ++ lever_text lever) }
 {
-    let number = lever.number;
-    write!(out, "lever {number} ")?;
+    out.push_str("lever ")?;
+    put_number(out, u64::from(lever.number))?;
+    out.push(' ')?;
     out.push_str(kind_word(lever.kind))?;
-    out.push_str(" ")?;
+    out.push(' ')?;
     out.push_str(colour_word(lever.kind))?;
-    out.push_str("\n")
+    out.push('\n')
 }
 
 // The lines of all levers.
@@ -55,9 +56,10 @@ fn put_levers(out: &mut String, levers: &[Lever]) -> Result<(), AllocError>
 fn put_numbered(out: &mut String, number: usize, row: &Row) -> Result<(), AllocError>
     ensures { OnOk result (string_bytes out.new ≡ string_bytes out.old ++ numbered_row number row.now) }
 {
-    write!(out, "{number} ")?;
+    put_number(out, number as u64)?;
+    out.push(' ')?;
     put_row(out, row)?;
-    out.push_str("\n")
+    out.push('\n')
 }
 
 // The lines of all rows.
@@ -77,11 +79,12 @@ fn put_frame(out: &mut String, box_plan: &BoxPlan) -> Result<(), AllocError>
 {
     out.push_str("frame ")?;
     out.push_str(box_plan.name.as_str())?;
-    out.push_str("\n")?;
+    out.push('\n')?;
     put_levers(out, box_plan.levers.as_slice())?;
     let rows = box_plan.table.rows();
-    let count = rows.len();
-    write!(out, "rows {count}\n")?;
+    out.push_str("rows ")?;
+    put_number(out, rows.len() as u64)?;
+    out.push('\n')?;
     put_rows(out, rows)
 }
 
