@@ -11,9 +11,13 @@ use Rattle.text_fetch.specs.Runs.{Run}
 use Rattle.text_fetch.specs.declared.stop.Stop.{Stop}
 use Rattle.line_runs.specs.Worked.{IsJournalOf}
 
--- a journal as it is printed, the registers of the boxes, the refused calls, and the most trains that each section held
+-- what came of a run: the refused calls, and the most trains that each section held
+abbrev pub result_text : PlanFields → List Entry → List ℕ
+result_text plan es = refusals_text plan es ++ sections_text plan es
+
+-- a journal as it is printed, the registers of the boxes, and what came of the run
 unfoldable pub output_text : PlanFields → List Entry → List ℕ
-output_text plan es = journal_text plan es ++ registers_text plan es ++ refusals_text plan es ++ sections_text plan es
+output_text plan es = journal_text plan es ++ (registers_text plan es ++ result_text plan es)
 
 -- a text is the whole output of a journal of this run
 abbrev pub IsOutputOf : Run → List ℕ → Type 0

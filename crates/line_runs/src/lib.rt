@@ -3,6 +3,7 @@
 #![tactic(auto)]
 
 mod look;
+mod output;
 mod roster;
 mod run;
 mod serial;

@@ -1,61 +1,18 @@
 //! The output of a run, built whole.
 
-ghost use Rattle.std.specs.Prelude.{◌≡◌, ◌++◌, ◌∷◌, ℕ, List, All, IfOk, IsErrOf, OnOk, string_bytes};
-ghost use Rattle.line_law.specs.History.{IsLegal};
-ghost use Rattle.line_report.specs.Asked.{AreFewEntries};
-ghost use Rattle.script_text.specs.Entries.{IsSpelled};
+ghost use Rattle.std.specs.Prelude.{◌≡◌, ◌∷◌, ℕ, List, IfOk, IsErrOf};
 ghost use Rattle.text_fetch.specs.FromTexts.{HasShelfFault, named};
 ghost use Rattle.text_fetch.specs.Runs.{AreScriptsOf, run_told, run_told_before};
-ghost use Rattle.train_register.specs.Registers.{AreParts, IsPrintable};
-ghost use Rattle.line_runs.specs.Outputs.{IsOutputOf, MakesText, output_text};
+ghost use Rattle.line_runs.specs.Outputs.{IsOutputOf, MakesText};
 
-use crate::worked::{WorkedLine, worked_line};
-use line_plan::Plan;
-use line_report::{put_journal, put_refusals, put_sections};
+use crate::output::print_output;
+use crate::worked::worked_line;
 use line_working::Gate;
 use rail_text::{NoMemory, Shelf};
 use std::alloc::Global;
 use std::sync::Wait;
 use std::thread::Threads;
 use text_fetch::{Inputs, Stop, fetch_inputs};
-use train_register::put_registers;
-
-/// Puts the whole output of a line that was worked behind a text: the journal, the registers, the refused calls and the
-/// sections.
-#[tactic(auto, unfolding(crate::specs::Outputs::output_text))]
-pub(crate) fn put_output(
-    out: &mut String,
-    alloc: Global,
-    plan: &Plan,
-    line: &WorkedLine,
-) -> Result<(), NoMemory>
-    requires legal { IsLegal plan.now line.now.journal.entries }
-    requires few { AreFewEntries line.now.journal.entries }
-    requires spelled { All (IsSpelled plan.now) line.now.journal.entries }
-    requires parts { AreParts plan.now line.now.journal.entries line.now.ended.registers }
-    requires printable { All (IsPrintable plan.now) line.now.ended.registers }
-    ensures { OnOk result
-        (string_bytes out.new ≡ string_bytes out.old ++ output_text plan.now line.now.journal.entries) }
-{
-    put_journal(out, plan, &line.journal)?;
-    put_registers(out, plan, &line.ended)?;
-    put_refusals(out, plan, &line.journal)?;
-    put_sections(out, alloc, plan, &line.journal)
-}
-
-// The whole output of a line that was worked.
-fn line_output(alloc: Global, plan: &Plan, line: &WorkedLine) -> Result<Vec<u8>, NoMemory>
-    requires legal { IsLegal plan.now line.now.journal.entries }
-    requires few { AreFewEntries line.now.journal.entries }
-    requires spelled { All (IsSpelled plan.now) line.now.journal.entries }
-    requires parts { AreParts plan.now line.now.journal.entries line.now.ended.registers }
-    requires printable { All (IsPrintable plan.now) line.now.ended.registers }
-    ensures { IfOk result (λ text. text.items ≡ output_text plan.now line.now.journal.entries) }
-{
-    let mut out = String::new(alloc);
-    put_output(&mut out, alloc, plan, line)?;
-    Ok(out.into_bytes())
-}
 
 // The whole output of a plan and its scripts.
 fn run_output<R: Threads + Wait + Sync, G: Gate>(
@@ -69,7 +26,7 @@ fn run_output<R: Threads + Wait + Sync, G: Gate>(
         (λ text. IsOutputOf (record { plan = inputs.now.plan; scripts = inputs.now.scripts.items }) text.items) }
 {
     let line = worked_line(rt, alloc, &inputs.plan, &inputs.scripts, gate)?;
-    let text = line_output(alloc, &inputs.plan, &line);
+    let text = print_output(rt, alloc, &inputs.plan, &line);
     drop(line);
     text
 }

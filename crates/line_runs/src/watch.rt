@@ -1,16 +1,17 @@
 //! The output of a run that is watched, built whole.
 
-ghost use Rattle.std.specs.Prelude.{◌≡◌, ◌≤◌, ◌++◌, ◌∷◌, ℕ, List, IfOk, IsErrOf, OnOk, length, string_bytes};
+ghost use Rattle.std.specs.Prelude.{◌≡◌, ◌≤◌, ◌∷◌, ℕ, List, IfOk, IsErrOf, length, string_bytes};
 ghost use Rattle.text_fetch.specs.FromTexts.{HasShelfFault, named};
 ghost use Rattle.text_fetch.specs.Runs.{AreScriptsOf, run_told, run_told_before};
+ghost use Rattle.line_watch.specs.Boards.{board_text};
 ghost use Rattle.line_runs.specs.Outputs.{MakesText};
 ghost use Rattle.line_runs.specs.Watched.{IsWatchOf, watch_text};
 ghost use Rattle.line_runs.specs.Worked.{CanBePrinted};
 
-use crate::run::put_output;
+use crate::output::print_output;
 use crate::watched::{WatchedLine, watched_line};
 use line_plan::Plan;
-use line_watch::put_board;
+use line_watch::{Board, put_board};
 use line_working::Gate;
 use rail_text::{NoMemory, Shelf};
 use std::alloc::Global;
@@ -18,33 +19,33 @@ use std::sync::Wait;
 use std::thread::Threads;
 use text_fetch::{Inputs, Stop, fetch_inputs};
 
-// Puts the whole output of a line that was watched behind a text: that of a run, and the board.
+// The board of a line as it is printed.
+fn print_board(alloc: Global, plan: &Plan, board: &Board) -> Result<String, NoMemory>
+    requires { board.now.boxes ≡ length plan.now.boxes }
+    ensures { IfOk result (λ text. string_bytes text ≡ board_text plan.now board.now.rounds) }
+{
+    let mut text = String::new(alloc);
+    put_board(&mut text, plan, board)?;
+    Ok(text)
+}
+
+// The whole output of a line that was watched: that of a run, and the board.
 #[tactic(auto, unfolding(crate::specs::Watched::watch_text))]
-fn put_watch(
-    out: &mut String,
+fn watched_output<R: Threads + Sync>(
+    rt: &R,
     alloc: Global,
     plan: &Plan,
     watched: &WatchedLine,
-) -> Result<(), NoMemory>
-    requires printed { CanBePrinted plan.now watched.now.worked.journal.entries watched.now.worked.ended.registers }
-    requires board { watched.now.board.boxes ≡ length plan.now.boxes }
-    ensures { OnOk result (string_bytes out.new ≡ string_bytes out.old
-        ++ watch_text plan.now watched.now.worked.journal.entries watched.now.board.rounds) }
-{
-    put_output(out, alloc, plan, &watched.worked)?;
-    Ok(put_board(out, plan, &watched.board)?)
-}
-
-// The whole output of a line that was watched.
-fn watched_output(alloc: Global, plan: &Plan, watched: &WatchedLine) -> Result<Vec<u8>, NoMemory>
+) -> Result<Vec<u8>, NoMemory>
     requires printed { CanBePrinted plan.now watched.now.worked.journal.entries watched.now.worked.ended.registers }
     requires board { watched.now.board.boxes ≡ length plan.now.boxes }
     ensures { IfOk result (λ text. text.items
         ≡ watch_text plan.now watched.now.worked.journal.entries watched.now.board.rounds) }
 {
-    let mut out = String::new(alloc);
-    put_watch(&mut out, alloc, plan, watched)?;
-    Ok(out.into_bytes())
+    let board = print_board(alloc, plan, &watched.board)?;
+    let mut text = print_output(rt, alloc, plan, &watched.worked)?;
+    text.extend_from_slice(board.as_bytes())?;
+    Ok(text)
 }
 
 // The whole output of a plan and its scripts, watched for so many rounds.
@@ -61,7 +62,7 @@ fn watch_output<R: Threads + Wait + Sync, G: Gate>(
         (record { plan = inputs.now.plan; scripts = inputs.now.scripts.items }) text.items) }
 {
     let watched = watched_line(rt, alloc, &inputs.plan, &inputs.scripts, rounds, gate)?;
-    let text = watched_output(alloc, &inputs.plan, &watched);
+    let text = watched_output(rt, alloc, &inputs.plan, &watched);
     drop(watched);
     text
 }
