@@ -74,6 +74,7 @@ pub(crate) fn print_output<R: Threads + Sync>(
     let registers = registers?;
     let (mut text, result) = pair?;
     text.extend_from_slice(registers.as_bytes())?;
+    drop(registers);
     text.extend_from_slice(result.as_bytes())?;
     Ok(text)
 }
