@@ -370,10 +370,6 @@ fn compare(rt: &impl Abort, alloc: Global, row: &Row) {
                 "from want of memory",
                 NoMemory::from(AllocError) == NoMemory,
             ),
-            (
-                "a fault from it",
-                RowError::from(AllocError) == RowError::NoMemory,
-            ),
         ],
     );
 }

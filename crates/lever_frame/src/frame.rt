@@ -122,8 +122,8 @@ impl LeverFrame {
         self.lock_reply(lever, tracks)
     }
 
-    /// Reverses a lever that nothing holds, as `pull_test` answered; its arm, if it has one, goes off. Nothing is
-    /// tested again.
+    /// Reverses a lever that no row holds; its arm, if it has one, goes off. Whether its track circuits are clear is
+    /// asked before, by `pull_test`: nothing is tested again.
     pub fn reverse(&mut self, lever: u32)
         requires lever { IsLever (length self.old.ends) lever }
         requires normal { end_at self.old.ends lever ≡ NormalEnd }

@@ -1,7 +1,7 @@
 -- A row that holds with a lever at mid holds with it at any other place: with it at mid each condition on it acts, and
 -- it breaks every kind. So the row lets the lever move where it holds with it at mid.
-use Rattle.std.proofs.Common.{◌≡◌, ℕ, List, [], ◌∷◌, Bool, true, false, not, ◌&&◌, ◌==◌, if◌then◌else◌, refl, ap, ◌+◌, ◌≤◌, ◌∙◌}
-use Rattle.std.proofs.Common.{arith, inl, inr}
+use Rattle.std.proofs.Common.{◌≡◌, ℕ, List, [], ◌∷◌, Bool, true, false, not, ◌&&◌, ◌==◌, if◌then◌else◌, refl, ap, ◌+◌}
+use Rattle.std.proofs.Common.{◌≤◌, ◌∙◌, arith, inl, inr}
 use Rattle.std.proofs.lemmas.Bool.Decides.{eqb_tells}
 use mir.Val.{bool_byte}
 use Rattle.std.specs.List.{list_all}

@@ -1,7 +1,6 @@
 //! Why no row is read of a text.
 
 use crate::memory::NoMemory;
-use std::alloc::{AllocError, AllocFailed};
 
 /// Why a text spells no row.
 #[derive(Clone, Copy, Debug, PartialEq, Eq, Hash)]
@@ -46,28 +45,6 @@ impl From<NoMemory> for RowError {
     ghost from_gives = { λ _ e. e ≡ errors.NoMemory };
 
     fn from(_: NoMemory) -> RowError {
-        RowError::NoMemory
-    }
-}
-
-impl From<AllocError> for RowError {
-    ghost use Rattle.std.specs.Prelude.{◌≡◌};
-    ghost use Rattle.locking_table.specs.declared.fault.RowError.TheVariants as errors;
-
-    ghost from_gives = { λ _ e. e ≡ errors.NoMemory };
-
-    fn from(_: AllocError) -> RowError {
-        RowError::NoMemory
-    }
-}
-
-impl<T: Drop> From<AllocFailed<T>> for RowError {
-    ghost use Rattle.std.specs.Prelude.{◌≡◌};
-    ghost use Rattle.locking_table.specs.declared.fault.RowError.TheVariants as errors;
-
-    ghost from_gives = { λ _ e. e ≡ errors.NoMemory };
-
-    fn from(_: AllocFailed<T>) -> RowError {
         RowError::NoMemory
     }
 }

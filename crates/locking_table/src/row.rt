@@ -214,8 +214,8 @@ impl Row {
 
     /// Whether the row lets a lever move to its other end: it holds with the lever at mid and at its new end.
     ///
-    /// With the lever at mid each condition on it acts, and it breaks every kind: what holds there holds at the new end.
-    /// What makes the row hold is counted, and not looked for part by part.
+    /// With the lever at mid each condition on it acts, and it breaks every kind: what holds there holds at the new
+    /// end. What makes the row hold is counted, and not looked for part by part.
     pub fn allows(&self, ends: &[End], lever: u32) -> bool
         requires lever { IsLever (length ends.now) lever }
         requires row { RowFits (length ends.now) self.now }

@@ -37,8 +37,8 @@ pub fn upgrade(alloc: Global, plan: &Plan) -> Result<Plan, NoMemory>
     })
 }
 
-/// The same plan in version 2, as `upgrade` gives it, of a plan that is no longer needed: nothing of it is copied, so it
-/// never fails.
+/// The same plan in version 2, as `upgrade` gives it, of a plan that is no longer needed: nothing of it is copied, so
+/// it never fails.
 pub fn into_upgraded(plan: Plan) -> Plan
     ensures { result ≡ upgraded plan }
 {
