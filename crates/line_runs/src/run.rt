@@ -48,7 +48,7 @@ pub fn run_outcome<R: Threads + Wait + Sync, S: Shelf, G: Gate>(
         (run_told_before (S.held shelf.old) plan_name.now (named script_names.now)) }
     ensures same { (n : List ℕ) → S.held shelf.new n ≡ S.held shelf.old n }
 {
-    let inputs = fetch_inputs(alloc, shelf, plan_name, script_names)?;
+    let inputs = fetch_inputs(rt, alloc, shelf, plan_name, script_names)?;
     let text = run_output(rt, alloc, &inputs, gate);
     drop(inputs);
     match text {

@@ -86,7 +86,7 @@ pub fn watch_outcome<R: Threads + Wait + Sync, S: Shelf, G: Gate>(
         (run_told_before (S.held shelf.old) plan_name.now (named script_names.now)) }
     ensures same { (n : List ℕ) → S.held shelf.new n ≡ S.held shelf.old n }
 {
-    let inputs = fetch_inputs(alloc, shelf, plan_name, script_names)?;
+    let inputs = fetch_inputs(rt, alloc, shelf, plan_name, script_names)?;
     let text = watch_output(rt, alloc, rounds, &inputs, gate);
     drop(inputs);
     match text {

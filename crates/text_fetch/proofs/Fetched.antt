@@ -1,9 +1,11 @@
 -- A text that is fetched, and what reading it gives.
-use Rattle.std.proofs.Common.{◌≡◌, ℕ, ◌+◌, List, take, Option, Some, None, Result, Ok, Err, IfSome, refl, sym, ap, ◌∙◌}
+use Rattle.std.proofs.Common.{◌≡◌, ℕ, ◌+◌, List, take, Option, Some, None, Result, Ok, Err, IfSome, IsErrOf, refl, sym}
+use Rattle.std.proofs.Common.{ap, ◌∙◌}
 use Rattle.rail_text.specs.Gives.{Fault, FailsText}
 use Rattle.rail_text.specs.declared.cause.ReadError.{ReadError}
 use Rattle.rail_text.specs.declared.cause.ReadError.TheVariants as errors
 use Rattle.text_fetch.specs.declared.stop.Stop.{Stop}
+use Rattle.text_fetch.specs.declared.stop.Stop.TheVariants as stops
 use Rattle.text_fetch.specs.FromTexts.{text_told, IsGiven, IsRefused, StopsAt}
 use Rattle.text_fetch.specs.Fetches.{IsStopOf}
 
@@ -31,3 +33,9 @@ pub fetched_stops : {A : Type 0} (n most : ℕ) (read : List ℕ → Result A Fa
 fetched_stops n most read o items (errors.Refused line cause) stop looks told e is =
     rw is (fetched_refused n most read o items (record { line = line; cause = cause }) looks told e)
 fetched_stops n most read o items errors.NoMemory stop looks told e is = rw is tt
+
+-- a reader stops at no fault of the shelf
+pub never_fetched : {A : Type 0} (text : ℕ) (error : ReadError) (stop : Stop) → IsStopOf text error stop
+    → IsErrOf {T = A} (Err stop) stops.ShelfFault → ⊥
+never_fetched text (errors.Refused line cause) stop is e = absurd cc
+never_fetched text errors.NoMemory stop is e = absurd cc

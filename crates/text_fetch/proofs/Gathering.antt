@@ -1,9 +1,11 @@
 -- One script after another.
 use Rattle.std.proofs.Common.{◌≡◌, ℕ, zero, suc, ◌+◌, ◌<◌, ◌≤◌, List, [], ◌∷◌, ◌++◌, length, take, drop, get_or, map}
 use Rattle.std.proofs.Common.{Some, slice_get, refl, sym, ap, subst, ◌∙◌, arith, add-one, drop-cons}
+use Rattle.std.proofs.Common.{Result, slice_index_or}
 use Rattle.std.specs.Borrow.{Bor}
-use Rattle.std.proofs.lemmas.List.{length-append, take_more, take_all, take-append-drop}
-use Rattle.rail_text.specs.Causes.{Rose}
+use Rattle.std.specs.Global.{Vec}
+use Rattle.std.proofs.Math.Seq.{get_or-append_seam}
+use Rattle.std.proofs.lemmas.List.{get_or-take, length-append, length-take-le, take_more, take_all, take-append-drop}
 use Rattle.rail_text.specs.Gives.{Fault}
 use Rattle.line_plan.specs.Plans.{PlanFields}
 use Rattle.script_text.specs.Scripts.{IsScriptOf, script_of}
@@ -11,8 +13,9 @@ use Rattle.script_text.specs.declared.script.Script.{Script}
 use Rattle.text_fetch.specs.declared.stop.Stop.{Stop}
 use Rattle.text_fetch.specs.declared.stop.Stop.TheVariants as stops
 use Rattle.text_fetch.specs.FromTexts.{Held, FromTexts, Untold, Gives, Refuses, told_then, text_told, IsGiven}
-use Rattle.text_fetch.specs.FromTexts.{IsRefused, IsNotRefused, StopsAt}
-use Rattle.text_fetch.specs.Runs.{HasScriptFault, scripts_told}
+use Rattle.text_fetch.specs.FromTexts.{IsRefused, IsNotRefused, Makes, StopsAt}
+use Rattle.text_fetch.specs.Fetches.{AreEachRead, AreFetched, IsScriptRead}
+use Rattle.text_fetch.specs.Runs.{scripts_told}
 
 then_then : {A B C : Type 0} (t : FromTexts A) (f : A → FromTexts B) (g : B → FromTexts C)
     → told_then (told_then t f) g ≡ told_then t (λ x. told_then (f x) g)
@@ -132,17 +135,62 @@ all_read held plan names i done le h =
 pub none_read : (held : Held) (plan : PlanFields) (names : List (List ℕ)) → AreRead held plan names 0 []
 none_read held plan names = record { count = refl; given = refl }
 
-pub fault_here : (held : Held) (before now : List ℕ → ℕ) (plan : PlanFields) (names : List (List ℕ)) (i : ℕ)
-    (done : List Script) (name : List ℕ) → i < length names → name ≡ get_or names i [] → AreRead held plan names i done
-    → Rose (before name) (now name) → HasScriptFault held before now plan names
-fault_here held before now plan names i done name lt e h rose =
+-- ---- texts that are fetched in turn
+
+-- the first of the names, as many as there are texts
+pub front_fetched : (held : Held) (names : List (List ℕ)) (texts : List (Vec ℕ)) → AreFetched held names texts
+    → AreFetched held (take (length texts) names) texts
+front_fetched held names texts h = record {
+  few = omega (arith, length-take-le (length texts) names h.few);
+  each = λ b d lt. rw (get_or-take (length texts) names b [] lt) (h.each b d lt);
+}
+
+-- ---- what is read of them
+
+some_text : (texts : List (Vec ℕ)) (i : ℕ) → i < length texts → Vec ℕ
+some_text [] i lt = absurd (omega (arith, lt))
+some_text (text ∷ texts) i lt = text
+
+-- the next of those that are each read: that of text i
+pub record IsNextRead (plan : PlanFields) (texts : List (Vec ℕ)) (i : ℕ) (read : Result Script Stop) : Type 0 where
+  pub within : i < length texts
+  pub text : Vec ℕ
+  pub is : IsScriptRead plan i (slice_index_or texts i text).items read
+
+pub next_read : (plan : PlanFields) (texts : List (Vec ℕ)) (before rest behind : List (Result Script Stop))
+    (next read : Result Script Stop) → AreEachRead plan texts (before ++ rest) → length (before ++ rest) ≡ length texts
+    → rest ≡ next ∷ behind → next ≡ read → IsNextRead plan texts (length before) read
+next_read plan texts before rest behind next read each count split same =
+    let i : ℕ = length before in
+    let whole : before ++ rest ≡ before ++ read ∷ behind =
+    ap (λ (rs : List (Result Script Stop)). before ++ rs) split
+    ∙ ap (λ (r : Result Script Stop). before ++ r ∷ behind) same in
+    let within : i < length texts = omega (arith, count, length-append before (read ∷ behind), ap length whole) in
+    let text : Vec ℕ = some_text texts i within in
+    let here : get_or (before ++ rest) i read ≡ read =
+    ap (λ (rs : List (Result Script Stop)). get_or rs i read) whole ∙ get_or-append_seam before read behind read in
     record {
-      place = i;
-      within = lt;
-      rose = rw e at rose;
-      free =
-          given_free done (scripts_told held plan [] (take i names)) h.given;
+      within = within;
+      text = text;
+      is = subst (λ (r : Result Script Stop). IsScriptRead plan i (slice_index_or texts i text).items r) here
+          (each i text read within);
     }
+
+-- what the names' texts are told to be, where these were fetched and read
+pub told_here : (held : Held) (plan : PlanFields) (names : List (List ℕ)) (texts : List (Vec ℕ)) (i : ℕ)
+    (read : Result Script Stop) (d : Vec ℕ) → AreFetched held names texts → i < length texts
+    → IsScriptRead plan i (slice_index_or texts i d).items read
+    → Makes (λ script. script) read (text_told (i + 2) (script_of plan i) (held (get_or names i [])))
+told_here held plan names texts i read d fetched lt is = is.told (held (get_or names i [])) (fetched.each i d lt)
+
+-- a stop at the first of the names is a stop at all
+pub stops_front : (held : Held) (plan : PlanFields) (names : List (List ℕ)) (n : ℕ) (stop : Stop)
+    → StopsAt stop (scripts_told held plan [] (take n names)) → StopsAt stop (scripts_told held plan [] names)
+stops_front held plan names n stop h =
+    subst (λ (all : List (List ℕ)). StopsAt stop (scripts_told held plan [] all)) (take-append-drop n names)
+    (rw (scripts_told-append held plan [] (take n names) (drop n names))
+    (stops_first stop (scripts_told held plan [] (take n names))
+    (λ all. scripts_told held plan all (drop n names)) h))
 
 -- ---- each is its box's script
 

@@ -20,10 +20,14 @@ abbrev pub count_told : PlanFields → ℕ → FromTexts (Unit {0})
 count_told plan count = if count == length plan.boxes then Gives tt
     else Refuses 1 (record { line = 0; cause = causes.ScriptCount })
 
+-- each is the script of its box, in box order
+abbrev pub AreOwn : PlanFields → List Script → Type 0
+AreOwn plan scripts = (b : ℕ) (script : Script) → slice_get scripts b ≡ Some script → IsScriptOf plan b script
+
 -- scripts of a line: one for each box, in box order
 pub record AreScriptsOf (plan : PlanFields) (scripts : List Script) : Type 0 where
   pub each : length scripts ≡ length plan.boxes
-  pub own : (b : ℕ) (script : Script) → slice_get scripts b ≡ Some script → IsScriptOf plan b script
+  pub own : AreOwn plan scripts
 
 -- a plan, and a script for each of its boxes
 pub record Run : Type 0 where

@@ -2,17 +2,15 @@
 
 ghost use Rattle.std.specs.Prelude.{◌≡◌, ℕ, ◌+◌, ◌≤◌, ◌<◌, ◌^◌, List, IfOk, IfErr, IfSome, IsErrOf, length, take};
 ghost use Rattle.rail_text.specs.Causes.{Rose};
-ghost use Rattle.line_plan.specs.Plans.{IsPlan};
 ghost use Rattle.plan_draft.specs.Reading.{plan_of};
-ghost use Rattle.script_text.specs.Scripts.{IsScriptOf, script_of};
 ghost use Rattle.text_fetch.specs.FromTexts.{Makes, text_told};
-ghost use Rattle.text_fetch.specs.Fetches.{IsNoRefusal, IsStopOf};
+ghost use Rattle.text_fetch.specs.Fetches.{IsNoRefusal, IsScriptRead, IsStopOf};
 
 use crate::stop::Stop;
 use line_plan::{PLAN_LIMIT, Plan};
 use plan_text::read_plan;
 use rail_text::{FetchFault, ReadError, Shelf};
-use script_text::{SCRIPT_LIMIT, Script, read_script};
+use script_text::{Script, read_script};
 use std::alloc::Global;
 
 /// The first bytes of a text: one more than the limit, if there are so many.
@@ -60,25 +58,13 @@ pub fn fetch_plan<S: Shelf>(alloc: Global, shelf: &mut S, name: &str) -> Result<
     }
 }
 
-/// The script of a box under a name, as text `box_no + 2`.
-pub fn fetch_script<S: Shelf>(
-    alloc: Global,
-    shelf: &mut S,
-    plan: &Plan,
-    box_no: u32,
-    name: &str,
-) -> Result<Script, Stop>
+/// The script of a box that a fetched text spells, as text `box_no + 2`.
+pub fn read_fetched(alloc: Global, plan: &Plan, box_no: u32, bytes: &[u8]) -> Result<Script, Stop>
     requires { box_no < length plan.now.boxes }
-    ensures script { Makes (λ script. script) result
-        (text_told (box_no + 2) (script_of plan.now box_no) (S.held shelf.old name.now)) }
-    ensures own { IfOk result (λ script. IsScriptOf plan.now box_no script) }
-    ensures fault { IsErrOf result Stop.ShelfFault → Rose (S.faults shelf.old name.now) (S.faults shelf.new name.now) }
-    ensures same { (n : List ℕ) → S.held shelf.new n ≡ S.held shelf.old n }
-    ensures later { (n : List ℕ) → S.faults shelf.old n ≤ S.faults shelf.new n }
+    ensures { IsScriptRead plan.now box_no bytes.now result }
 {
     plan.meets_conditions();
-    let bytes = fetch_bytes(alloc, shelf, name, SCRIPT_LIMIT)?;
-    match read_script(alloc, plan, box_no, &bytes) {
+    match read_script(alloc, plan, box_no, bytes) {
         Ok(script) => Ok(script),
         Err(error) => Err(stop_of(box_no + 2, error)),
     }
