@@ -16,17 +16,18 @@ entries_text-append plan number (e ∷ es) fs =
     (entries_text plan ((number + 1) + length es) fs))
     ∙ ap (λ (n : ℕ). (entry_text plan number e ++ entries_text plan (number + 1) es) ++ entries_text plan n fs) moved
 
-pub entries_text-next : (plan : PlanFields) (es : List Entry) (i : ℕ) (d : Entry) → i < length es
-    → entries_text plan 1 (take (i + 1) es) ≡ entries_text plan 1 (take i es) ++ entry_text plan (i + 1) (get_or es i d)
-entries_text-next plan es i d lt =
-    let counted : 1 + length (take i es) ≡ i + 1 = omega (arith, length-take i es) in
+pub entries_text-next : (plan : PlanFields) (number : ℕ) (es : List Entry) (i : ℕ) (d : Entry) → i < length es
+    → entries_text plan number (take (i + 1) es)
+    ≡ entries_text plan number (take i es) ++ entry_text plan (number + i) (get_or es i d)
+entries_text-next plan number es i d lt =
+    let counted : number + length (take i es) ≡ number + i = omega (arith, length-take i es) in
     rw (take_more es i d lt, entries_text-append) (rw (counted, append-nil) refl)
 
-pub more_entries : (plan : PlanFields) (es : List Entry) (i : ℕ) (d : Entry) (old out new : List ℕ) → i < length es
-    → out ≡ old ++ entries_text plan 1 (take i es) → new ≡ out ++ entry_text plan (i + 1) (get_or es i d)
-    → new ≡ old ++ entries_text plan 1 (take (i + 1) es)
-more_entries plan es i d old out new lt before more =
+pub more_entries : (plan : PlanFields) (number : ℕ) (es : List Entry) (i : ℕ) (d : Entry) (old out new : List ℕ)
+    → i < length es → out ≡ old ++ entries_text plan number (take i es)
+    → new ≡ out ++ entry_text plan (number + i) (get_or es i d) → new ≡ old ++ entries_text plan number (take (i + 1) es)
+more_entries plan number es i d old out new lt before more =
     more
-    ∙ ap (λ (t : List ℕ). t ++ entry_text plan (i + 1) (get_or es i d)) before
-    ∙ append_assoc old (entries_text plan 1 (take i es)) (entry_text plan (i + 1) (get_or es i d))
-    ∙ ap (λ (t : List ℕ). old ++ t) (sym (entries_text-next plan es i d lt))
+    ∙ ap (λ (t : List ℕ). t ++ entry_text plan (number + i) (get_or es i d)) before
+    ∙ append_assoc old (entries_text plan number (take i es)) (entry_text plan (number + i) (get_or es i d))
+    ∙ ap (λ (t : List ℕ). old ++ t) (sym (entries_text-next plan number es i d lt))

@@ -13,6 +13,10 @@ abbrev pub entries_text : PlanFields → ℕ → List Entry → List ℕ
 entries_text plan number [] = []
 entries_text plan number (e ∷ es) = entry_text plan number e ++ entries_text plan (number + 1) es
 
+-- the journal's first line: its version
+unfoldable pub heading_text : PlanFields → List ℕ
+heading_text plan = codes "journal " ++ decimal plan.version ++ 10 ∷ []
+
 -- the journal: its version, its entries numbered from 1, and its end
 unfoldable pub journal_text : PlanFields → List Entry → List ℕ
 journal_text plan es = codes "journal " ++ decimal plan.version ++ 10 ∷ entries_text plan 1 es ++ codes "end\n"

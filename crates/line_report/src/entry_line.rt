@@ -1,6 +1,6 @@
 //! The words of an entry's line: its number, its box, its call, `->` and its reply.
 
-ghost use Rattle.std.specs.Prelude.{◌≡◌, ◌<◌, IfOk, length, drop};
+ghost use Rattle.std.specs.Prelude.{◌≡◌, ◌<◌, IfOk, bytes_eq, codes, drop, length, position};
 ghost use Rattle.line_report.specs.Arrows.{before_arrow, behind_arrow};
 ghost use Rattle.line_report.specs.Reading.{box_in, entry_number, later_call_in, told_reply_in};
 
@@ -36,6 +36,27 @@ pub fn box_in(plan: &Plan, words: &LineWords<'_>) -> Result<u32, Cause>
     }
 }
 
+// Whether a word is `->`, by its length first.
+fn is_arrow(word: &[u8]) -> bool
+    ensures { result ≡ bytes_eq (codes "->") word.now }
+{
+    word.len() == 2 && word[0] == b'-' && word[1] == b'>'
+}
+
+// The number of the first word `->`, from 0; `None` exactly where none stands.
+fn arrow_number(words: &LineWords<'_>) -> Option<usize>
+    ensures { result ≡ position (bytes_eq (codes "->")) words.now }
+{
+    for i in 0..words.word_count() {
+        if let Some(word) = words.word(i) {
+            if is_arrow(word) {
+                return Some(i);
+            }
+        }
+    }
+    None
+}
+
 /// The words of the entry's call, between the box and the first word `->`, and those of its reply behind it, if it
 /// stands.
 #[tactic(auto, using(crate::proofs::Arrows::cut_rules))]
@@ -45,7 +66,7 @@ pub fn told_words<'a>(words: &LineWords<'a>) -> (LineWords<'a>, Option<LineWords
 {
     let count = words.word_count();
     let told = words.between(count.min(2), count);
-    match told.number_of(b"->") {
+    match arrow_number(&told) {
         None => (told, None),
         Some(at) => {
             let behind = told.between(at + 1, told.word_count());

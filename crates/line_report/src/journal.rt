@@ -1,8 +1,8 @@
 //! The printed journal.
 
-ghost use Rattle.std.specs.Prelude.{◌≡◌, ◌++◌, All, IfOk, OnErr, OnOk, string_bytes};
+ghost use Rattle.std.specs.Prelude.{◌≡◌, ◌+◌, ◌<◌, ◌^◌, ◌++◌, All, IfOk, OnErr, OnOk, length, string_bytes};
 ghost use Rattle.script_text.specs.Entries.{IsSpelled};
-ghost use Rattle.line_report.specs.Journals.{entry_text, entries_text, journal_text};
+ghost use Rattle.line_report.specs.Journals.{entry_text, entries_text, heading_text, journal_text};
 
 use line_law::{Entry, Journal};
 use line_plan::Plan;
@@ -46,27 +46,71 @@ pub fn put_entry(
     put_text(out, line)
 }
 
-// The lines of all entries, numbered from 1.
-fn put_entries(out: &mut String, plan: &Plan, entries: &[Entry]) -> Result<(), AllocError>
-    requires { All (IsSpelled plan.now) entries.now }
-    ensures { OnOk result (string_bytes out.new ≡ string_bytes out.old ++ entries_text plan.now 1 entries.now) }
+// The lines of entries that follow one another, the first with this number.
+fn put_entry_lines(
+    out: &mut String,
+    plan: &Plan,
+    number: usize,
+    entries: &[Entry],
+) -> Result<(), AllocError>
+    requires spelled { All (IsSpelled plan.now) entries.now }
+    requires numbers { number + length entries.now < 2 ^ 64 }
+    ensures { OnOk result (string_bytes out.new ≡ string_bytes out.old ++ entries_text plan.now number entries.now) }
 {
     for (place, entry) in entries.iter().enumerate() {
-        put_line(out, plan, place + 1, entry)?;
+        put_line(out, plan, number + place, entry)?;
     }
     Ok(())
 }
 
+/// Puts the lines of entries that follow one another behind a text, as the journal has them where the first has this
+/// number. Each entry is one that the line can spell. Where memory runs out the text is as it was.
+pub fn put_entries(
+    out: &mut String,
+    plan: &Plan,
+    number: usize,
+    entries: &[Entry],
+) -> Result<(), AllocError>
+    requires spelled { All (IsSpelled plan.now) entries.now }
+    requires numbers { number + length entries.now < 2 ^ 64 }
+    ensures put { OnOk result
+        (string_bytes out.new ≡ string_bytes out.old ++ entries_text plan.now number entries.now) }
+    ensures kept { OnErr result (string_bytes out.new ≡ string_bytes out.old) }
+{
+    let mut lines = String::new(*out.allocator());
+    put_entry_lines(&mut lines, plan, number, entries)?;
+    put_text(out, lines)
+}
+
+// The journal's first line.
+#[tactic(auto, unfolding(crate::specs::Journals::heading_text))]
+fn put_first_line(out: &mut String, plan: &Plan) -> Result<(), AllocError>
+    ensures { OnOk result (string_bytes out.new ≡ string_bytes out.old ++ heading_text plan.now) }
+{
+    out.push_str("journal ")?;
+    put_number(out, u64::from(plan.version))?;
+    out.push('\n')
+}
+
+/// Puts the journal's first line behind a text: `journal` and the plan's version. Where memory runs out the text is as
+/// it was.
+pub fn put_heading(out: &mut String, plan: &Plan) -> Result<(), AllocError>
+    ensures put { OnOk result (string_bytes out.new ≡ string_bytes out.old ++ heading_text plan.now) }
+    ensures kept { OnErr result (string_bytes out.new ≡ string_bytes out.old) }
+{
+    let mut line = String::new(*out.allocator());
+    put_first_line(&mut line, plan)?;
+    put_text(out, line)
+}
+
 // The whole journal, from its first line to its end.
-#[tactic(auto, unfolding(crate::specs::Journals::journal_text))]
+#[tactic(auto, unfolding(crate::specs::Journals::heading_text, crate::specs::Journals::journal_text))]
 fn put_lines(out: &mut String, plan: &Plan, journal: &Journal) -> Result<(), AllocError>
     requires { All (IsSpelled plan.now) journal.now.entries }
     ensures { OnOk result (string_bytes out.new ≡ string_bytes out.old ++ journal_text plan.now journal.now.entries) }
 {
-    out.push_str("journal ")?;
-    put_number(out, u64::from(plan.version))?;
-    out.push('\n')?;
-    put_entries(out, plan, journal.entries.as_slice())?;
+    put_first_line(out, plan)?;
+    put_entry_lines(out, plan, 1, journal.entries.as_slice())?;
     out.push_str("end\n")
 }
 

@@ -6,24 +6,24 @@ pub returns-in-None-clause-call : goal.returns-in-None-clause-call
 returns-in-None-clause-call c =
     (told_whole c.args.words.now c.between-told.result
     (told_are c.args.words.now c.between-told.result c.word_count-count.result c.min.result c.word_count-count.ensures
-    c.min.ensures c.between-told.ensures) (sym c.in-None.is ∙ c.number_of.ensures)).0
+    c.min.ensures c.between-told.ensures) (sym c.in-None.is ∙ c.arrow_number.ensures)).0
 
 pub returns-in-None-clause-reply : goal.returns-in-None-clause-reply
 returns-in-None-clause-reply c =
     (told_whole c.args.words.now c.between-told.result
     (told_are c.args.words.now c.between-told.result c.word_count-count.result c.min.result c.word_count-count.ensures
-    c.min.ensures c.between-told.ensures) (sym c.in-None.is ∙ c.number_of.ensures)).1
+    c.min.ensures c.between-told.ensures) (sym c.in-None.is ∙ c.arrow_number.ensures)).1
 
 pub returns-in-Some-clause-call : goal.returns-in-Some-clause-call
 returns-in-Some-clause-call c =
     c.between.ensures
     ∙ told_before c.args.words.now c.between-told.result c.in-Some.at
     (told_are c.args.words.now c.between-told.result c.word_count-count.result c.min.result c.word_count-count.ensures
-    c.min.ensures c.between-told.ensures) (sym c.in-Some.is ∙ c.number_of.ensures)
+    c.min.ensures c.between-told.ensures) (sym c.in-Some.is ∙ c.arrow_number.ensures)
 
 pub returns-in-Some-clause-reply : goal.returns-in-Some-clause-reply
 returns-in-Some-clause-reply c =
     ap (λ ws. Some ws) c.between-behind.ensures
     ∙ told_behind c.args.words.now c.between-told.result c.in-Some.at c.word_count.result
     (told_are c.args.words.now c.between-told.result c.word_count-count.result c.min.result c.word_count-count.ensures
-    c.min.ensures c.between-told.ensures) c.word_count.ensures (sym c.in-Some.is ∙ c.number_of.ensures)
+    c.min.ensures c.between-told.ensures) c.word_count.ensures (sym c.in-Some.is ∙ c.arrow_number.ensures)
