@@ -1,8 +1,9 @@
 //! The audit of a journal as its text is read: no entry is kept.
 
-ghost use Rattle.std.specs.Prelude.{◌≡◌, []};
+ghost use Rattle.std.specs.Prelude.{◌≡◌, ◌≤◌, [], IsErrOf, length};
 ghost use Rattle.rail_text.specs.Gives.{GivesText};
 ghost use Rattle.line_plan.specs.Plans.{IsPlan};
+ghost use Rattle.line_report.specs.Reading.{most_journal_bytes};
 ghost use Rattle.line_report.specs.Verdicts.{opening_judge};
 ghost use Rattle.reg_audit.specs.Auditors.{AuditsAll, HasAudited};
 ghost use Rattle.reg_audit.specs.Texts.{text_audited};
@@ -34,10 +35,11 @@ fn audit_to_end(
 
 /// The audit of the journal that a text spells, as it is printed: its breaches where it is legal, as `print_audit`
 /// tells them, else what a judge prints; or the first fault of the text, as `read_journal` tells it. It goes over the
-/// text once, performs each entry once, and keeps none.
+/// text once, performs each entry once, and keeps none. Want of memory is told of no text that is too long.
 pub fn audit_text(alloc: Global, plan: &Plan, bytes: &[u8]) -> Result<Vec<u8>, ReadError>
     ensures exact { GivesText (λ text. text.items) result (text_audited plan.now bytes.now) }
     ensures plan { IsPlan plan.now }
+    ensures memory { IsErrOf result ReadError.NoMemory → length bytes.now ≤ most_journal_bytes plan.now.version }
 {
     plan.meets_conditions();
     let mut hearing = Hearing::open(alloc, plan, bytes)?;
