@@ -4,4 +4,5 @@ pub mod Turning
 pub mod SerialTurns
 pub mod ScriptsWorked
 pub mod OutputRead
+pub mod Printed
 pub mod LineWatched

@@ -4,6 +4,7 @@
 
 mod look;
 mod output;
+mod printing;
 mod roster;
 mod run;
 mod serial;

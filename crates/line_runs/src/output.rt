@@ -1,80 +1,89 @@
-//! The output of a line that was worked, printed on threads.
+//! The output of a run, in parts.
 
-ghost use Rattle.std.specs.Prelude.{◌≡◌, IfOk, string_bytes};
-ghost use Rattle.line_report.specs.Journals.{journal_text};
-ghost use Rattle.line_runs.specs.Outputs.{output_text, result_text};
-ghost use Rattle.line_runs.specs.Worked.{CanBePrinted};
-ghost use Rattle.train_register.specs.Registers.{registers_text};
+ghost use Rattle.std.specs.Prelude.{◌≡◌, [], ◌++◌, IfOk, OnOk, string_bytes};
+ghost use Rattle.std.specs.List.{flat_map};
+ghost use Rattle.line_runs.specs.Outputs.{AreInOrder};
 
-use crate::worked::WorkedLine;
-use line_plan::Plan;
-use line_report::{print_journal, put_refusals, put_sections};
 use rail_text::NoMemory;
-use std::alloc::Global;
-use std::thread::{Threads, join};
-use train_register::put_registers;
+use std::alloc::{AllocError, Global};
+use std::marker::Model;
 
-// The registers of all boxes.
-fn print_registers(alloc: Global, plan: &Plan, line: &WorkedLine) -> Result<String, NoMemory>
-    requires { CanBePrinted plan.now line.now.journal.entries line.now.ended.registers }
-    ensures { IfOk result (λ text. string_bytes text ≡ registers_text plan.now line.now.journal.entries) }
-{
-    let mut text = String::new(alloc);
-    put_registers(&mut text, plan, &line.ended)?;
-    Ok(text)
+/// The output of a run in parts, which may be printed on threads. Contracts see its text.
+#[derive(Drop)]
+pub(crate) struct Output {
+    parts: Vec<Vec<u8>>,
 }
 
-// What came of the run: the refused calls, and the most trains that each section held.
-fn print_result(alloc: Global, plan: &Plan, line: &WorkedLine) -> Result<String, NoMemory>
-    requires { CanBePrinted plan.now line.now.journal.entries line.now.ended.registers }
-    ensures { IfOk result (λ text. string_bytes text ≡ result_text plan.now line.now.journal.entries) }
-{
-    let mut text = String::new(alloc);
-    put_refusals(&mut text, plan, &line.journal)?;
-    put_sections(&mut text, alloc, plan, &line.journal)?;
-    Ok(text)
+impl Model for Output {
+    ghost use Rattle.std.specs.Prelude.{ℕ, List};
+    ghost use Rattle.std.specs.List.{flat_map};
+
+    ghost Value = { List ℕ };
+
+    ghost view = { λ output. flat_map (λ part. part.items) output.parts.items };
 }
 
-// The journal, and what came of the run, each printed on a thread.
-fn print_pair<R: Threads + Sync>(
-    rt: &R,
-    alloc: Global,
-    plan: &Plan,
-    line: &WorkedLine,
-) -> Result<(Vec<u8>, String), NoMemory>
-    requires { CanBePrinted plan.now line.now.journal.entries line.now.ended.registers }
-    ensures journal { IfOk result (λ texts. texts.0.items ≡ journal_text plan.now line.now.journal.entries) }
-    ensures result { IfOk result (λ texts. string_bytes texts.1 ≡ result_text plan.now line.now.journal.entries) }
-{
-    let (result, journal) = join(
-        rt,
-        || print_result(alloc, plan, line),
-        || print_journal(alloc, plan, &line.journal),
-    );
-    let result = result?;
-    Ok((journal?, result))
-}
+impl Output {
+    /// The output without a part.
+    pub(crate) fn new(alloc: Global) -> Output
+        ensures { result ≡ [] }
+    {
+        Output {
+            parts: Vec::new(alloc),
+        }
+    }
 
-/// The whole output of a line that was worked: the journal, the registers, and what came of the run, each printed on a
-/// thread.
-#[tactic(auto, unfolding(crate::specs::Outputs::output_text))]
-pub(crate) fn print_output<R: Threads + Sync>(
-    rt: &R,
-    alloc: Global,
-    plan: &Plan,
-    line: &WorkedLine,
-) -> Result<Vec<u8>, NoMemory>
-    requires { CanBePrinted plan.now line.now.journal.entries line.now.ended.registers }
-    ensures { IfOk result (λ text. text.items ≡ output_text plan.now line.now.journal.entries) }
-{
-    let pair = || -> Result<(Vec<u8>, String), NoMemory>
-        requires { CanBePrinted plan.now line.now.journal.entries line.now.ended.registers }
-    { print_pair(rt, alloc, plan, line) };
-    let (registers, pair) = join(rt, || print_registers(alloc, plan, line), pair);
-    let registers = registers?;
-    let (mut text, result) = pair?;
-    text.extend_from_slice(registers.as_bytes())?;
-    drop(registers);
-    text.extend_from_slice(result.as_bytes())?;
-    Ok(text)
+    /// The output that is one text.
+    pub(crate) fn of_text(alloc: Global, text: String) -> Result<Output, AllocError>
+        ensures { IfOk result (λ output. output ≡ string_bytes text) }
+    {
+        let mut output = Output::new(alloc);
+        output.push(text.into_bytes())?;
+        Ok(output)
+    }
+
+    /// Adds a part behind the others.
+    pub(crate) fn push(&mut self, part: Vec<u8>) -> Result<(), AllocError>
+        ensures { OnOk result (self.new ≡ self.old ++ part.items) }
+    {
+        self.parts.push(part)?;
+        Ok(())
+    }
+
+    /// Adds the parts of another output behind the others. Their bytes aren't copied.
+    pub(crate) fn append(&mut self, mut behind: Output) -> Result<(), AllocError>
+        ensures { OnOk result (self.new ≡ self.old ++ behind) }
+    {
+        self.parts.append(&mut behind.parts)
+    }
+
+    /// Two outputs that were printed, one behind the other.
+    pub(crate) fn in_order(
+        front: Result<Output, NoMemory>,
+        behind: Result<Output, NoMemory>,
+    ) -> Result<Output, NoMemory>
+        ensures { IfOk result (λ output. AreInOrder front behind output) }
+    {
+        let mut output = front?;
+        output.append(behind?)?;
+        Ok(output)
+    }
+
+    // How much room its text takes: it is made at once.
+    fn room(&self) -> usize {
+        self.parts
+            .iter()
+            .fold(0, |room: usize, part| room.saturating_add(part.len()))
+    }
+
+    /// Its text: the parts are copied behind one another, and each is given back.
+    pub(crate) fn into_text(self, alloc: Global) -> Result<Vec<u8>, AllocError>
+        ensures { IfOk result (λ text. text.items ≡ self) }
+    {
+        let mut text = Vec::with_capacity(alloc, self.room())?;
+        for part in self.parts {
+            text.extend_from_slice(&part)?;
+        }
+        Ok(text)
+    }
 }

@@ -5,7 +5,7 @@ ghost use Rattle.text_fetch.specs.FromTexts.{HasShelfFault, named};
 ghost use Rattle.text_fetch.specs.Runs.{AreScriptsOf, run_told, run_told_before};
 ghost use Rattle.line_runs.specs.Outputs.{IsOutputOf, MakesText};
 
-use crate::output::print_output;
+use crate::printing::print_output;
 use crate::worked::worked_line;
 use line_working::Gate;
 use rail_text::{NoMemory, Shelf};
@@ -26,9 +26,9 @@ fn run_output<R: Threads + Wait + Sync, G: Gate>(
         (λ text. IsOutputOf (record { plan = inputs.now.plan; scripts = inputs.now.scripts.items }) text.items) }
 {
     let line = worked_line(rt, alloc, &inputs.plan, &inputs.scripts, gate)?;
-    let text = print_output(rt, alloc, &inputs.plan, &line);
+    let output = print_output(rt, alloc, &inputs.plan, &line);
     drop(line);
-    text
+    Ok(output?.into_text(alloc)?)
 }
 
 /// The output of the run of the named texts, each script worked by its own signalman on a thread of his own; or why
