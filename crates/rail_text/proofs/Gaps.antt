@@ -1,13 +1,9 @@
 -- A word is empty where a space stands at an end or beside another.
 use Rattle.std.proofs.Common.{◌≡◌, ℕ, Bool, true, false, cond, eqb, ◌&&◌, ◌||◌, List, [], ◌∷◌, refl, sym, ◌∙◌}
 use Rattle.std.specs.List.{list_any}
+use Rattle.rail_text.specs.Cutting.{gap}
 use Rattle.rail_text.specs.Lines.{words_of, onto_word}
 use Rattle.rail_text.specs.Forms.{is_empty_word}
-
--- whether a word of what is left is empty, where the word so far is or isn't
-abbrev pub gap : Bool → List ℕ → Bool
-gap empty [] = empty
-gap empty (b ∷ bs) = cond (eqb b 32) (empty || gap true bs) (gap false bs)
 
 abbrev first_empty : List (List ℕ) → Bool
 first_empty [] = false

@@ -6,6 +6,7 @@ pub mod NameLemmas
 pub mod NameRules
 pub mod PrintedLines
 pub mod Gaps
+pub mod ChunkBits
 pub mod NameText
 pub mod DistinctNames
 pub mod Binds
@@ -14,6 +15,7 @@ pub mod PrintedWords
 pub mod Limits
 pub mod KeptLines
 pub mod WordEnds
+pub mod Cuts
 pub mod FirstByte
 pub mod Texts
 pub mod GoodLines

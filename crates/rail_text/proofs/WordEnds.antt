@@ -1,8 +1,8 @@
 -- Words by where they end.
-use Rattle.std.proofs.Common.{◌≡◌, ℕ, zero, suc, ◌+◌, ◌-◌, ◌<◌, ◌≤◌, Bool, true, false, cond, eqb, List, [], ◌∷◌}
+use Rattle.std.proofs.Common.{◌≡◌, ℕ, zero, suc, ◌+◌, ◌-◌, ◌<◌, ◌≤◌, Bool, true, false, eqb, List, [], ◌∷◌}
 use Rattle.std.proofs.Common.{length}
-use Rattle.std.proofs.Common.{take, drop, slice_get, Option, Some, None, option_map, refl, sym, ap, ◌∙◌, arith}
-use Rattle.std.proofs.Common.{get_or, position, not, ltb, ◌||◌, ◌&&◌, ◌⊎◌, inl, inr, ◌≢◌}
+use Rattle.std.proofs.Common.{take, drop, slice_get, Some, None, refl, sym, ap, ◌∙◌, arith}
+use Rattle.std.proofs.Common.{get_or, position, not, ltb, ◌||◌, ◌⊎◌, inl, inr, ◌≢◌}
 use Rattle.std.proofs.lemmas.List.{drop_more, drop-take, get_or-drop, length-drop, length-take-le, take_rest}
 use Rattle.std.proofs.lemmas.Option.{get_or_from_slice_get, slice_get-get_or, slice_get_past, slice_get_within}
 use Rattle.std.proofs.Math.ListN.{drop_of_length-le}
@@ -11,9 +11,9 @@ use Rattle.std.proofs.lemmas.Bool.Decides.{eqb_tells}
 use Rattle.std.proofs.lemmas.Bool.{eq-eqb, le-ltb, lt-ltb}
 use Rattle.std.proofs.lemmas.List.Sums.{prefix_len-drop_all, prefix_len-drop_no, prefix_len-drop_yes}
 use Rattle.std.specs.List.{join_with_byte, prefix_len}
-use Rattle.rail_text.proofs.Gaps.{gap}
-use Rattle.rail_text.specs.Lines.{words_of, onto_word, words_after}
-use Rattle.rail_text.specs.LineWords.{AreCut, AreEnds, word_end, word_start}
+use Rattle.rail_text.specs.Cutting.{IsCutTo, gap}
+use Rattle.rail_text.specs.Lines.{words_of, onto_word}
+use Rattle.rail_text.specs.LineWords.{word_end, word_start}
 use Rattle.rail_text.proofs.PrintedLines.{joined-words_of, some_words}
 
 take_none : {X : Type 0} (n : ℕ) → take {A = X} n [] ≡ []
@@ -130,12 +130,6 @@ span_words text i j le lt =
 pub ruleset span_rules = (span_order, span_words, end_within)
 
 -- ---- byte by byte
-
--- what is cut of a text up to a byte: so many spaces stood
-pub record IsCutTo (text : List ℕ) (at spaces : ℕ) : Type 0 where
-  pub low : spaces ≤ at
-  pub ends : (k : ℕ) → word_end text (spaces + k) ≡ word_end (drop at text) k + at
-  pub words : spaces + length (words_of (drop at text)) ≡ length (words_of text)
 
 pub cut_start : (text : List ℕ) → IsCutTo text 0 0
 cut_start text = record {

@@ -7,6 +7,7 @@ pub mod MemSink
 pub mod Adapters
 pub mod Lines
 pub mod LineWords
+pub mod Cutting
 pub mod Number
 pub mod Names
 pub mod Gives

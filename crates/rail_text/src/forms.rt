@@ -74,6 +74,7 @@ impl<'a> TextLine<'a> {
 
     /// The words of the line, once its form is tested as `form` tells; `None` exactly where it is
     /// skipped.
+    #[inline(always)]
     #[tactic(auto, unfolding(crate::specs::Forms::formed_words))]
     pub fn formed(&self, skips: bool) -> Result<Option<LineWords<'a>>, Cause>
         ensures { GivesCause (λ words. words) result (formed_words skips (record {

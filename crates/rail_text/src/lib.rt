@@ -3,6 +3,7 @@
 #![tactic(auto)]
 
 mod cause;
+mod chunks;
 mod fault;
 mod file_shelf;
 mod forms;

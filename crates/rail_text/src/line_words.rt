@@ -7,6 +7,7 @@ ghost use Rattle.rail_text.specs.Gives.{GivesCause};
 ghost use Rattle.rail_text.specs.Lines.{words_of, words_after};
 ghost use Rattle.rail_text.specs.Words.{keyword, no_word, one_word};
 
+use crate::chunks::{CHUNK, odd_in};
 use crate::word_ends::{WordEnds, cut};
 use crate::{Cause, TextLine};
 use std::marker::Model;
@@ -41,15 +42,33 @@ pub(crate) struct Seen {
     pub gap: bool,
 }
 
-// Whether each byte may stand in a line. All are read, whatever the first are, which is faster.
+fn is_printable(byte: u8) -> bool
+    ensures { result ≡ is_printable byte }
+{
+    (b' '..=b'~').contains(&byte)
+}
+
+fn is_each_printable(text: &[u8]) -> bool
+    ensures { result ≡ list_all is_printable text.now }
+{
+    text.iter().all(|byte| is_printable(*byte))
+}
+
+// Whether each byte may stand in a line.
 fn are_printable(text: &[u8]) -> bool
     ensures { result ≡ list_all is_printable text.now }
 {
-    let mut printable = true;
-    for b in text {
-        printable &= (b' '..=b'~').contains(b);
+    if text.len() < CHUNK {
+        return is_each_printable(text);
     }
-    printable
+    let mut at = 0;
+    while text.len() - at > CHUNK {
+        if odd_in(text, at) != 0 {
+            return false;
+        }
+        at += CHUNK;
+    }
+    odd_in(text, text.len() - CHUNK) == 0
 }
 
 /// The words of a text, and what is seen of it.

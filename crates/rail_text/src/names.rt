@@ -3,12 +3,47 @@
 ghost use Rattle.std.specs.Prelude.{◌≡◌, ℕ, ◌+◌, ◌^◌, ◌<◌, ◌==◌, [], ◌∷◌, ◌++◌, length, not, is_some, bytes_eq};
 ghost use Rattle.std.specs.Prelude.{position, slice_get, false, MatchOption, IfSome, IfOk, OnOk, OnErr, Some};
 ghost use Rattle.std.specs.List.{list_any};
+ghost use Rattle.std.specs.String.{string_bytes};
+ghost use Rattle.std.proofs.Common.{ap};
+ghost use Rattle.std.specs.Cmp.Lexicographic.{bytes_decides, nat_list_eq_equiv};
+ghost use Rattle.std.specs.Hash as fed;
 ghost use Rattle.rail_text.specs.Names.{AreNumbered};
 
 use crate::NoMemory;
-use indexmap::IndexSet;
+use indexmap::{Equivalent, IndexSet};
 use std::alloc::Global;
+use std::hash::{Hash, Hasher};
 use std::marker::Model;
+
+// The bytes of a word, by which the name that they spell is found.
+#[derive(Clone, Copy, PartialEq, Eq)]
+struct Spelled<'a> {
+    word: &'a [u8],
+}
+
+// Hashed as the text of these bytes is.
+impl<'a> Hash for Spelled<'a> {
+    ghost hash_input = { λ spelled. fed.str spelled.word.now };
+
+    ghost respects_eq = { λ x y h. ap fed.str ((bytes_decides x.word.now y.word.now).0 h) };
+
+    fn hash<H: Hasher>(&self, state: &mut H) {
+        state.write(self.word);
+        state.write_u8(255);
+    }
+}
+
+impl<'a> Equivalent<String> for Spelled<'a> {
+    ghost equivalent = { λ spelled name. bytes_eq spelled.word.now (string_bytes name) };
+
+    ghost respects_hash = { λ spelled name h. ap fed.str ((bytes_decides spelled.word.now (string_bytes name)).0 h) };
+
+    ghost respects_eq = { λ spelled x y. nat_list_eq_equiv.congr spelled.word.now (string_bytes x) (string_bytes y) };
+
+    fn equivalent(&self, name: &String) -> bool {
+        self.word == name.as_bytes()
+    }
+}
 
 /// Distinct names, numbered from 0.
 #[derive(Drop)]
@@ -118,11 +153,7 @@ impl Names {
         ensures first { result ≡ position (bytes_eq word.now) self.now }
         ensures numbered { AreNumbered self.now }
     {
-        let set = &self.set;
-        let Ok(name) = std::str::from_utf8(word) else {
-            return None;
-        };
-        let at = set.get_index_of(name)?;
+        let at = self.set.get_index_of(Spelled { word })?;
         Some(at as u32)
     }
 
