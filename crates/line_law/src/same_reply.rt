@@ -62,6 +62,7 @@ fn shown_code(shown: Option<CodeNo>) -> u64
 
 impl Reply {
     // Which of the replies it is, numbered in their order from 0.
+    #[inline(always)]
     fn number(self) -> u32
         ensures { result ≡ reply_no self }
     {
@@ -117,6 +118,7 @@ impl Reply {
     }
 
     // The numbers that it tells, with 0 for each that it tells less than four.
+    #[inline(always)]
     fn numbers_told(self) -> [u64; 4]
         ensures { result ≡ numbers_told self }
     {
@@ -182,6 +184,7 @@ impl Reply {
     }
 
     /// Whether the other reply is this one, in its kind and in all that it tells.
+    #[inline(always)]
     pub fn is(&self, other: &Reply) -> bool
         ensures same { result ≡ same_reply self.now other.now }
         ensures one { IsTrue result ↔ (self.now ≡ other.now) }

@@ -1,11 +1,11 @@
 -- The first word `->` among words, and what stands before and behind it.
 use Rattle.std.proofs.Common.{◌≡◌, ℕ, zero, suc, ◌+◌, ◌-◌, ◌<◌, ◌≤◌, Bool, true, false, not, ltb, cond, List, [], ◌∷◌}
-use Rattle.std.proofs.Common.{length}
+use Rattle.std.proofs.Common.{length, slice_get}
 use Rattle.std.proofs.Common.{take, drop, Option, Some, None, option_map, min, refl, sym, ap, ◌∙◌}
 use Rattle.std.proofs.Common.{arith, codes, bytes_eq, position}
 use Rattle.std.specs.List.{join_with_byte, list_all, prefix_len}
 use Rattle.std.proofs.lemmas.Bool.{le-ltb, lt-ltb, ltb-false, ltb-true}
-use Rattle.std.proofs.lemmas.List.{take_rest}
+use Rattle.std.proofs.lemmas.List.{drop-drop, length-drop, take_rest}
 use Rattle.std.proofs.lemmas.List.Quantifiers.{position-Some}
 use Rattle.std.proofs.lemmas.Slice.Eq.{bytes_eq-Decides}
 use Rattle.rail_text.specs.Lines.{lacks, words_of}
@@ -110,43 +110,65 @@ whole (word ∷ words) e = go (λ is. whole words is) (bytes_eq word (codes "->"
       (sym (place_on (bytes_eq (codes "->")) word words false (eq_turned (codes "->") word ∙ none)) ∙ e)) in
       record { before = rw none (ap (λ (ws : List (List ℕ)). word ∷ ws) w.before); behind = rw none w.behind }
 
+-- a word is so many words behind another
+pub word_behind : (words : List (List ℕ)) (from i : ℕ) → from ≤ i
+    → slice_get words i ≡ slice_get (drop from words) (i - from)
+word_behind words zero i le = let n : i - 0 ≡ i = omega arith in ap (slice_get words) (sym n)
+word_behind [] (suc from) i le = refl
+word_behind (word ∷ words) (suc from) zero le = absurd (omega (arith, le))
+word_behind (word ∷ words) (suc from) (suc i) le =
+    let n : suc i - suc from ≡ i - from = omega arith in rw n (word_behind words from i (omega (arith, le)))
+
 -- the words from the third on
 from_third : (words : List (List ℕ)) (n : ℕ) → n ≡ min (length words) 2 → drop n words ≡ drop 2 words
 from_third [] n e = let z : n ≡ 0 = omega (arith, e) in rw z refl
 from_third (a ∷ []) n e = let z : n ≡ 1 = omega (arith, e) in rw z refl
 from_third (a ∷ b ∷ words) n e = let z : n ≡ 2 = omega (arith, e) in rw z refl
 
-pub told_are : (words told : List (List ℕ)) (count least : ℕ) → count ≡ length words → least ≡ min count 2
-    → told ≡ take (count - least) (drop least words) → told ≡ drop 2 words
-told_are words told count least all n is =
-    let fits : least ≡ min (length words) 2 = omega (arith, n, all) in
-    is
-    ∙ ap (λ (k : ℕ). take (k - least) (drop least words)) all
-    ∙ take_rest words least
-    ∙ from_third words least fits
+third_on : (words : List (List ℕ)) (count least : ℕ) → count ≡ length words → least ≡ min count 2
+    → drop least words ≡ drop 2 words
+third_on words count least all n = from_third words least (omega (arith, n, all))
 
-pub told_whole : (words told : List (List ℕ)) → told ≡ drop 2 words → None ≡ arrow_number told
+-- no `->` stands behind the second word
+pub told_whole : (words told : List (List ℕ)) (count least : ℕ) → count ≡ length words → least ≡ min count 2
+    → told ≡ take (count - least) (drop least words) → None ≡ arrow_number (drop least words)
     → (told ≡ before_arrow (drop 2 words)) × (None ≡ behind_arrow (drop 2 words))
-told_whole words told is none =
-    let w = whole told (sym none) in
-    (w.before ∙ ap before_arrow is, w.behind ∙ ap behind_arrow is)
+told_whole words told count least all n is none =
+    let third = third_on words count least all n in
+    let w = whole (drop 2 words) (sym (none ∙ ap arrow_number third)) in (
+      is ∙ ap (λ (k : ℕ). take (k - least) (drop least words)) all ∙ take_rest words least ∙ third ∙ w.before,
+      w.behind,
+    )
 
-pub told_before : (words told : List (List ℕ)) (at : ℕ) → told ≡ drop 2 words → Some at ≡ arrow_number told
-    → take (at - 0) (drop 0 told) ≡ before_arrow (drop 2 words)
-told_before words told at is e =
-    let n : at - 0 ≡ at = omega arith in
-    ap (λ (k : ℕ). take k told) n ∙ (parted told at (sym e)).before ∙ ap before_arrow is
+-- one stands there
+pub told_before : (words : List (List ℕ)) (count least many : ℕ) → count ≡ length words → least ≡ min count 2
+    → Some many ≡ arrow_number (drop least words)
+    → take (least + many - least) (drop least words) ≡ before_arrow (drop 2 words)
+told_before words count least many all n e =
+    let third = third_on words count least all n in
+    let more : least + many - least ≡ many = omega arith in
+    ap (λ (k : ℕ). take k (drop least words)) more
+    ∙ ap (take many) third
+    ∙ (parted (drop 2 words) many (sym (e ∙ ap arrow_number third))).before
 
-pub told_behind : (words told : List (List ℕ)) (at count : ℕ) → told ≡ drop 2 words → count ≡ length told
-    → Some at ≡ arrow_number told → Some (take (count - (at + 1)) (drop (at + 1) told)) ≡ behind_arrow (drop 2 words)
-told_behind words told at count is all e =
-    ap (λ (k : ℕ). Some (take (k - (at + 1)) (drop (at + 1) told))) all
-    ∙ ap (λ (ws : List (List ℕ)). Some ws) (take_rest told (at + 1))
-    ∙ (parted told at (sym e)).behind
-    ∙ ap behind_arrow is
+pub told_behind : (words : List (List ℕ)) (count least many : ℕ) → count ≡ length words → least ≡ min count 2
+    → Some many ≡ arrow_number (drop least words)
+    → Some (take (count - (least + many + 1)) (drop (least + many + 1) words)) ≡ behind_arrow (drop 2 words)
+told_behind words count least many all n e =
+    let third = third_on words count least all n in
+    let at : least + many + 1 ≡ least + (many + 1) = omega arith in
+    ap (λ (k : ℕ). Some (take (k - (least + many + 1)) (drop (least + many + 1) words))) all
+    ∙ ap (λ (ws : List (List ℕ)). Some ws) (take_rest words (least + many + 1) ∙ ap (λ (k : ℕ). drop k words) at
+    ∙ sym (drop-drop (many + 1) least words) ∙ ap (drop (many + 1)) third)
+    ∙ (parted (drop 2 words) many (sym (e ∙ ap arrow_number third))).behind
 
-pub told_there : (told : List (List ℕ)) (at : ℕ) → Some at ≡ arrow_number told → at < length told
-told_there told at e = (position-Some (bytes_eq (codes "->")) told at [] (sym e)).0
+-- the word stands where it is told
+pub told_there : (words : List (List ℕ)) (least many : ℕ) → Some many ≡ arrow_number (drop least words)
+    → least + many < length words
+told_there words least many e =
+    let there : many < length (drop least words) =
+    (position-Some (bytes_eq (codes "->")) (drop least words) many [] (sym e)).0 in
+    omega (arith, there, length-drop least words)
 
 -- ---- words without a space
 

@@ -1,6 +1,7 @@
 //! The words of an entry's line: its number, its box, its call, `->` and its reply.
 
-ghost use Rattle.std.specs.Prelude.{◌≡◌, ◌<◌, IfOk, bytes_eq, codes, drop, length, position};
+ghost use Rattle.std.specs.Prelude.{◌≡◌, ◌↔◌, ◌<◌, ◌≤◌, IfOk, IsTrue, Some, bytes_eq, codes, drop, length, position};
+ghost use Rattle.line_plan.specs.Plans.{names_of};
 ghost use Rattle.line_report.specs.Arrows.{before_arrow, behind_arrow};
 ghost use Rattle.line_report.specs.Reading.{box_in, entry_number, later_call_in, told_reply_in};
 
@@ -21,15 +22,42 @@ pub fn entry_number(next: u64, words: &LineWords<'_>) -> Result<u64, Cause>
     }
 }
 
-/// The box that the second word names.
+// Whether a word has these bytes. Names are short, so a loop is faster than a comparison of groups of bytes.
+fn is_spelled_by(name: &[u8], word: &[u8]) -> bool
+    ensures { IsTrue result ↔ (name.now ≡ word.now) }
+{
+    if name.len() != word.len() {
+        return false;
+    }
+    for (at, byte) in name.iter().enumerate() {
+        if word[at] != *byte {
+            return false;
+        }
+    }
+    true
+}
+
+// Whether a word names the box with this number.
+fn names_box(plan: &Plan, box_no: u32, word: &[u8]) -> bool
+    ensures { IsTrue result → position (bytes_eq word.now) (names_of plan.now.boxes) ≡ Some box_no }
+{
+    let names = &plan.box_names;
+    (box_no as usize) < names.len() && is_spelled_by(names.name_of(box_no).as_bytes(), word)
+}
+
+/// The box that the second word names. The box of the entry before is asked first, for entries of one box often follow
+/// one another.
 #[tactic(auto, using(crate::proofs::Boxes::named_below), unfolding(crate::specs::Reading::box_in))]
-pub fn box_in(plan: &Plan, words: &LineWords<'_>) -> Result<u32, Cause>
+pub fn box_in(plan: &Plan, last: u32, words: &LineWords<'_>) -> Result<u32, Cause>
     ensures exact { result ≡ box_in plan.now words.now }
     ensures below { IfOk result (λ box_no. box_no < length plan.now.boxes) }
 {
     let Some(word) = words.word(1) else {
         return Err(Cause::UnknownName);
     };
+    if names_box(plan, last, word) {
+        return Ok(last);
+    }
     match plan.box_names.number_of_word(word) {
         None => Err(Cause::UnknownName),
         Some(box_no) => Ok(box_no),
@@ -43,14 +71,15 @@ fn is_arrow(word: &[u8]) -> bool
     word.len() == 2 && word[0] == b'-' && word[1] == b'>'
 }
 
-// The number of the first word `->`, from 0; `None` exactly where none stands.
-fn arrow_number(words: &LineWords<'_>) -> Option<usize>
-    ensures { result ≡ position (bytes_eq (codes "->")) words.now }
+// How many words from one with a number on stand before the first word `->`; `None` exactly where none stands there.
+fn arrow_behind(words: &LineWords<'_>, from: usize) -> Option<usize>
+    requires { from ≤ length words.now }
+    ensures { result ≡ position (bytes_eq (codes "->")) (drop from words.now) }
 {
-    for i in 0..words.word_count() {
+    for i in from..words.word_count() {
         if let Some(word) = words.word(i) {
             if is_arrow(word) {
-                return Some(i);
+                return Some(i - from);
             }
         }
     }
@@ -65,12 +94,13 @@ pub fn told_words<'a>(words: &LineWords<'a>) -> (LineWords<'a>, Option<LineWords
     ensures reply { result.1 ≡ behind_arrow (drop 2 words.now) }
 {
     let count = words.word_count();
-    let told = words.between(count.min(2), count);
-    match arrow_number(&told) {
-        None => (told, None),
-        Some(at) => {
-            let behind = told.between(at + 1, told.word_count());
-            (told.between(0, at), Some(behind))
+    let from = count.min(2);
+    match arrow_behind(words, from) {
+        None => (words.between(from, count), None),
+        Some(many) => {
+            let at = from + many;
+            let behind = words.between(at + 1, count);
+            (words.between(from, at), Some(behind))
         }
     }
 }

@@ -58,6 +58,7 @@ impl<'a> Hearing<'a> {
 
     /// The next entry, once the judge has heard it; nothing where the line `end` comes next, and what stands behind
     /// that isn't to be read. The first fault is refused with its line and cause, as `read_journal` tells it.
+    #[inline(always)]
     pub fn next_entry(&mut self) -> Result<Option<Entry>, ReadError>
         ensures gives { GivesNext self.old.reader self.new.reader result }
         ensures heard { HearsNext self.old.judge self.new.judge result }

@@ -56,6 +56,8 @@ fn heading_of(plan: &Plan, line: &TextLine<'_>) -> Result<u32, LineFault>
 pub(crate) struct JournalReader<'a> {
     plan: &'a Plan,
     moments: Vec<u32>,
+    // The box of the entry before.
+    last: u32,
     count: u32,
     lines: Lines<'a>,
 }
@@ -114,6 +116,7 @@ impl<'a> JournalReader<'a> {
         Ok(JournalReader {
             plan,
             moments: vec![in alloc; 0; plan.boxes.len()]?,
+            last: 0,
             count: 0,
             lines,
         })
@@ -127,7 +130,7 @@ impl<'a> JournalReader<'a> {
     {
         let plan = self.plan;
         entry_number(u64::from(self.count) + 1, words)?;
-        let box_no = box_in(plan, words)?;
+        let box_no = box_in(plan, self.last, words)?;
         let (call, reply) = told_words(words);
         let call = later_call_in(plan, box_no, self.moments[box_no as usize], &call)?;
         let reply = told_reply_in(plan, box_no, &call, &reply)?;
@@ -182,6 +185,7 @@ impl<'a> JournalReader<'a> {
         match self.told_by(&line) {
             Ok(Some(entry)) => {
                 self.moments[entry.box_no as usize] = entry.call.moment;
+                self.last = entry.box_no;
                 self.count += 1;
                 Ok(Some(entry))
             }
