@@ -150,34 +150,36 @@ before_later k broken later beyond =
 
 -- ---- one rule more
 
-broken_next : (k : ℕ) (broken : Rule → Bool) (i : ℕ) (d : Rule) (b : Bool) → i < length all_rules
-    → broken (get_or all_rules i d) ≡ b → map (breach_by k) (filter broken (drop i all_rules))
-    ≡ cond b (breach_by k (get_or all_rules i d) ∷ []) []
-    ++ map (breach_by k) (filter broken (drop (i + 1) all_rules))
-broken_next k broken i d b within is =
-    ap (λ (rules : List Rule). map (breach_by k) (filter broken rules)) (drop_more all_rules i d within)
+broken_next : (k : ℕ) (broken : Rule → Bool) (among : List Rule) (i : ℕ) (d : Rule) (b : Bool) → i < length among
+    → broken (get_or among i d) ≡ b → map (breach_by k) (filter broken (drop i among))
+    ≡ cond b (breach_by k (get_or among i d) ∷ []) []
+    ++ map (breach_by k) (filter broken (drop (i + 1) among))
+broken_next k broken among i d b within is =
+    ap (λ (rules : List Rule). map (breach_by k) (filter broken rules)) (drop_more among i d within)
     ∙ go b is where
-      go : (b : Bool) → broken (get_or all_rules i d) ≡ b
-          → map (breach_by k) (filter broken (get_or all_rules i d ∷ drop (i + 1) all_rules))
-          ≡ cond b (breach_by k (get_or all_rules i d) ∷ []) []
-          ++ map (breach_by k) (filter broken (drop (i + 1) all_rules))
+      go : (b : Bool) → broken (get_or among i d) ≡ b
+          → map (breach_by k) (filter broken (get_or among i d ∷ drop (i + 1) among))
+          ≡ cond b (breach_by k (get_or among i d) ∷ []) []
+          ++ map (breach_by k) (filter broken (drop (i + 1) among))
       go true e = rw e refl
       go false e = rw e refl
 
 -- the rule at this place is broken, and its breach was added
-pub rule_broken : (k : ℕ) (broken : Rule → Bool) (i : ℕ) (d : Rule) (found whole : List Breach) → i < length all_rules
-    → found ++ map (breach_by k) (filter broken (drop i all_rules)) ≡ whole
-    → broken (get_or all_rules i d) ≡ true
-    → (found ++ breach_by k (get_or all_rules i d) ∷ []) ++ map (breach_by k) (filter broken (drop (i + 1) all_rules))
+pub rule_broken : (k : ℕ) (broken : Rule → Bool) (among : List Rule) (i : ℕ) (d : Rule) (found whole : List Breach)
+    → i < length among
+    → found ++ map (breach_by k) (filter broken (drop i among)) ≡ whole
+    → broken (get_or among i d) ≡ true
+    → (found ++ breach_by k (get_or among i d) ∷ []) ++ map (breach_by k) (filter broken (drop (i + 1) among))
     ≡ whole
-rule_broken k broken i d found whole within so_far is =
+rule_broken k broken among i d found whole within so_far is =
     append_assoc found _ _
-    ∙ ap (λ (bs : List Breach). found ++ bs) (sym (broken_next k broken i d true within is)) ∙ so_far
+    ∙ ap (λ (bs : List Breach). found ++ bs) (sym (broken_next k broken among i d true within is)) ∙ so_far
 
 -- it isn't
-pub rule_kept : (k : ℕ) (broken : Rule → Bool) (i : ℕ) (d : Rule) (found whole : List Breach) → i < length all_rules
-    → found ++ map (breach_by k) (filter broken (drop i all_rules)) ≡ whole
-    → broken (get_or all_rules i d) ≡ false
-    → found ++ map (breach_by k) (filter broken (drop (i + 1) all_rules)) ≡ whole
-rule_kept k broken i d found whole within so_far is =
-    ap (λ (bs : List Breach). found ++ bs) (sym (broken_next k broken i d false within is)) ∙ so_far
+pub rule_kept : (k : ℕ) (broken : Rule → Bool) (among : List Rule) (i : ℕ) (d : Rule) (found whole : List Breach)
+    → i < length among
+    → found ++ map (breach_by k) (filter broken (drop i among)) ≡ whole
+    → broken (get_or among i d) ≡ false
+    → found ++ map (breach_by k) (filter broken (drop (i + 1) among)) ≡ whole
+rule_kept k broken among i d found whole within so_far is =
+    ap (λ (bs : List Breach). found ++ bs) (sym (broken_next k broken among i d false within is)) ∙ so_far

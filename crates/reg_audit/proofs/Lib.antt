@@ -6,6 +6,7 @@ pub mod RuleTells
 pub mod Places
 pub mod BoxMarks
 pub mod InOrder
+pub mod RulesOn
 pub mod Exactly
 pub mod HeldKept
 pub mod EntryAudited

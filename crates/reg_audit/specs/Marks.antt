@@ -157,6 +157,17 @@ is_broken plan marks held deed rules.Danger = passes_danger deed
 is_broken plan marks held deed rules.Divided = is_divided deed
 is_broken plan marks held deed rules.Release = is_release deed
 
+-- the rules that may be broken by what was done, in their order
+abbrev pub rules_on : Deed → List Rule
+rules_on (deeds.Rang side code) = rules.Offer ∷ rules.Out ∷ []
+rules_on (deeds.Heard side code) = []
+rules_on (deeds.Turned way position) = rules.Clear ∷ rules.Normal ∷ []
+rules_on (deeds.WentPast entered left at_danger) = rules.Entering ∷ rules.Danger ∷ []
+rules_on (deeds.Berthed way) = rules.Berth ∷ []
+rules_on (deeds.PartBerthed way) = rules.Berth ∷ rules.Divided ∷ []
+rules_on deeds.Released = rules.Release ∷ []
+rules_on deeds.Nothing = []
+
 -- ---- a journal
 
 -- how many trains the section of the line holds whose commutator was turned

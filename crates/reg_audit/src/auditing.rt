@@ -5,7 +5,7 @@ ghost use Rattle.line_law.specs.History.{IsLegal};
 ghost use Rattle.line_report.specs.Asked.{AreFewEntries};
 ghost use Rattle.reg_audit.specs.Audits.{IsAuditOf};
 ghost use Rattle.reg_audit.specs.Held.{held_told};
-ghost use Rattle.reg_audit.specs.Marks.{breaches_at, breaches_of};
+ghost use Rattle.reg_audit.specs.Marks.{breaches_at, breaches_of, rules_on};
 
 use crate::deed::{Deed, deed_of};
 use crate::marks::{SideMarks, is_broken, marks_after, no_marks};
@@ -18,18 +18,33 @@ use rail_text::NoMemory;
 use std::alloc::Global;
 use std::marker::Model;
 
-// All rules in their order.
-const ALL_RULES: [Rule; 9] = [
-    Rule::Offer,
-    Rule::Clear,
-    Rule::Entering,
-    Rule::Berth,
-    Rule::Out,
-    Rule::Normal,
-    Rule::Danger,
-    Rule::Divided,
-    Rule::Release,
-];
+// The rules that a deed may break, in their order.
+const BY_BELL: [Rule; 2] = [Rule::Offer, Rule::Out];
+
+const BY_TURNING: [Rule; 2] = [Rule::Clear, Rule::Normal];
+
+const BY_PASSING: [Rule; 2] = [Rule::Entering, Rule::Danger];
+
+const BY_BERTHING: [Rule; 1] = [Rule::Berth];
+
+const BY_DIVIDING: [Rule; 2] = [Rule::Berth, Rule::Divided];
+
+const BY_RELEASE: [Rule; 1] = [Rule::Release];
+
+// The rules that may be broken by what was done, in their order. None of the others can be.
+fn rules_on(deed: &Deed) -> &'static [Rule]
+    ensures { result.now ≡ rules_on deed.now }
+{
+    match deed {
+        Deed::Rang { .. } => &BY_BELL,
+        Deed::Turned { .. } => &BY_TURNING,
+        Deed::WentPast { .. } => &BY_PASSING,
+        Deed::Berthed { .. } => &BY_BERTHING,
+        Deed::PartBerthed { .. } => &BY_DIVIDING,
+        Deed::Released => &BY_RELEASE,
+        Deed::Heard { .. } | Deed::Nothing => &[],
+    }
+}
 
 // How many trains the section of a turned line holds, by the trains of each pair of neighbours.
 fn held_told(trains: &[ByWay<HeldTrains>], box_no: u32, deed: &Deed) -> u32
@@ -60,10 +75,7 @@ fn add_breaches(
     ensures { OnOk result (found.new.items
         ≡ found.old.items ++ breaches_at plan.now number marks.now held deed.now) }
 {
-    if let Deed::Nothing = deed {
-        return Ok(());
-    }
-    for rule in &ALL_RULES {
+    for rule in rules_on(deed) {
         if is_broken(plan, marks, held, deed, *rule) {
             found.push(Breach {
                 entry: number,

@@ -131,13 +131,24 @@ pub fn no_marks(alloc: Global, boxes: usize) -> Result<Vec<ByWay<SideMarks>>, No
     Ok(vec![in alloc; none; boxes]?)
 }
 
-/// The marks of a box after something was done there.
+/// The marks of a box after something was done there. A bell is of one side alone, and nothing done leaves both.
 pub fn marks_after(plan: &Plan, deed: &Deed, marks: &ByWay<SideMarks>) -> ByWay<SideMarks>
     ensures { result ≡ marks_after plan.now deed.now marks.now }
 {
-    ByWay {
-        up: marks.up.after(plan, Way::Up, deed),
-        down: marks.down.after(plan, Way::Down, deed),
+    match *deed {
+        Deed::Nothing => *marks,
+        Deed::Rang { side: Way::Up, .. } | Deed::Heard { side: Way::Up, .. } => ByWay {
+            up: marks.up.after(plan, Way::Up, deed),
+            down: marks.down,
+        },
+        Deed::Rang { .. } | Deed::Heard { .. } => ByWay {
+            up: marks.up,
+            down: marks.down.after(plan, Way::Down, deed),
+        },
+        _ => ByWay {
+            up: marks.up.after(plan, Way::Up, deed),
+            down: marks.down.after(plan, Way::Down, deed),
+        },
     }
 }
 
