@@ -1,5 +1,5 @@
 -- A signal among signals of different levers is found by its lever, wherever the search begins.
-use Rattle.std.proofs.Common.{ℕ, zero, suc, ◌+◌, ◌==◌, ◌&&◌, ◌≡◌, ◌<◌, ⊎_elim, IsTrue, Bool, true, false}
+use Rattle.std.proofs.Common.{ℕ, zero, suc, ◌+◌, ◌==◌, ◌≡◌, ◌<◌, ⊎_elim, IsTrue, Bool, true, false}
 use Rattle.std.proofs.Common.{List, [], ◌∷◌, Some, None, length, map, drop, refl, sym, subst, ◌∙◌, arith}
 use Rattle.std.proofs.Common.{slice_index_or, eqb-true}
 use Rattle.std.specs.Prelude.{not, ◌||◌}

@@ -1,10 +1,17 @@
 -- Where no lower box is open, the entries of a box that were decided on its own tally are placed one after another.
-use Rattle.std.proofs.Common.{ℕ, ◌+◌, ◌++◌, ◌≡◌, ◌<◌, List, [], ◌∷◌, Some, Bool, false, drop, length}
-use Rattle.std.proofs.Common.{slice_index_or, refl, sym, ap, subst, ◌∙◌, arith}
+use Rattle.std.proofs.Common.{ℕ, zero, suc, ◌+◌, ◌++◌, ◌≡◌, ◌<◌, ◌≤◌, List, [], ◌∷◌, Some, Bool, false, drop, length}
+use Rattle.std.proofs.Common.{slice_index_or, slice_set, take, refl, sym, ap, subst, ◌∙◌, arith, eqb, ◌⊎◌, inl, inr}
+use Rattle.std.proofs.Common.{true, ◌≢◌}
 use Rattle.std.specs.Prelude.{if◌then◌else◌}
-use Rattle.std.proofs.lemmas.List.{drop_more, get_or-set_same, length-set}
+use Rattle.std.proofs.lemmas.List.{append_assoc, append-nil, drop_more, get_or_default, get_or-set_same, length-set}
+use Rattle.std.proofs.lemmas.List.{set-get_or, set-set}
+use Rattle.std.proofs.lemmas.List.{take_more}
+use Rattle.std.proofs.lemmas.Bool.Decides.{eqb_tells}
 use Rattle.line_plan.specs.Plans.{IsPlan, PlanFields}
+use Rattle.block_words.specs.declared.Way.TheVariants.{Up}
+use Rattle.line_law.specs.declared.call.Act.TheVariants.{Wind}
 use Rattle.line_law.specs.declared.call.Entry.{Entry}
+use Rattle.line_law.specs.declared.call.Reply.TheVariants.{Put}
 use Rattle.line_law.specs.declared.state.PairState.{PairState}
 use Rattle.word_laws.specs.TellsWord.{kind_told}
 use Rattle.line_journal.specs.FitTests.{is_word}
@@ -12,8 +19,8 @@ use Rattle.line_journal.specs.Halves.{made, pair_for}
 use Rattle.line_journal.specs.Keepers.{AreRests, IsFirstAwake, IsOpen, NoneAsleepOpen, NoneOpenBelow, opens_from}
 use Rattle.line_journal.specs.Keepers.{pair_woken, woken}
 use Rattle.line_journal.specs.Lists.{count_left}
-use Rattle.line_journal.specs.Merging.{IsKept, KeepsMerging, Merges}
-use Rattle.line_journal.specs.Order.{list_at, placed}
+use Rattle.line_journal.specs.Merging.{AreTallies, IsKept, KeepsMerging, Merges}
+use Rattle.line_journal.specs.Order.{list_at, placed, placed_some}
 use Rattle.line_journal.proofs.Answering.{awake_below, below_as}
 use Rattle.line_journal.proofs.Deciding.{fits_if, tally_fits, tally_made}
 use Rattle.line_journal.proofs.Found.{rests_next}
@@ -92,6 +99,17 @@ keeps_more b done lists more further left after e keeps next tally f a =
             (keeps.keeps plan all pairs awake rests is kept) next tally;
       }
 
+-- one more was decided so
+pub tally_more : (es : List Entry) (n : ℕ) (d : Entry) → n < length es
+    → is_word (kind_told (slice_index_or es n d).reply) ≡ false → AreTallies es n → AreTallies es (n + 1)
+tally_more es n d lt here before k e less = go (eqb_tells k n) where
+  go : ((eqb k n ≡ true) × (k ≡ n)) ⊎ ((eqb k n ≡ false) × (k ≢ n))
+      → is_word (kind_told (slice_index_or es k e).reply) ≡ false
+  go (inr p) = before k e (omega (arith, less, p.1))
+  go (inl p) =
+      ap (λ (i : ℕ). is_word (kind_told (slice_index_or es i e).reply)) p.1
+      ∙ ap (λ (x : Entry). is_word (kind_told x.reply)) (get_or_default es n e d lt) ∙ here
+
 -- the entry at a place of a list that is left from there on
 pub next_at : (left : List (List Entry)) (b i : ℕ) (list : List Entry) (d : Entry) → i < length list
     → list_at left b ≡ drop i list → list_at left b ≡ slice_index_or list i d ∷ drop 1 (list_at left b)
@@ -106,6 +124,35 @@ pub rest_after : (left after : List (List Entry)) (b i : ℕ) (list : List Entry
 rest_after left after b i list within rest a =
     ap (λ (ls : List (List Entry)). list_at ls b) a ∙ get_or-set_same left b _ [] within
     ∙ ap (λ (l : List Entry). drop 1 l) rest ∙ sym (drop_next i list)
+
+-- the next entries of a box that were decided on its own tally, so many
+pub keeps_some : (b : ℕ) (done : List Entry) (lists : List (List Entry)) (n : ℕ) → b < length lists
+    → n ≤ length (list_at lists b) → AreTallies (list_at lists b) n
+    → KeepsMerging b done lists (done ++ take n (list_at lists b)) (placed_some lists b n)
+keeps_some b done lists zero lt le tallies =
+    subst (λ (es : List Entry). KeepsMerging b done lists es (placed_some lists b 0)) (sym (append-nil done))
+    (subst (λ (ls : List (List Entry)). KeepsMerging b done lists done ls) (sym (set-get_or lists b []))
+    (keeps_all b done lists))
+keeps_some b done lists (suc n) lt le tallies =
+    let list : List Entry = list_at lists b in
+    let before : List (List Entry) = placed_some lists b n in
+    let at : list_at before b ≡ drop n list = get_or-set_same lists b (drop n list) [] lt in
+    let next = next_at before b n list none (omega (arith, le)) at in
+    let count : n + 1 ≡ suc n = omega arith in
+    let same : placed_some lists b (suc n) ≡ placed before b =
+    ap (λ (k : ℕ). slice_set lists b (drop k list)) (sym count)
+    ∙ ap (λ (l : List Entry). slice_set lists b l) (drop_next n list ∙ ap (λ (l : List Entry). drop 1 l) (sym at))
+    ∙ sym (set-set lists b (drop n list) (drop 1 (list_at before b))) in
+    let more : done ++ take (suc n) list ≡ (done ++ take n list) ++ slice_index_or list n none ∷ [] =
+    ap (λ (k : ℕ). done ++ take k list) (sym count)
+    ∙ ap (λ (es : List Entry). done ++ es) (take_more list n none (omega (arith, le)))
+    ∙ sym (append_assoc done (take n list) (slice_index_or list n none ∷ [])) in
+    keeps_more b done lists (done ++ take n list) (done ++ take (suc n) list) before (placed_some lists b (suc n))
+    (slice_index_or list n none)
+    (keeps_some b done lists n lt (omega (arith, le)) (λ k d less. tallies k d (omega (arith, less)))) next
+    (tallies n none (omega arith)) more same where
+      none : Entry
+      none = record { box_no = 0; call = record { moment = 0; act = Wind Up }; reply = Put }
 
 -- as the loop of the merge comes to the first box that is awake, and these entries of it are placed
 pub kept_from : (plan : PlanFields) (all : List (List Entry)) (done : List Entry) (pairs : List PairState)

@@ -1,10 +1,12 @@
 -- What the merge keeps: what is done so far, and what remains.
-use Rattle.std.specs.Prelude.{ℕ, ◌≡◌, ◌≤◌, List, ◌++◌, Bool, length}
+use Rattle.std.specs.Prelude.{ℕ, ◌≡◌, ◌≤◌, ◌<◌, List, ◌++◌, Bool, false, length, slice_index_or}
 use Rattle.line_plan.specs.Plans.{IsPlan, PlanFields}
 use Rattle.line_law.specs.declared.call.Entry.{Entry}
 use Rattle.line_law.specs.History.{IsLegal, part_of, state_of}
 use Rattle.line_law.specs.States.{LineState, opening_state}
 use Rattle.line_law.specs.declared.state.PairState.{PairState}
+use Rattle.word_laws.specs.TellsWord.{kind_told}
+use Rattle.line_journal.specs.FitTests.{is_word}
 use Rattle.line_journal.specs.Keepers.{AreRests, NoneAsleepOpen, NoneOpenBelow}
 use Rattle.line_journal.specs.Lists.{count_left}
 use Rattle.line_journal.specs.Order.{IsBoxReady, IsOrderFrom, list_at}
@@ -43,6 +45,10 @@ pub record IsKept (plan : PlanFields) (all : List (List Entry)) (done : List Ent
   pub below : NoneOpenBelow plan pairs lists b
   pub asleep : NoneAsleepOpen plan pairs lists awake
   pub are_rests : AreRests plan lists rests
+
+-- the first of these entries, so many, were decided on their box's own tally
+abbrev pub AreTallies : List Entry → ℕ → Type 0
+AreTallies es n = (k : ℕ) (d : Entry) → k < n → is_word (kind_told (slice_index_or es k d).reply) ≡ false
 
 -- more is done, and these lists are left: all that is kept as the merge looks at box b. The pairs stay as they are
 pub record KeepsMerging (b : ℕ) (done : List Entry) (lists : List (List Entry)) (more : List Entry)

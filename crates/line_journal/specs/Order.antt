@@ -64,6 +64,10 @@ Each P (x ∷ xs) = P x × Each P xs
 abbrev pub list_at : List (List Entry) → ℕ → List Entry
 list_at lists b = slice_index_or lists b []
 
+-- the entries that remain after so many of box b are placed
+abbrev pub placed_some : List (List Entry) → ℕ → ℕ → List (List Entry)
+placed_some lists b n = slice_set lists b (drop n (list_at lists b))
+
 -- the entries that remain after the next of box b is placed
 abbrev pub placed : List (List Entry) → ℕ → List (List Entry)
 placed lists b = slice_set lists b (drop 1 (list_at lists b))

@@ -2,7 +2,7 @@
 
 ghost use Rattle.std.specs.Prelude.{◌≡◌, ◌<◌, ◌≤◌, length, drop};
 ghost use Rattle.line_journal.specs.Lists.{AreCounts, left_of};
-ghost use Rattle.line_journal.specs.Order.{list_at, lists_of, placed};
+ghost use Rattle.line_journal.specs.Order.{list_at, lists_of, placed_some};
 
 use line_law::Entry;
 use rail_text::NoMemory;
@@ -28,19 +28,19 @@ fn left_in<'a>(registers: &'a [Register], counts: &[usize], box_no: usize) -> &'
     behind(registers[box_no].entries(), counts[box_no])
 }
 
-// Counts one entry more of a box, which has one left.
+// Counts so many entries more of a box, which has them left.
 #[tactic(auto, using(crate::proofs::Lefts::lefts_set, crate::proofs::Lefts::counts_set))]
-fn count_in(registers: &[Register], counts: &mut [usize], box_no: usize)
+fn count_in(registers: &[Register], counts: &mut [usize], box_no: usize, many: usize)
     requires counts { AreCounts registers.now counts.old }
     requires box_no { box_no < length registers.now }
-    requires some { 0 < length (list_at (left_of (lists_of registers.now) counts.old) box_no) }
+    requires some { many ≤ length (list_at (left_of (lists_of registers.now) counts.old) box_no) }
     ensures left { left_of (lists_of registers.now) counts.new
-        ≡ placed (left_of (lists_of registers.now) counts.old) box_no }
+        ≡ placed_some (left_of (lists_of registers.now) counts.old) box_no many }
     ensures counts { AreCounts registers.now counts.new }
 {
     // The read shows the proof that the register has no more entries than a count can tell.
     let _most = registers[box_no].entries().len();
-    counts[box_no] += 1;
+    counts[box_no] += many;
 }
 
 /// The registers of a line, and how many entries of each are placed. Contracts see the entries of each box that remain.
@@ -64,9 +64,9 @@ impl<'a> Model for Left<'a> {
 }
 
 impl<'a> Left<'a> {
-    ghost use Rattle.std.specs.Prelude.{◌≡◌, ◌<◌, ◌-◌, ◌^◌, IfOk, length, min};
+    ghost use Rattle.std.specs.Prelude.{◌≡◌, ◌<◌, ◌≤◌, ◌-◌, ◌^◌, IfOk, length, min};
     ghost use Rattle.line_journal.specs.Lists.{count_left};
-    ghost use Rattle.line_journal.specs.Order.{list_at, lists_of, placed};
+    ghost use Rattle.line_journal.specs.Order.{list_at, lists_of, placed, placed_some};
 
     /// Nothing is placed.
     #[tactic(auto, using(crate::proofs::Lefts::left_rules))]
@@ -112,6 +112,16 @@ impl<'a> Left<'a> {
         requires some { 0 < length (list_at self.old box_no) }
         ensures { self.new ≡ placed self.old box_no }
     {
-        count_in(self.registers, &mut self.counts, box_no);
+        count_in(self.registers, &mut self.counts, box_no, 1);
+    }
+
+    /// Places so many next entries of a box, which has them left.
+    #[tactic(auto, using(crate::proofs::Lefts::left_rules))]
+    pub fn place_some(&mut self, box_no: usize, many: usize)
+        requires box_no { box_no < length self.old }
+        requires some { many ≤ length (list_at self.old box_no) }
+        ensures { self.new ≡ placed_some self.old box_no many }
+    {
+        count_in(self.registers, &mut self.counts, box_no, many);
     }
 }

@@ -1,6 +1,6 @@
 //! The merge of registers into the journal.
 
-ghost use Rattle.std.specs.Prelude.{◌≡◌, ◌↔◌, ◌<◌, ◌+◌, ◌-◌, ◌∷◌, if◌then◌else◌};
+ghost use Rattle.std.specs.Prelude.{◌≡◌, ◌↔◌, ◌<◌, ◌+◌, ◌-◌, ◌≤◌, ◌∷◌, if◌then◌else◌};
 ghost use Rattle.std.specs.Prelude.{List, IfOk, IsTrue, All, true, false, drop, replicate, length, slice_set};
 ghost use Rattle.std.specs.Prelude.{option_copied};
 ghost use Rattle.line_law.specs.declared.call.Entry.{Entry};
@@ -11,7 +11,7 @@ ghost use Rattle.word_laws.specs.Footprint.{way_at};
 ghost use Rattle.line_journal.specs.Keepers.{AreRests, IsFirstAwake, IsOpen, IsPlaced, NoneAsleepOpen, NoneOpenBelow};
 ghost use Rattle.line_journal.specs.Keepers.{opens_from, pair_woken, woken};
 ghost use Rattle.line_journal.specs.Lists.{AreOfBoxes, HasSpaceFor, HaveEnded};
-ghost use Rattle.line_journal.specs.Merging.{KeepsMerging};
+ghost use Rattle.line_journal.specs.Merging.{AreTallies, KeepsMerging};
 ghost use Rattle.line_journal.specs.Order.{IsInOrder, IsOrder, list_at};
 ghost use Rattle.line_journal.specs.Halves.{made, pair_for};
 
@@ -161,6 +161,19 @@ fn place<'a>(
     Some(entry)
 }
 
+// How many of these entries, from the first on, were decided on their box's own tally.
+fn tallies_in(entries: &[Entry]) -> usize
+    ensures within { result ≤ length entries.now }
+    ensures each { AreTallies entries.now result }
+{
+    for (at, entry) in entries.iter().enumerate() {
+        if is_on_word(entry) {
+            return at;
+        }
+    }
+    entries.len()
+}
+
 // Places the next entries of a box as long as they were decided on its own tally: where no lower box is open, one after
 // another is the next.
 fn place_tallies(
@@ -171,13 +184,10 @@ fn place_tallies(
     requires { box_no < length left.old }
     ensures { IfOk result (λ done. KeepsMerging box_no entries.old.items left.old entries.new.items left.new) }
 {
-    for entry in left.of_box(box_no) {
-        if is_on_word(entry) {
-            break;
-        }
-        entries.push(*entry)?;
-        left.place_next(box_no);
-    }
+    let next = left.of_box(box_no);
+    let many = tallies_in(next);
+    entries.extend_from_slice(&next[..many])?;
+    left.place_some(box_no, many);
     Ok(())
 }
 

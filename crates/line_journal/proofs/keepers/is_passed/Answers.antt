@@ -5,7 +5,7 @@ use Rattle.line_law.specs.declared.call.Entry.{Entry}
 use Rattle.block_words.specs.declared.Way.{Way}
 use Rattle.line_law.specs.Replies.{way_number}
 use Rattle.line_journal.specs.Halves.{pair_for}
-use Rattle.line_journal.specs.Keepers.{LetsPass, first_keeper, keeper_slot, kept_by, kept_slot, other_box, slots}
+use Rattle.line_journal.specs.Keepers.{LetsPass, keeper_slot, kept_by, kept_slot, other_box, slots}
 use Rattle.line_journal.specs.Order.{list_at}
 use Rattle.line_journal.proofs.Found.{none_left}
 use Rattle.line_journal.proofs.Passing.{none_passes, other_passes, passes_other, unkept_passes}

@@ -1,26 +1,23 @@
-use Rattle.std.proofs.Common.{◌+◌, ◌<◌, ◌≡◌, ◌∙◌, List, drop, length, sym, ap, arith}
+use Rattle.std.proofs.Common.{List, ◌++◌, length, sym, ap, subst, take, arith, ◌∙◌}
 use Rattle.line_law.specs.declared.call.Entry.{Entry}
-use Rattle.line_journal.specs.Order.{list_at}
-use Rattle.line_journal.proofs.Tallies.{keeps_more, next_at, rest_after}
+use Rattle.line_journal.specs.Merging.{AreTallies, KeepsMerging}
+use Rattle.line_journal.specs.Order.{placed_some}
+use Rattle.line_journal.proofs.Tallies.{keeps_some}
 use Rattle.line_journal.proofs.merging.place_tallies.Goals as goal
 
-pub loop-entry-preserved : goal.loop-entry-preserved
-loop-entry-preserved c =
-    let within : c.loop-entry.entry-index < length c.of_box-entry-items.result.now =
-    omega (arith, c.loop-entry-test.true) in
-    let rest : list_at c.loop-entry.left c.args.box_no
-    ≡ drop c.loop-entry.entry-index c.of_box-entry-items.result.now =
-    c.loop-entry.invariant.rest
-    ∙ ap (λ (list : List Entry). drop c.loop-entry.entry-index list) (sym c.of_box-entry-items.ensures) in
-    let count = c.loop-entry.invariant.keeps.count in
-    record {
-      keeps =
-          keeps_more c.args.box_no c.args.entries.now.items c.args.left.now c.loop-entry.entries.items
-          c.push.new.self.items c.loop-entry.left c.place_next.new.self _ c.loop-entry.invariant.keeps
-          (next_at c.loop-entry.left c.args.box_no c.loop-entry.entry-index c.of_box-entry-items.result.now _ within
-          rest) (sym c.is_on_word.ensures ∙ c.if-is_on_word.false) c.in_ok-push.ensures.items c.place_next.ensures;
-      rest =
-          rest_after c.loop-entry.left c.place_next.new.self c.args.box_no c.loop-entry.entry-index
-          c.of_box-entry-items.result.now (omega (arith, c.requires, count)) rest c.place_next.ensures
-          ∙ ap (λ (list : List Entry). drop (c.loop-entry.entry-index + 1) list) c.of_box-entry-items.ensures;
-    }
+pub returns : goal.returns
+returns c =
+    let many = c.tallies_in-many.result in
+    let lists = c.args.left.now in
+    let next = c.of_box-next.ensures in
+    let within = c.tallies_in-many.ensures.within in
+    let fits = ap (λ (l : List Entry). length l) next in
+    let keeps = keeps_some c.args.box_no c.args.entries.now.items lists many c.requires (omega (arith, within, fits))
+    (subst (λ (l : List Entry). AreTallies l many) next c.tallies_in-many.ensures.each) in
+    subst (λ (left : List (List Entry)).
+    KeepsMerging c.args.box_no c.args.entries.now.items lists c.extend_from_slice.new.self.items left)
+    (sym c.place_some.ensures)
+    (subst (λ (es : List Entry). KeepsMerging c.args.box_no c.args.entries.now.items lists es
+    (placed_some lists c.args.box_no many))
+    (ap (λ (l : List Entry). c.args.entries.now.items ++ take many l) (sym next)
+    ∙ sym c.in_ok-extend_from_slice.ensures.items) keeps)
