@@ -21,6 +21,9 @@ use train_register::{Register, print_register};
 // How many times over the entries of a journal, and the registers, are cut in halves, each printed on a thread.
 const CUTS: u32 = 2;
 
+// So few entries are printed sooner than a thread is made for half of them.
+const FEW: usize = 8192;
+
 // The journal's lines of entries that follow one another, the first with this number.
 fn print_lines(
     alloc: Global,
@@ -51,7 +54,7 @@ fn print_entries<R: Threads + Sync>(
     requires numbers { number + length entries.now < 2 ^ 64 }
     ensures { IfOk result (λ output. output ≡ entries_text plan.now number entries.now) }
 {
-    if cuts == 0 {
+    if cuts == 0 || entries.len() < FEW {
         return print_lines(alloc, plan, number, entries);
     }
     let (front, behind) = entries.split_at(entries.len() / 2);
@@ -131,7 +134,7 @@ fn print_registers<R: Threads + Sync>(
     ensures { IfOk result (λ output. output
         ≡ flat_map (λ register. register_text plan.now register.box_no register.entries) registers.now) }
 {
-    if cuts == 0 {
+    if cuts == 0 || registers.len() < 2 {
         return print_each(alloc, plan, registers);
     }
     let (front, behind) = registers.split_at(registers.len() / 2);
