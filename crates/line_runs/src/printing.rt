@@ -21,7 +21,7 @@ use train_register::{Register, print_register};
 // How many times over the entries of a journal, and the registers, are cut in halves, each printed on a thread.
 const CUTS: u32 = 2;
 
-// So few entries are printed sooner than a thread is made for half of them.
+// Fewer entries than these are printed on one thread.
 const FEW: usize = 8192;
 
 // The journal's lines of entries that follow one another, the first with this number.
