@@ -63,10 +63,10 @@ fn shown_code(shown: Option<CodeNo>) -> u64
 impl Reply {
     // Which of the replies it is, numbered in their order from 0.
     #[inline(always)]
-    fn number(self) -> u32
-        ensures { result ≡ reply_no self }
+    fn number(&self) -> u32
+        ensures { result ≡ reply_no self.now }
     {
-        match self {
+        match *self {
             Reply::Rung { .. } => 0,
             Reply::BellBusy { .. } => 1,
             Reply::Heard { .. } => 2,
@@ -119,10 +119,10 @@ impl Reply {
 
     // The numbers that it tells, with 0 for each that it tells less than four.
     #[inline(always)]
-    fn numbers_told(self) -> [u64; 4]
-        ensures { result ≡ numbers_told self }
+    fn numbers_told(&self) -> [u64; 4]
+        ensures { result ≡ numbers_told self.now }
     {
-        match self {
+        match *self {
             Reply::Rung { k } => [k, 0, 0, 0],
             Reply::BellBusy { k, code } => [k, u64::from(code), 0, 0],
             Reply::Heard { k, code } => [k, u64::from(code), 0, 0],

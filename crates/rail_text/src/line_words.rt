@@ -72,19 +72,21 @@ fn are_printable(text: &[u8]) -> bool
 }
 
 /// The words of a text, and what is seen of it.
+#[inline(always)]
 #[tactic(auto, using(crate::proofs::WordEnds::all_rules))]
 pub(crate) fn seen_words(text: &[u8]) -> (LineWords<'_>, Seen)
     ensures words { result.0 ≡ words_of text.now }
     ensures printable { result.1.printable ≡ list_all is_printable text.now }
     ensures gap { result.1.gap ≡ list_any is_empty_word (words_of text.now) }
 {
-    let cut = cut(text);
-    let words = LineWords {
+    let mut words = LineWords {
         text,
-        ends: cut.ends,
+        ends: WordEnds::none(),
         from: 0,
-        count: cut.words,
+        count: 0,
     };
+    let cut = cut(text, &mut words.ends);
+    words.count = cut.words;
     let seen = Seen {
         printable: are_printable(text),
         gap: cut.gap,

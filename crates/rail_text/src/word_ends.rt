@@ -50,6 +50,31 @@ fn sought_start(text: &[u8], word: usize) -> usize
 }
 
 impl WordEnds {
+    /// No end is kept.
+    pub fn none() -> WordEnds
+        ensures kept { result.kept ≡ 0 }
+        ensures room { length result.at ≡ 16 }
+    {
+        WordEnds {
+            at: [0; KEPT],
+            kept: 0,
+        }
+    }
+
+    // Once the text is gone over, its last word ends where it does. Where the text is short enough, its first ends are
+    // kept.
+    fn keep(&mut self, spaces: usize, len: usize)
+        requires { spaces + 1 < 2 ^ 64 }
+        ensures ends { (text : List ℕ) (start : ℕ) (gap : Bool) → length text ≡ len
+            → IsCutUpTo text self.old.at len spaces start gap → AreEnds text self.new.at self.new.kept }
+        ensures all { len < 256 → self.new.kept ≡ min (spaces + 1) 16 }
+    {
+        if spaces < KEPT {
+            self.at[spaces] = (len % 256) as u8;
+        }
+        self.kept = if len < 256 { (spaces + 1).min(KEPT) } else { 0 };
+    }
+
     // Where a word of the text ends whose end is kept.
     fn end(&self, text: &[u8], word: usize) -> usize
         requires ends { AreEnds text.now self.now.at self.now.kept }
@@ -88,11 +113,9 @@ impl WordEnds {
     }
 }
 
-/// What is seen of a text while its words are cut: where they end, how many there are, and whether
-/// one of them is empty.
+/// What is seen of a text while its words are cut: how many there are, and whether one of them is empty.
 #[derive(Clone, Copy)]
 pub(crate) struct CutText {
-    pub ends: WordEnds,
     pub words: usize,
     pub gap: bool,
 }
@@ -179,37 +202,22 @@ fn cut_bytes(text: &[u8], cutting: &mut Cutting, ends: &mut [u8; KEPT])
     }
 }
 
-// The places where the first words of a text end, if it is short enough, once it is gone over: the last word ends where
-// the text does.
-fn kept_ends(mut places: [u8; KEPT], spaces: usize, len: usize) -> WordEnds
-    requires { spaces + 1 < 2 ^ 64 }
-    ensures ends { (text : List ℕ) (start : ℕ) (gap : Bool) → length text ≡ len
-        → IsCutUpTo text places len spaces start gap → AreEnds text result.at result.kept }
-    ensures all { len < 256 → result.kept ≡ min (spaces + 1) 16 }
-{
-    if spaces < KEPT {
-        places[spaces] = (len % 256) as u8;
-    }
-    let kept = if len < 256 { (spaces + 1).min(KEPT) } else { 0 };
-    WordEnds { at: places, kept }
-}
-
-/// Cuts a text into its words.
+/// Cuts a text into its words, and keeps where the first of them end.
 #[tactic(auto, using(crate::proofs::WordEnds::cut_rules))]
-pub(crate) fn cut(text: &[u8]) -> CutText
-    ensures ends { AreEnds text.now result.ends.at result.ends.kept }
+pub(crate) fn cut(text: &[u8], ends: &mut WordEnds) -> CutText
+    requires { length ends.old.at ≡ 16 }
+    ensures ends { AreEnds text.now ends.new.at ends.new.kept }
     ensures words { result.words ≡ length (words_of text.now) }
     ensures gap { result.gap ≡ list_any is_empty_word (words_of text.now) }
 {
-    let mut places = [0; KEPT];
     let mut cutting = Cutting::none();
     if text.len() >= CHUNK {
-        cut_chunks(text, &mut cutting, &mut places);
+        cut_chunks(text, &mut cutting, &mut ends.at);
     } else {
-        cut_bytes(text, &mut cutting, &mut places);
+        cut_bytes(text, &mut cutting, &mut ends.at);
     }
+    ends.keep(cutting.spaces, text.len());
     CutText {
-        ends: kept_ends(places, cutting.spaces, text.len()),
         words: cutting.spaces + 1,
         gap: cutting.gap | (text.len() == cutting.start),
     }
