@@ -6,3 +6,4 @@ pub mod ScriptsWorked
 pub mod OutputRead
 pub mod Printed
 pub mod LineWatched
+pub mod Copied

@@ -20,7 +20,7 @@ use Rattle.train_laws.proofs.OneTrain.{held_few_before}
 use Rattle.train_laws.proofs.PullTold.{each_pull_told}
 use Rattle.script_text.specs.Scripts.{IsScriptOf, most_calls}
 use Rattle.script_text.specs.declared.script.Script.{Script}
-use Rattle.train_register.specs.Registers.{AreParts, RegisterFields}
+use Rattle.train_register.specs.Registers.{AreParts, IsPrintable, RegisterFields}
 use Rattle.train_register.proofs.Parts.{parts_printable}
 use Rattle.signalman_seats.specs.Lines.{AreFresh, AreMen, Closed}
 use Rattle.signalman_seats.specs.Men.{IsFresh, Man}
@@ -353,3 +353,11 @@ line_merged run registers journal is worked legal parts order count =
         printable = parts_printable run.plan journal registers parts spelled;
       };
     }
+
+-- the registers of a line that was worked can be printed
+pub worked_printable : (plan : PlanFields) (scripts : List Script) (registers : List RegisterFields) → IsPlan plan
+    → AreWorked plan scripts registers → All (IsPrintable plan) registers
+worked_printable plan scripts registers is worked =
+    let few = worked.few in
+    parts_printable plan worked.history registers worked.parts
+    (legal_spelled plan worked.history is (omega (arith, few)) worked.legal)

@@ -5,3 +5,4 @@ pub mod Worked
 pub mod Outputs
 pub mod Made
 pub mod Watched
+pub mod Copying

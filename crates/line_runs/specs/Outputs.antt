@@ -23,13 +23,13 @@ output_text plan es = journal_text plan es ++ (registers_text plan es ++ result_
 abbrev pub IsOutputOf : Run → List ℕ → Type 0
 IsOutputOf run text = (journal : List Entry) × IsJournalOf run journal × (text ≡ output_text run.plan journal)
 
--- an output is two others that were both printed, one behind the other
-pub record AreInOrder {E : Type 0} (front behind : Result (List ℕ) E) (output : List ℕ) : Type 0 where
-  pub first : List ℕ
-  pub second : List ℕ
+-- two lists that were both made are a whole, one behind the other
+pub record AreInOrder {E X : Type 0} (front behind : Result (List X) E) (whole : List X) : Type 0 where
+  pub first : List X
+  pub second : List X
   pub first_is : front ≡ Ok first
   pub second_is : behind ≡ Ok second
-  pub whole : output ≡ first ++ second
+  pub both : whole ≡ first ++ second
 
 -- ---- what comes of texts that a shelf may tell
 

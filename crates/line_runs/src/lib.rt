@@ -2,9 +2,10 @@
 //! is printed of it is built whole.
 #![tactic(auto)]
 
+mod copying;
 mod look;
-mod output;
 mod printing;
+mod registers;
 mod roster;
 mod run;
 mod serial;

@@ -1,215 +1,210 @@
-//! The output of a line that was worked, printed in parts on threads.
+//! The output of a line that was worked: its registers are printed on threads, and the journal is copied from them.
 
-ghost use Rattle.std.specs.Prelude.{◌≡◌, ◌+◌, ◌<◌, ◌^◌, ◌++◌, All, IfOk, codes, length};
-ghost use Rattle.std.specs.List.{flat_map};
-ghost use Rattle.line_report.specs.Journals.{entries_text, heading_text, journal_text};
-ghost use Rattle.line_runs.specs.Outputs.{output_text, result_text};
-ghost use Rattle.line_runs.specs.Worked.{CanBePrinted};
-ghost use Rattle.script_text.specs.Entries.{IsSpelled};
-ghost use Rattle.train_register.specs.Registers.{IsPrintable, register_text, registers_text};
+ghost use Rattle.std.specs.Prelude.{◌≡◌, All, IfOk, map, string_bytes};
+ghost use Rattle.line_report.specs.Journals.{journal_text};
+ghost use Rattle.line_report.specs.Refusals.{refused_entries};
+ghost use Rattle.line_report.specs.Sections.{sections_text};
+ghost use Rattle.line_runs.specs.Outputs.{output_text};
+ghost use Rattle.line_runs.specs.Worked.{AreWorked, CanBePrinted, IsWorkedLine};
+ghost use Rattle.text_fetch.specs.Runs.{AreScriptsOf};
+ghost use Rattle.train_register.specs.Registers.{IsPrintable, register_text};
 
-use crate::output::Output;
-use crate::worked::WorkedLine;
-use line_law::Entry;
+use crate::copying::{copy_journal, put_refusals};
+use crate::registers::PrintedRegisters;
+use crate::worked::{WorkedLine, merged_journal};
+use line_law::Journal;
 use line_plan::Plan;
-use line_report::{put_entries, put_heading, put_refusals, put_sections};
+use line_report::put_sections;
 use rail_text::NoMemory;
+use script_text::Script;
 use std::alloc::Global;
 use std::thread::{Threads, join};
-use train_register::{Register, print_register};
+use train_register::{Ended, Register, print_register};
 
-// How many times over the entries of a journal, and the registers, are cut in halves, each printed on a thread.
+// How many times over the registers are cut in halves, each printed on a thread.
 const CUTS: u32 = 2;
 
-// Fewer entries than these are printed on one thread.
-const FEW: usize = 8192;
+// How much longer a line of the journal is than the register's, with a box's name and a number of more digits. It is
+// only room that is made at once.
+const LONGER: usize = 16;
 
-// The journal's lines of entries that follow one another, the first with this number.
-fn print_lines(
+// These registers, one after another.
+fn print_each(
     alloc: Global,
     plan: &Plan,
-    number: usize,
-    entries: &[Entry],
-) -> Result<Output, NoMemory>
-    requires spelled { All (IsSpelled plan.now) entries.now }
-    requires numbers { number + length entries.now < 2 ^ 64 }
-    ensures { IfOk result (λ output. output ≡ entries_text plan.now number entries.now) }
-{
-    let mut text = String::new(alloc);
-    put_entries(&mut text, plan, number, entries)?;
-    Ok(Output::of_text(alloc, text)?)
-}
-
-// The same lines, in halves that are printed on threads, so many times over.
-#[cycle(entries)]
-fn print_entries<R: Threads + Sync>(
-    rt: &R,
-    alloc: Global,
-    plan: &Plan,
-    number: usize,
-    entries: &[Entry],
-    cuts: u32,
-) -> Result<Output, NoMemory>
-    requires spelled { All (IsSpelled plan.now) entries.now }
-    requires numbers { number + length entries.now < 2 ^ 64 }
-    ensures { IfOk result (λ output. output ≡ entries_text plan.now number entries.now) }
-{
-    if cuts == 0 || entries.len() < FEW {
-        return print_lines(alloc, plan, number, entries);
-    }
-    let (front, behind) = entries.split_at(entries.len() / 2);
-    let later = number + front.len();
-    let cuts = cuts - 1;
-    let front = || -> Result<Output, NoMemory>
-        requires { All (IsSpelled plan.now) front.now × (number + length front.now < 2 ^ 64) }
-        ensures { IfOk result (λ output. output ≡ entries_text plan.entry.now number front.entry.now) }
-    { print_entries(rt, alloc, plan, number, front, cuts) };
-    let behind = || -> Result<Output, NoMemory>
-        requires { All (IsSpelled plan.now) behind.now × (later + length behind.now < 2 ^ 64) }
-        ensures { IfOk result (λ output. output ≡ entries_text plan.entry.now later behind.entry.now) }
-    { print_entries(rt, alloc, plan, later, behind, cuts) };
-    let (front, behind) = join(rt, front, behind);
-    Output::in_order(front, behind)
-}
-
-// The journal's first line.
-fn print_heading(alloc: Global, plan: &Plan) -> Result<Output, NoMemory>
-    ensures { IfOk result (λ output. output ≡ heading_text plan.now) }
-{
-    let mut line = String::new(alloc);
-    put_heading(&mut line, plan)?;
-    Ok(Output::of_text(alloc, line)?)
-}
-
-// The journal's last line.
-fn print_end(alloc: Global) -> Result<Output, NoMemory>
-    ensures { IfOk result (λ output. output ≡ codes "end\n") }
-{
-    let mut line = String::new(alloc);
-    line.push_str("end\n")?;
-    Ok(Output::of_text(alloc, line)?)
-}
-
-// The journal: its first line, those of its entries in pieces, and its end.
-#[tactic(auto, using(crate::proofs::Printed::journal_whole))]
-fn print_journal<R: Threads + Sync>(
-    rt: &R,
-    alloc: Global,
-    plan: &Plan,
-    entries: &[Entry],
-) -> Result<Output, NoMemory>
-    requires { All (IsSpelled plan.now) entries.now }
-    ensures { IfOk result (λ output. output ≡ journal_text plan.now entries.now) }
-{
-    let mut output = print_heading(alloc, plan)?;
-    output.append(print_entries(rt, alloc, plan, 1, entries, CUTS)?)?;
-    output.append(print_end(alloc)?)?;
-    Ok(output)
-}
-
-// These registers, each as a part.
-#[tactic(auto, using(rail_text::proofs::Texts::texts))]
-fn print_each(alloc: Global, plan: &Plan, registers: &[Register]) -> Result<Output, NoMemory>
+    registers: &[Register],
+) -> Result<PrintedRegisters, NoMemory>
     requires { All (IsPrintable plan.now) registers.now }
-    ensures { IfOk result (λ output. output
-        ≡ flat_map (λ register. register_text plan.now register.box_no register.entries) registers.now) }
+    ensures { IfOk result (λ printed. printed
+        ≡ map (λ register. register_text plan.now register.box_no register.entries) registers.now) }
 {
-    let mut output = Output::new(alloc);
+    let mut printed = PrintedRegisters::none(alloc);
     for register in registers {
-        output.push(print_register(alloc, plan, register)?)?;
+        printed.push(print_register(alloc, plan, register)?)?;
     }
-    Ok(output)
+    Ok(printed)
 }
 
 // The same registers, in halves that are printed on threads, so many times over.
 #[cycle(registers)]
-fn print_registers<R: Threads + Sync>(
+fn print_halves<R: Threads + Sync>(
     rt: &R,
     alloc: Global,
     plan: &Plan,
     registers: &[Register],
     cuts: u32,
-) -> Result<Output, NoMemory>
+) -> Result<PrintedRegisters, NoMemory>
     requires { All (IsPrintable plan.now) registers.now }
-    ensures { IfOk result (λ output. output
-        ≡ flat_map (λ register. register_text plan.now register.box_no register.entries) registers.now) }
+    ensures { IfOk result (λ printed. printed
+        ≡ map (λ register. register_text plan.now register.box_no register.entries) registers.now) }
 {
     if cuts == 0 || registers.len() < 2 {
         return print_each(alloc, plan, registers);
     }
     let (front, behind) = registers.split_at(registers.len() / 2);
     let cuts = cuts - 1;
-    let front = || -> Result<Output, NoMemory>
+    let front = || -> Result<PrintedRegisters, NoMemory>
         requires { All (IsPrintable plan.now) front.now }
-        ensures { IfOk result (λ output. output
-            ≡ flat_map (λ register. register_text plan.entry.now register.box_no register.entries) front.entry.now) }
-    { print_registers(rt, alloc, plan, front, cuts) };
-    let behind = || -> Result<Output, NoMemory>
+        ensures { IfOk result (λ printed. printed
+            ≡ map (λ register. register_text plan.entry.now register.box_no register.entries) front.entry.now) }
+    { print_halves(rt, alloc, plan, front, cuts) };
+    let behind = || -> Result<PrintedRegisters, NoMemory>
         requires { All (IsPrintable plan.now) behind.now }
-        ensures { IfOk result (λ output. output
-            ≡ flat_map (λ register. register_text plan.entry.now register.box_no register.entries) behind.entry.now) }
-    { print_registers(rt, alloc, plan, behind, cuts) };
+        ensures { IfOk result (λ printed. printed
+            ≡ map (λ register. register_text plan.entry.now register.box_no register.entries) behind.entry.now) }
+    { print_halves(rt, alloc, plan, behind, cuts) };
     let (front, behind) = join(rt, front, behind);
-    Output::in_order(front, behind)
+    PrintedRegisters::in_order(front, behind)
 }
 
-// What came of the run: the refused calls, and the most trains that each section held.
-fn print_result(alloc: Global, plan: &Plan, line: &WorkedLine) -> Result<Output, NoMemory>
+/// The registers of a line, printed on threads.
+pub(crate) fn print_registers<R: Threads + Sync>(
+    rt: &R,
+    alloc: Global,
+    plan: &Plan,
+    registers: &[Register],
+) -> Result<PrintedRegisters, NoMemory>
+    requires { All (IsPrintable plan.now) registers.now }
+    ensures { IfOk result (λ printed. printed
+        ≡ map (λ register. register_text plan.now register.box_no register.entries) registers.now) }
+{
+    print_halves(rt, alloc, plan, registers, CUTS)
+}
+
+/// Merges the registers of a line whose scripts were worked into its journal, and prints them meanwhile on threads.
+pub(crate) fn merged_and_printed<R: Threads + Sync>(
+    rt: &R,
+    alloc: Global,
+    plan: &Plan,
+    scripts: &[Script],
+    ended: Ended,
+) -> Result<(WorkedLine, PrintedRegisters), NoMemory>
+    requires scripts { AreScriptsOf plan.now scripts.now }
+    requires worked { AreWorked plan.now scripts.now ended.registers }
+    ensures line { IfOk result (λ r. IsWorkedLine (record { plan = plan.now; scripts = scripts.now })
+        r.0.journal.entries r.0.ended.registers) }
+    ensures printed { IfOk result (λ r. r.1
+        ≡ map (λ register. register_text plan.now register.box_no register.entries) r.0.ended.registers) }
+{
+    plan.meets_conditions();
+    let parts = &ended;
+    let journal = || -> Result<Journal, NoMemory>
+        requires { AreScriptsOf plan.now scripts.now × AreWorked plan.now scripts.now parts.now.registers }
+        ensures { IfOk result (λ journal. IsWorkedLine
+            (record { plan = plan.entry.now; scripts = scripts.entry.now })
+            journal.entries parts.entry.now.registers) }
+    { merged_journal(alloc, plan, scripts, parts) };
+    let registers = || -> Result<PrintedRegisters, NoMemory>
+        requires { All (IsPrintable plan.now) parts.now.registers }
+        ensures { IfOk result (λ printed. printed ≡ map
+            (λ register. register_text plan.entry.now register.box_no register.entries)
+            parts.entry.now.registers) }
+    { print_registers(rt, alloc, plan, parts.registers.as_slice()) };
+    let (journal, registers) = join(rt, journal, registers);
+    let (journal, registers) = (journal?, registers?);
+    Ok((WorkedLine { journal, ended }, registers))
+}
+
+// The journal, copied from the registers that are printed, with room for all that stands behind it, and those of its
+// lines whose replies are refused.
+fn print_journal(
+    alloc: Global,
+    plan: &Plan,
+    line: &WorkedLine,
+    registers: &PrintedRegisters,
+) -> Result<(Vec<u8>, Vec<u8>), NoMemory>
+    requires line { CanBePrinted plan.now line.now.journal.entries line.now.ended.registers }
+    requires registers { registers.now ≡ map
+        (λ register. register_text plan.now register.box_no register.entries) line.now.ended.registers }
+    ensures { IfOk result (λ r. (r.0.items ≡ journal_text plan.now line.now.journal.entries)
+        × (r.1.items ≡ refused_entries plan.now 1 line.now.journal.entries)) }
+{
+    plan.meets_conditions();
+    let entries = line.journal.entries.as_slice();
+    let longer = entries.len().saturating_mul(LONGER);
+    let room = registers.room().saturating_mul(2).saturating_add(longer);
+    let mut journal = Vec::with_capacity(alloc, room)?;
+    let mut refused = Vec::new(alloc);
+    let mut lines = registers.told_lines(alloc)?;
+    copy_journal(&mut journal, &mut refused, plan, entries, &mut lines)?;
+    Ok((journal, refused))
+}
+
+// The most trains that each section held.
+fn print_sections(alloc: Global, plan: &Plan, line: &WorkedLine) -> Result<String, NoMemory>
     requires { CanBePrinted plan.now line.now.journal.entries line.now.ended.registers }
-    ensures { IfOk result (λ output. output ≡ result_text plan.now line.now.journal.entries) }
+    ensures { IfOk result (λ text. string_bytes text ≡ sections_text plan.now line.now.journal.entries) }
 {
     let mut text = String::new(alloc);
-    put_refusals(&mut text, plan, &line.journal)?;
     put_sections(&mut text, alloc, plan, &line.journal)?;
-    Ok(Output::of_text(alloc, text)?)
+    Ok(text)
 }
 
-// What stands behind the journal: the registers of all boxes, and what came of the run.
-fn print_behind<R: Threads + Sync>(
+/// The whole output of a line that was worked, whose registers are printed already. The most trains of the sections are
+/// counted and printed on a thread, while the journal is copied from the registers.
+pub(crate) fn print_whole<R: Threads + Sync>(
     rt: &R,
     alloc: Global,
     plan: &Plan,
     line: &WorkedLine,
-) -> Result<Output, NoMemory>
-    requires { CanBePrinted plan.now line.now.journal.entries line.now.ended.registers }
-    ensures { IfOk result (λ output. output
-        ≡ registers_text plan.now line.now.journal.entries ++ result_text plan.now line.now.journal.entries) }
+    registers: PrintedRegisters,
+) -> Result<Vec<u8>, NoMemory>
+    requires line { CanBePrinted plan.now line.now.journal.entries line.now.ended.registers }
+    requires registers { registers ≡ map
+        (λ register. register_text plan.now register.box_no register.entries) line.now.ended.registers }
+    ensures { IfOk result (λ text. text.items ≡ output_text plan.now line.now.journal.entries) }
 {
-    let registers = line.ended.registers.as_slice();
-    let registers = || -> Result<Output, NoMemory>
-        requires { All (IsPrintable plan.now) registers.now }
-        ensures { IfOk result (λ output. output ≡ flat_map
-            (λ register. register_text plan.entry.now register.box_no register.entries) registers.entry.now) }
-    { print_registers(rt, alloc, plan, registers, CUTS) };
-    let result = || -> Result<Output, NoMemory>
+    let printed = &registers;
+    let journal = || -> Result<(Vec<u8>, Vec<u8>), NoMemory>
+        requires { CanBePrinted plan.now line.now.journal.entries line.now.ended.registers
+            × (printed.now ≡ map (λ register. register_text plan.now register.box_no register.entries)
+            line.now.ended.registers) }
+        ensures { IfOk result (λ r. (r.0.items ≡ journal_text plan.entry.now line.entry.now.journal.entries)
+            × (r.1.items ≡ refused_entries plan.entry.now 1 line.entry.now.journal.entries)) }
+    { print_journal(alloc, plan, line, printed) };
+    let sections = || -> Result<String, NoMemory>
         requires { CanBePrinted plan.now line.now.journal.entries line.now.ended.registers }
-        ensures { IfOk result (λ output. output ≡ result_text plan.entry.now line.entry.now.journal.entries) }
-    { print_result(alloc, plan, line) };
-    let (registers, result) = join(rt, registers, result);
-    Output::in_order(registers, result)
+        ensures { IfOk result (λ text. string_bytes text
+            ≡ sections_text plan.entry.now line.entry.now.journal.entries) }
+    { print_sections(alloc, plan, line) };
+    let (journal, sections) = join(rt, journal, sections);
+    let (mut text, refused) = journal?;
+    registers.put_behind(&mut text)?;
+    put_refusals(&mut text, line.journal.entries.as_slice(), &refused)?;
+    text.extend_from_slice(sections?.as_bytes())?;
+    Ok(text)
 }
 
-/// The whole output of a line that was worked: the journal and the registers in pieces, and what came of the run, each
-/// printed on a thread.
+/// The whole output of a line that was worked, its registers printed on threads.
 pub(crate) fn print_output<R: Threads + Sync>(
     rt: &R,
     alloc: Global,
     plan: &Plan,
     line: &WorkedLine,
-) -> Result<Output, NoMemory>
+) -> Result<Vec<u8>, NoMemory>
     requires { CanBePrinted plan.now line.now.journal.entries line.now.ended.registers }
-    ensures { IfOk result (λ output. output ≡ output_text plan.now line.now.journal.entries) }
+    ensures { IfOk result (λ text. text.items ≡ output_text plan.now line.now.journal.entries) }
 {
-    let entries = line.journal.entries.as_slice();
-    let journal = || -> Result<Output, NoMemory>
-        requires { All (IsSpelled plan.now) entries.now }
-        ensures { IfOk result (λ output. output ≡ journal_text plan.entry.now entries.entry.now) }
-    { print_journal(rt, alloc, plan, entries) };
-    let behind = || -> Result<Output, NoMemory>
-        requires { CanBePrinted plan.now line.now.journal.entries line.now.ended.registers }
-        ensures { IfOk result (λ output. output ≡ registers_text plan.entry.now line.entry.now.journal.entries
-            ++ result_text plan.entry.now line.entry.now.journal.entries) }
-    { print_behind(rt, alloc, plan, line) };
-    let (journal, behind) = join(rt, journal, behind);
-    Output::in_order(journal, behind)
+    let registers = print_registers(rt, alloc, plan, line.ended.registers.as_slice())?;
+    print_whole(rt, alloc, plan, line, registers)
 }

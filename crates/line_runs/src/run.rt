@@ -5,8 +5,8 @@ ghost use Rattle.text_fetch.specs.FromTexts.{HasShelfFault, named};
 ghost use Rattle.text_fetch.specs.Runs.{AreScriptsOf, run_told, run_told_before};
 ghost use Rattle.line_runs.specs.Outputs.{IsOutputOf, MakesText};
 
-use crate::printing::print_output;
-use crate::worked::worked_line;
+use crate::printing::{merged_and_printed, print_whole};
+use crate::worked::work_scripts;
 use line_working::Gate;
 use rail_text::{NoMemory, Shelf};
 use std::alloc::Global;
@@ -25,10 +25,9 @@ fn run_output<R: Threads + Wait + Sync, G: Gate>(
     ensures { IfOk result
         (λ text. IsOutputOf (record { plan = inputs.now.plan; scripts = inputs.now.scripts.items }) text.items) }
 {
-    let line = worked_line(rt, alloc, &inputs.plan, &inputs.scripts, gate)?;
-    let output = print_output(rt, alloc, &inputs.plan, &line);
-    drop(line);
-    Ok(output?.into_text(alloc)?)
+    let ended = work_scripts(rt, alloc, &inputs.plan, &inputs.scripts, gate)?;
+    let (line, registers) = merged_and_printed(rt, alloc, &inputs.plan, &inputs.scripts, ended)?;
+    print_whole(rt, alloc, &inputs.plan, &line, registers)
 }
 
 /// The output of the run of the named texts, each script worked by its own signalman on a thread of his own; or why

@@ -1,6 +1,6 @@
 //! The output of a run that is watched, built whole.
 
-ghost use Rattle.std.specs.Prelude.{◌≡◌, ◌≤◌, ◌∷◌, ℕ, List, IfOk, IsErrOf, length};
+ghost use Rattle.std.specs.Prelude.{◌≡◌, ◌≤◌, ◌∷◌, ℕ, List, IfOk, IsErrOf, length, string_bytes};
 ghost use Rattle.text_fetch.specs.FromTexts.{HasShelfFault, named};
 ghost use Rattle.text_fetch.specs.Runs.{AreScriptsOf, run_told, run_told_before};
 ghost use Rattle.line_watch.specs.Boards.{board_text};
@@ -8,7 +8,6 @@ ghost use Rattle.line_runs.specs.Outputs.{MakesText, output_text};
 ghost use Rattle.line_runs.specs.Watched.{IsWatchOf, watch_text};
 ghost use Rattle.line_runs.specs.Worked.{CanBePrinted};
 
-use crate::output::Output;
 use crate::printing::print_output;
 use crate::watched::{WatchedLine, watched_line};
 use line_plan::Plan;
@@ -21,38 +20,42 @@ use std::thread::{Threads, join};
 use text_fetch::{Inputs, Stop, fetch_inputs};
 
 // The board of a line as it is printed.
-fn print_board(alloc: Global, plan: &Plan, board: &Board) -> Result<Output, NoMemory>
+fn print_board(alloc: Global, plan: &Plan, board: &Board) -> Result<String, NoMemory>
     requires { board.now.boxes ≡ length plan.now.boxes }
-    ensures { IfOk result (λ output. output ≡ board_text plan.now board.now.rounds) }
+    ensures { IfOk result (λ text. string_bytes text ≡ board_text plan.now board.now.rounds) }
 {
     let mut text = String::new(alloc);
     put_board(&mut text, plan, board)?;
-    Ok(Output::of_text(alloc, text)?)
+    Ok(text)
 }
 
-// The whole output of a line that was watched: that of a run, and the board, each printed on a thread.
+// The whole output of a line that was watched: that of a run, and the board, which is printed on a thread.
+#[tactic(auto, unfolding(crate::specs::Watched::watch_text))]
 fn print_watch<R: Threads + Sync>(
     rt: &R,
     alloc: Global,
     plan: &Plan,
     watched: &WatchedLine,
-) -> Result<Output, NoMemory>
+) -> Result<Vec<u8>, NoMemory>
     requires printed { CanBePrinted plan.now watched.now.worked.journal.entries watched.now.worked.ended.registers }
     requires board { watched.now.board.boxes ≡ length plan.now.boxes }
-    ensures { IfOk result (λ output. output
+    ensures { IfOk result (λ text. text.items
         ≡ watch_text plan.now watched.now.worked.journal.entries watched.now.board.rounds) }
 {
-    let run = || -> Result<Output, NoMemory>
+    let run = || -> Result<Vec<u8>, NoMemory>
         requires { CanBePrinted plan.now watched.now.worked.journal.entries watched.now.worked.ended.registers }
         ensures { IfOk result
-            (λ output. output ≡ output_text plan.entry.now watched.entry.now.worked.journal.entries) }
+            (λ text. text.items ≡ output_text plan.entry.now watched.entry.now.worked.journal.entries) }
     { print_output(rt, alloc, plan, &watched.worked) };
-    let board = || -> Result<Output, NoMemory>
+    let board = || -> Result<String, NoMemory>
         requires { watched.now.board.boxes ≡ length plan.now.boxes }
-        ensures { IfOk result (λ output. output ≡ board_text plan.entry.now watched.entry.now.board.rounds) }
+        ensures { IfOk result
+            (λ text. string_bytes text ≡ board_text plan.entry.now watched.entry.now.board.rounds) }
     { print_board(alloc, plan, &watched.board) };
     let (run, board) = join(rt, run, board);
-    Output::in_order(run, board)
+    let mut text = run?;
+    text.extend_from_slice(board?.as_bytes())?;
+    Ok(text)
 }
 
 // The whole output of a plan and its scripts, watched for so many rounds.
@@ -69,9 +72,7 @@ fn watch_output<R: Threads + Wait + Sync, G: Gate>(
         (record { plan = inputs.now.plan; scripts = inputs.now.scripts.items }) text.items) }
 {
     let watched = watched_line(rt, alloc, &inputs.plan, &inputs.scripts, rounds, gate)?;
-    let output = print_watch(rt, alloc, &inputs.plan, &watched);
-    drop(watched);
-    Ok(output?.into_text(alloc)?)
+    print_watch(rt, alloc, &inputs.plan, &watched)
 }
 
 /// The output of the run of the named texts, each script worked by its own signalman on a thread of his own, and behind

@@ -130,8 +130,8 @@ pub(crate) fn work_alone<G: Gate>(
     ended
 }
 
-// The registers of a line whose scripts are worked: by its men, or where the post of a box was taken, on this thread.
-fn work_scripts<R: Threads + Wait + Sync, G: Gate>(
+/// The registers of a line whose scripts are worked: by its men, or where the post of a box was taken, on this thread.
+pub(crate) fn work_scripts<R: Threads + Wait + Sync, G: Gate>(
     rt: &R,
     alloc: Global,
     plan: &Plan,
@@ -147,6 +147,23 @@ fn work_scripts<R: Threads + Wait + Sync, G: Gate>(
     }
 }
 
+/// The journal into which the registers of a line whose scripts were worked are merged.
+pub(crate) fn merged_journal(
+    alloc: Global,
+    plan: &Plan,
+    scripts: &[Script],
+    ended: &Ended,
+) -> Result<Journal, NoMemory>
+    requires scripts { AreScriptsOf plan.now scripts.now }
+    requires worked { AreWorked plan.now scripts.now ended.now.registers }
+    ensures { IfOk result (λ journal. IsWorkedLine (record { plan = plan.now; scripts = scripts.now })
+        journal.entries ended.now.registers) }
+{
+    plan.meets_conditions();
+    let journal = merge(alloc, plan, ended)?;
+    Ok(journal)
+}
+
 /// Merges the registers of a line whose scripts were worked into its journal.
 pub(crate) fn merged_line(
     alloc: Global,
@@ -160,8 +177,7 @@ pub(crate) fn merged_line(
         line.journal.entries line.ended.registers) }
     ensures kept { IfOk result (λ line. line.ended.registers ≡ ended.registers) }
 {
-    plan.meets_conditions();
-    match merge(alloc, plan, &ended) {
+    match merged_journal(alloc, plan, scripts, &ended) {
         Ok(journal) => Ok(WorkedLine { journal, ended }),
         Err(NoMemory) => {
             drop(ended);

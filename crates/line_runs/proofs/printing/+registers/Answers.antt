@@ -1,5 +1,5 @@
-use Rattle.line_runs.proofs.Printed.{each_half, in_order}
 use Rattle.train_register.specs.Registers.{register_text}
+use Rattle.line_runs.proofs.Printed.{each_half, in_order}
 use Rattle.line_runs.proofs.printing.+registers.Goals as goal
 
 pub returns : goal.returns

@@ -1,0 +1,10 @@
+use Rattle.line_plan.specs.Plans.{IsPlan}
+use Rattle.line_runs.proofs.ScriptsWorked.{line_merged}
+use Rattle.line_runs.proofs.worked.merged_journal.Goals as goal
+
+pub returns : goal.returns
+returns c =
+    let is : IsPlan c.args.plan.now = c.meets_conditions.ensures in
+    line_merged (record { plan = c.args.plan.now; scripts = c.args.scripts.now }) c.args.ended.now.registers
+    c.in_ok-journal.journal.entries is c.requires.worked c.in_ok-journal.ensures.legal c.in_ok-journal.ensures.parts
+    c.in_ok-journal.ensures.in_order c.in_ok-journal.ensures.count
