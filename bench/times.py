@@ -23,7 +23,11 @@ import time
 HERE = os.path.dirname(os.path.abspath(__file__))
 RUNS = ["made", "wide", "wide64", "free", "racy", "frame", "frame32", "trains", "convoy"]
 JUDGED = ["made", "wide", "wide64", "free", "racy", "frame32", "trains"]
-CASES = [*RUNS, *(f"judge-{name}" for name in JUDGED), "check", "tables", "chart", "upgrade", "stress"]
+CASES = [
+    *RUNS,
+    *(f"{command}-{name}" for command in ("judge", "audit") for name in JUDGED),
+    *("check", "tables", "chart", "upgrade", "stress"),
+]
 # Whose replies depend on the order of the signalmen.
 IN_ANY_ORDER = {"free", "racy"}
 
@@ -47,12 +51,12 @@ class Program:
 def words_of(case, work, first):
     """The words of a case. A journal is what the first program prints."""
     scripts = lambda name: sorted(f"{work}/{name}/{it}" for it in os.listdir(f"{work}/{name}") if it.startswith("s"))
-    if case.startswith("judge-"):
-        name = case.removeprefix("judge-")
+    command, _, name = case.partition("-")
+    if name:
         journal = f"{work}/{name}/journal"
         if not os.path.isfile(journal):
             first.run(["run", f"{work}/{name}/plan", *scripts(name)], journal)
-        return ["judge", f"{work}/{name}/plan", journal]
+        return [command, f"{work}/{name}/plan", journal]
     other = {
         "check": ["check", f"{work}/frame32/plan"],
         "tables": ["tables", f"{work}/frame32/plan", "Box31"],
