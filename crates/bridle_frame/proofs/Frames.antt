@@ -1,21 +1,25 @@
 -- What a frame's type keeps as a lever is moved, and what holds a lever.
 use Rattle.std.proofs.Common.{◌≡◌, ◌≢◌, ℕ, suc, ◌+◌, ◌-◌, ◌<◌, ◌≤◌, ◌^◌, List, [], ◌∷◌, length, replicate, Bool, true}
-use Rattle.std.proofs.Common.{false, ◌==◌, if◌then◌else◌, ◌⊎◌, inl, inr, refl, sym, ap, ◌∙◌, subst, arith}
+use Rattle.std.proofs.Common.{false, ◌==◌, ◌++◌, drop, take, if◌then◌else◌, ◌⊎◌, inl, inr, refl, sym, ap, ◌∙◌, subst}
+use Rattle.std.proofs.Common.{arith}
 use Rattle.std.specs.Prelude.{Option, Some, None, All, slice_index_or, slice_set}
 use Rattle.std.proofs.Math.ListN.{length-set}
+use Rattle.std.proofs.Math.Seq.{take-append_seam}
 use Rattle.std.proofs.lemmas.Bool.Decides.{eqb_tells}
 use Rattle.std.proofs.lemmas.List.{get_or-set_other, get_or-set_same, get_or_default, length-replicate}
 use Rattle.locking_table.specs.declared.places.End.{End}
-use Rattle.locking_table.specs.declared.places.End.TheVariants.{Normal as NormalEnd}
+use Rattle.locking_table.specs.declared.places.End.TheVariants.{Normal as NormalEnd, Reversed as ReversedEnd}
 use Rattle.locking_table.specs.declared.places.Stand.TheVariants.{AtMid}
 use Rattle.locking_table.specs.declared.row.Holder.{Holder}
-use Rattle.locking_table.specs.Places.{IsLever, LeverPlace, at_ends, stand_at, stand_of}
+use Rattle.locking_table.specs.Places.{IsLever, LeverPlace, at_ends, end_at, stand_at, stand_of}
 use Rattle.bridle_frame.specs.declared.bridle.Bridle.{Bridle}
 use Rattle.bridle_frame.specs.declared.frame.Shift.TheVariants.{Shifted, HeldBy}
 use Rattle.bridle_frame.specs.Seated.{BridleFits, IsSeated, holding_lever_in, seated}
 use Rattle.bridle_frame.specs.Shifts.{first_holder, first_unseated, reply_of, shift_of}
-use Rattle.bridle_frame.specs.Frames.{IsFrame, IsIndex, first_of, naming, no_bridle, used_by_all}
-use Rattle.bridle_frame.proofs.Indexes.{first_of-naming, is_index, named, within}
+use Rattle.bridle_frame.specs.Frames.{IsFrame, IsIndex, counted, first_lone, index_at, lying_in_each, no_bridle}
+use Rattle.bridle_frame.specs.Frames.{one_fewer, one_more, used_by_all, using}
+use Rattle.bridle_frame.proofs.Counts.{counted_moved, length-each}
+use Rattle.bridle_frame.proofs.Indexes.{first_lone-using, is_index, used, within}
 use Rattle.bridle_frame.proofs.Seats.{all_alike, all_moved, all_seated}
 
 -- the levers stand as before but for the one that was moved
@@ -35,22 +39,35 @@ none_of : (o : Option ℕ) → reply_of o ≡ Shifted → o ≡ None
 none_of None h = refl
 none_of (Some n) h = cc
 
-pub moved_frame : (ends : List End) (bridles : List Bridle) (uses : List (List ℕ)) (lever : ℕ) (e : End)
-    → IsFrame ends bridles uses → IsLever (length ends) lever
-    → shift_of ends lever bridles ≡ Shifted → IsFrame (slice_set ends (lever - 1) e) bridles uses
-moved_frame ends bridles uses lever e frame is told =
+pub moved_frame : (ends : List End) (bridles : List Bridle) (normal reversed : List (List ℕ)) (lever : ℕ) (e : End)
+    (lying left between reached now : List ℕ) → IsFrame ends bridles normal reversed lying → IsLever (length ends) lever
+    → shift_of ends lever bridles ≡ Shifted → left ≡ using 0 lever (end_at ends lever) bridles
+    → reached ≡ using 0 lever e bridles → between ≡ counted one_fewer lying left
+    → now ≡ counted one_more between reached
+    → IsFrame (slice_set ends (lever - 1) e) bridles normal reversed now
+moved_frame ends bridles normal reversed lever e lying left between reached now frame is told at_left at_reached less
+    more =
     let same : length ends ≡ length (slice_set ends (lever - 1) e) = sym (length-set ends (lever - 1) e) in
     let mid =
     all_seated (stand_of ends lever AtMid) 1 bridles
     (none_of (first_unseated (stand_of ends lever AtMid) 1 bridles) told) in
+    let moved : (n : ℕ) → IsLever (length ends) n
+    → stand_of ends lever (stand_at e) n ≡ at_ends (slice_set ends (lever - 1) e) n =
+    λ n own. moved_place ends lever e n (n == lever) is own (eqb_tells n lever) in
     record {
       few = frame.few;
       fits = subst (λ (n : ℕ). All (BridleFits n) bridles) same frame.fits;
-      seated = all_alike (length ends) (stand_of ends lever (stand_at e)) (at_ends (slice_set ends (lever - 1) e))
-          (λ n own. moved_place ends lever e n (n == lever) is own (eqb_tells n lever))
+      seated = all_alike (length ends) (stand_of ends lever (stand_at e)) (at_ends (slice_set ends (lever - 1) e)) moved
           bridles frame.fits (all_moved ends lever (stand_at e) bridles mid);
-      index = subst (λ (n : ℕ). IsIndex n bridles uses) same frame.index;
+      index = λ end. subst (λ (n : ℕ). IsIndex n end bridles (index_at end normal reversed)) same (frame.index end);
+      counts = rw (more, less, at_left, at_reached, frame.counts)
+          (counted_moved ends (slice_set ends (lever - 1) e) lever (length ends) e bridles frame.fits moved);
     }
+
+-- what is written into all of a list's room is the list
+pub written : (room : ℕ) (xs ys : List ℕ) → length xs ≡ room → take room (xs ++ drop (length xs) ys) ≡ xs
+written room xs ys h =
+    ap (λ (n : ℕ). take n (xs ++ drop (length xs) ys)) (sym h) ∙ take-append_seam xs (drop (length xs) ys)
 
 -- the holder by the first bridle's number
 pub record HeldAt (places : LeverPlace) (lever from n : ℕ) (bs : List Bridle) : Type 0 where
@@ -115,42 +132,58 @@ pub held : (ends : List End) (lever n : ℕ) (bs : List Bridle) → shift_of end
 held ends lever n bs h =
     held_at (stand_of ends lever AtMid) lever 1 n bs (some_of (first_unseated (stand_of ends lever AtMid) 1 bs) n h)
 
+new_index : (levers : ℕ) (bridles : List Bridle) (normal reversed : List (List ℕ)) (end : End)
+    → normal ≡ used_by_all (replicate levers []) NormalEnd 0 bridles
+    → reversed ≡ used_by_all (replicate levers []) ReversedEnd 0 bridles → All (BridleFits levers) bridles
+    → IsIndex levers end bridles (index_at end normal reversed)
+new_index levers bridles normal reversed NormalEnd made_normal made_reversed fits =
+    rw made_normal (is_index levers NormalEnd bridles fits)
+new_index levers bridles normal reversed ReversedEnd made_normal made_reversed fits =
+    rw made_reversed (is_index levers ReversedEnd bridles fits)
+
 -- a frame with all its levers normal
-pub new_frame : (levers : ℕ) (bridles : List Bridle) (ends : List End) (uses : List (List ℕ))
-    → ends ≡ replicate levers NormalEnd → uses ≡ used_by_all (replicate levers []) 0 bridles
+pub new_frame : (levers : ℕ) (bridles : List Bridle) (ends : List End) (normal reversed : List (List ℕ))
+    (lying : List ℕ) → ends ≡ replicate levers NormalEnd
+    → normal ≡ used_by_all (replicate levers []) NormalEnd 0 bridles
+    → reversed ≡ used_by_all (replicate levers []) ReversedEnd 0 bridles → lying ≡ lying_in_each (at_ends ends) bridles
     → length bridles < 2 ^ 32 → All (BridleFits levers) bridles
-    → All (IsSeated (at_ends (replicate levers NormalEnd))) bridles → IsFrame ends bridles uses
-new_frame levers bridles ends uses normal made few fits seated =
-    let wide : levers ≡ length ends = rw normal (sym (length-replicate levers NormalEnd)) in
+    → All (IsSeated (at_ends (replicate levers NormalEnd))) bridles → IsFrame ends bridles normal reversed lying
+new_frame levers bridles ends normal reversed lying opens made_normal made_reversed counts few fits seated =
+    let wide : levers ≡ length ends = rw opens (sym (length-replicate levers NormalEnd)) in
     record {
       few = few;
       fits = subst (λ (n : ℕ). All (BridleFits n) bridles) wide fits;
-      seated = rw normal seated;
-      index = subst (λ (n : ℕ). IsIndex n bridles uses) wide (rw made (is_index levers bridles fits));
+      seated = rw opens seated;
+      index = λ end. subst (λ (n : ℕ). IsIndex n end bridles (index_at end normal reversed)) wide
+          (new_index levers bridles normal reversed end made_normal made_reversed fits);
+      counts = counts;
     }
 
--- what the index gives for a lever
-used_of : (ends : List End) (bridles : List Bridle) (uses : List (List ℕ)) (lever : ℕ) (of numbers : List ℕ)
-    → IsFrame ends bridles uses → IsLever (length ends) lever
-    → of ≡ slice_index_or uses (lever - 1) of → numbers ≡ of → numbers ≡ naming 0 lever bridles
-used_of ends bridles uses lever of numbers frame is read same =
-    let wide = frame.index.wide in
-    let less : lever - 1 < length uses = let l = is in omega arith in
-    same ∙ (read ∙ (get_or_default uses (lever - 1) of [] less ∙ named (length ends) lever bridles uses frame.index is))
+-- what the index for an end gives for a lever
+pub used_of : (ends : List End) (bridles : List Bridle) (normal reversed : List (List ℕ)) (lying : List ℕ) (lever : ℕ)
+    (e : End) (uses ns rs : List (List ℕ)) (of numbers : List ℕ) → IsFrame ends bridles normal reversed lying
+    → IsLever (length ends) lever → uses ≡ index_at e ns rs → ns ≡ normal → rs ≡ reversed
+    → of ≡ slice_index_or uses (lever - 1) of → numbers ≡ of → numbers ≡ using 0 lever e bridles
+used_of ends bridles normal reversed lying lever e uses ns rs of numbers frame is given at_normal at_reversed read
+    same =
+    let index : IsIndex (length ends) e bridles uses = rw (given, at_normal, at_reversed) (frame.index e) in
+    let wide = index.wide in
+    let less : lever - 1 < length uses = let l = is in omega (arith, wide) in
+    same ∙ (read ∙ (get_or_default uses (lever - 1) of [] less ∙ used (length ends) lever e bridles uses index is))
 
-pub tested_within : (ends : List End) (bridles : List Bridle) (uses : List (List ℕ)) (lever : ℕ) (bs : List Bridle)
-    (of numbers : List ℕ) → IsFrame ends bridles uses → IsLever (length ends) lever
-    → bs ≡ bridles → of ≡ slice_index_or uses (lever - 1) of → numbers ≡ of → All (λ n. n < length bs) numbers
-tested_within ends bridles uses lever bs of numbers frame is whole read same =
-    rw (used_of ends bridles uses lever of numbers frame is read same, whole) (within lever bridles)
+-- the numbers are of bridles that are counted
+pub used_within : (ends : List End) (bridles : List Bridle) (normal reversed : List (List ℕ)) (lying : List ℕ)
+    (lever : ℕ) (e : End) (numbers counts : List ℕ) → IsFrame ends bridles normal reversed lying
+    → numbers ≡ using 0 lever e bridles → length counts ≡ length lying → All (λ n. n < length counts) numbers
+used_within ends bridles normal reversed lying lever e numbers counts frame is same =
+    let wide : length counts ≡ length bridles = same ∙ (ap length frame.counts ∙ length-each (at_ends ends) bridles) in
+    rw (wide, is) (within lever e bridles)
 
-pub tested : (ends : List End) (bridles : List Bridle) (uses : List (List ℕ)) (lever : ℕ) (es : List End)
-    (bs : List Bridle) (of numbers : List ℕ) → IsFrame ends bridles uses → IsLever (length ends) lever
-    → es ≡ ends → bs ≡ bridles → of ≡ slice_index_or uses (lever - 1) of → numbers ≡ of
-    → first_of (stand_of es lever AtMid) bs numbers ≡ shift_of ends lever bridles
-tested ends bridles uses lever es bs of numbers frame is same_ends whole read same =
-    rw (used_of ends bridles uses lever of numbers frame is read same, whole, same_ends)
-    (first_of-naming ends lever bridles frame.seated)
+pub tested : (ends : List End) (bridles : List Bridle) (normal reversed : List (List ℕ)) (lying : List ℕ) (lever : ℕ)
+    (counts numbers : List ℕ) → IsFrame ends bridles normal reversed lying → counts ≡ lying
+    → numbers ≡ using 0 lever (end_at ends lever) bridles → first_lone counts numbers ≡ shift_of ends lever bridles
+tested ends bridles normal reversed lying lever counts numbers frame same is =
+    rw (same, is, frame.counts) (first_lone-using ends lever (length ends) bridles frame.fits frame.seated)
 
 -- the holder that the first unseated bridle names
 pub holding : (lever n : ℕ) (bridles : List Bridle) (b : Bridle) (named : ℕ) → 1 ≤ n → n < 1 + length bridles

@@ -1,3 +1,4 @@
 pub mod Seats
+pub mod Counts
 pub mod Indexes
 pub mod Frames

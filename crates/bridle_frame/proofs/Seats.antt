@@ -84,23 +84,9 @@ all_alike levers old new same (b ∷ bs) fits all =
     (All-head (IsSeated old) b bs all))
     (all_alike levers old new same bs (All-tail (BridleFits levers) b bs fits) (All-tail (IsSeated old) b bs all))
 
--- a bridle that doesn't name the lever is seated as it was
-same_at : (test : Bool) (n : Notches) (e : Stand) (any mid now : Bool) → (test || any) ≡ false
-    → (any ≡ false → mid ≡ now) → (has_notch n (if test then AtMid else e) || mid) ≡ (has_notch n e || now)
-same_at true n e any mid now h m = cc
-same_at false n e any mid now h m = rw (m h) refl
-
-pub any_away : (ends : List End) (lever : ℕ) (dogs : List Dog) → list_any (λ (d : Dog). d.lever == lever) dogs ≡ false
-    → list_any (lies_in (stand_of ends lever AtMid)) dogs ≡ list_any (lies_in (at_ends ends)) dogs
-any_away ends lever [] h = refl
-any_away ends lever (d ∷ ds) h =
-    same_at (d.lever == lever) d.notches (at_ends ends d.lever) (list_any (λ (x : Dog). x.lever == lever) ds)
-    (list_any (lies_in (stand_of ends lever AtMid)) ds) (list_any (lies_in (at_ends ends)) ds) h
-    (any_away ends lever ds)
-
 -- ---- dogs on different levers
 
-any_of_map : (lever : ℕ) (ds : List Dog)
+pub any_of_map : (lever : ℕ) (ds : List Dog)
     → list_any (λ n. n == lever) (map (λ d. d.lever) ds) ≡ list_any (λ d. d.lever == lever) ds
 any_of_map lever [] = refl
 any_of_map lever (d ∷ ds) = ap (λ (b : Bool). (d.lever == lever) || b) (any_of_map lever ds)

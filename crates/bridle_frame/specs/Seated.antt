@@ -1,6 +1,6 @@
 -- Where a bridle is seated.
 use Rattle.std.specs.Prelude.{ℕ, ◌≤◌, length, List, [], ◌∷◌, Bool, true, not, ◌&&◌, ◌||◌, ◌==◌, if◌then◌else◌, IsTrue}
-use Rattle.std.specs.Prelude.{All, map, slice_index_or}
+use Rattle.std.specs.Prelude.{All, filter, map, slice_index_or}
 use Rattle.std.specs.List.{list_any}
 use Rattle.locking_table.specs.declared.places.Stand.{Stand}
 use Rattle.locking_table.specs.declared.places.Stand.TheVariants.{AtNormal}
@@ -27,6 +27,10 @@ seated places bridle = list_any (lies_in places) bridle.dogs
 
 abbrev pub IsSeated : LeverPlace → Bridle → Type 0
 IsSeated places bridle = IsTrue (seated places bridle)
+
+-- how many of these dogs lie in notches
+abbrev pub lying_dogs : LeverPlace → List Dog → ℕ
+lying_dogs places dogs = length (filter (lies_in places) dogs)
 
 abbrev pub DogFits : ℕ → Dog → Type 0
 DogFits levers dog = IsLever levers dog.lever

@@ -3,10 +3,9 @@
 ghost use Rattle.std.specs.Prelude.{◌≡◌, ◌≤◌, ◌==◌, ◌↔◌, All, IsTrue, length, replicate};
 ghost use Rattle.std.specs.List.{list_any};
 ghost use Rattle.locking_table.specs.declared.places.End.TheVariants.{Normal as NormalEnd};
-ghost use Rattle.locking_table.specs.declared.places.Stand.TheVariants.{AtMid};
 ghost use Rattle.locking_table.specs.Places.{IsLever, at_ends, stand_at, stand_of};
 ghost use Rattle.bridle_frame.specs.Seated.{BridleFits, DogFits, IsSeated, all_normal, dogs_differ, has_notch};
-ghost use Rattle.bridle_frame.specs.Seated.{holding_lever_in, lies_in, seated};
+ghost use Rattle.bridle_frame.specs.Seated.{holding_lever_in, lies_in, lying_dogs, seated};
 
 use crate::dogs::Dogs;
 use locking_table::{End, Stand, end_of, stand_of};
@@ -48,8 +47,8 @@ impl Notches {
         }
     }
 
-    // Whether there is a notch where a lever stands at that end. Nothing here is a branch.
-    fn has_end(self, end: End) -> bool
+    /// Whether there is a notch where a lever stands at that end.
+    pub(crate) fn has_end(self, end: End) -> bool
         ensures { result ≡ has_notch self (stand_at end) }
     {
         let at_normal = (self != Notches::Reversed) & (end == End::Normal);
@@ -67,12 +66,12 @@ impl Dog {
         self.notches.has(stand_of(ends, moved, place, self.lever))
     }
 
-    // Whether the dog lies in a notch, with one lever at mid and all others at their ends.
-    fn lies_at_mid(&self, ends: &[End], moved: u32) -> bool
+    // Whether the dog lies in a notch, with all levers at their ends.
+    fn lies_at_end(&self, ends: &[End]) -> bool
         requires { DogFits (length ends.now) self.now }
-        ensures { result ≡ lies_in (stand_of ends.now moved AtMid) self.now }
+        ensures { result ≡ lies_in (at_ends ends.now) self.now }
     {
-        (self.lever != moved) & self.notches.has_end(end_of(ends, self.lever))
+        self.notches.has_end(end_of(ends, self.lever))
     }
 }
 
@@ -85,12 +84,12 @@ impl Bridle {
         any_lies(self.dogs.as_slice(), ends, moved, place)
     }
 
-    /// Whether the bridle is seated, with the lever `moved` at mid and all others at their ends.
-    pub fn is_seated_at_mid(&self, ends: &[End], moved: u32) -> bool
+    /// How many of the bridle's dogs lie in notches, with all levers at their ends.
+    pub fn lying_dogs(&self, ends: &[End]) -> usize
         requires { BridleFits (length ends.now) self.now }
-        ensures { result ≡ seated (stand_of ends.now moved AtMid) self.now }
+        ensures { result ≡ lying_dogs (at_ends ends.now) self.now.dogs }
     {
-        any_lies_at_mid(self.dogs.as_slice(), ends, moved)
+        lying_dogs(self.dogs.as_slice(), ends)
     }
 
     /// Whether the bridle has two to four dogs, on different levers of a frame of levers 1 to `levers`.
@@ -133,17 +132,11 @@ fn any_lies(dogs: &[Dog], ends: &[End], moved: u32, place: Stand) -> bool
     dogs.iter().any(|dog| dog.lies(ends, moved, place))
 }
 
-// Whether some dog lies in a notch with one lever at mid. Each dog is looked at, and none of it is a branch: where the
-// levers stand, which nothing foretells, would decide it.
-fn any_lies_at_mid(dogs: &[Dog], ends: &[End], moved: u32) -> bool
+fn lying_dogs(dogs: &[Dog], ends: &[End]) -> usize
     requires { All (DogFits (length ends.now)) dogs.now }
-    ensures { result ≡ list_any (lies_in (stand_of ends.now moved AtMid)) dogs.now }
+    ensures { result ≡ lying_dogs (at_ends ends.now) dogs.now }
 {
-    let mut lies = false;
-    for dog in dogs {
-        lies |= dog.lies_at_mid(ends, moved);
-    }
-    lies
+    dogs.iter().filter(|dog| dog.lies_at_end(ends)).count()
 }
 
 // Whether some dog has a notch at normal.

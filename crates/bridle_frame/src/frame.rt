@@ -7,7 +7,7 @@ ghost use Rattle.locking_table.specs.Places.{IsLever, at_ends, end_at, stand_of}
 ghost use Rattle.bridle_frame.specs.declared.frame.Shift.TheVariants.{Shifted};
 ghost use Rattle.bridle_frame.specs.Seated.{BridleFits, IsSeated};
 ghost use Rattle.bridle_frame.specs.Shifts.{ends_after, first_holder, shift_of};
-ghost use Rattle.bridle_frame.specs.Frames.{first_of, naming};
+ghost use Rattle.bridle_frame.specs.Frames.{counted, first_lone, index_at, lying_in_each, one_fewer, one_more};
 
 use crate::bridle::Bridle;
 use crate::index::{Uses, index_of};
@@ -29,8 +29,12 @@ pub enum Shift {
 pub struct Frame {
     ends: Vec<End>,
     bridles: Vec<Bridle>,
-    // For each lever the bridles that name it.
-    uses: Vec<Uses>,
+    // For each lever the bridles that have a dog lying in a notch of it at normal.
+    at_normal: Vec<Uses>,
+    // The same at reversed.
+    at_reversed: Vec<Uses>,
+    // For each bridle how many of its dogs lie in notches.
+    lying: Vec<usize>,
 }
 
 impl Model for Frame {
@@ -40,24 +44,68 @@ impl Model for Frame {
 
     ghost view = { λ f. record { ends = f.ends.items; bridles = f.bridles.items } };
 
-    ghost invariant = { λ f. IsFrame f.ends.items f.bridles.items f.uses.items };
+    ghost invariant = { λ f.
+        IsFrame f.ends.items f.bridles.items f.at_normal.items f.at_reversed.items f.lying.items };
 }
 
-// The first of these bridles, by their numbers from 0, that isn't seated with a lever at mid.
-fn first_of(ends: &[End], lever: u32, bridles: &[Bridle], numbers: &[u32]) -> Shift
-    requires few { length bridles.now < 2 ^ 32 }
-    requires fits { All (BridleFits (length ends.now)) bridles.now }
-    requires within { All (λ number. number < length bridles.now) numbers.now }
-    ensures { result ≡ first_of (stand_of ends.now lever AtMid) bridles.now numbers.now }
+// For each bridle how many of its dogs lie in notches.
+fn lying_in_each(alloc: Global, ends: &[End], bridles: &[Bridle]) -> Result<Vec<usize>, NoMemory>
+    requires { All (BridleFits (length ends.now)) bridles.now }
+    ensures { IfOk result (λ lying. lying.items ≡ lying_in_each (at_ends ends.now) bridles.now) }
+{
+    let mut lying = Vec::new(alloc);
+    for bridle in bridles {
+        lying.push(bridle.lying_dogs(ends))?;
+    }
+    Ok(lying)
+}
+
+// Of two indexes, one for each end, that for an end.
+fn index_at<'a>(end: End, at_normal: &'a [Uses], at_reversed: &'a [Uses]) -> &'a [Uses]
+    ensures { result.now ≡ index_at end at_normal.now at_reversed.now }
+{
+    match end {
+        End::Normal => at_normal,
+        End::Reversed => at_reversed,
+    }
+}
+
+// The first of these bridles, by their numbers from 0, of which one dog alone lies in a notch.
+fn first_lone(lying: &[usize], numbers: &[u32]) -> Shift
+    requires few { length lying.now < 2 ^ 32 }
+    requires within { All (λ number. number < length lying.now) numbers.now }
+    ensures { result ≡ first_lone lying.now numbers.now }
 {
     for number in numbers {
-        if !bridles[*number as usize].is_seated_at_mid(ends, lever) {
+        if lying[*number as usize] == 1 {
             return Shift::HeldBy {
                 bridle: *number + 1,
             };
         }
     }
     Shift::Shifted
+}
+
+// A dog fewer lies in a notch in each of these bridles.
+fn count_out(lying: &mut [usize], numbers: &[u32])
+    requires { All (λ number. number < length lying.old) numbers.now }
+    ensures { lying.new ≡ counted one_fewer lying.old numbers.now }
+{
+    for number in numbers {
+        let lies = &mut lying[*number as usize];
+        *lies = lies.saturating_sub(1);
+    }
+}
+
+// A dog more lies in a notch in each of these bridles.
+fn count_in(lying: &mut [usize], numbers: &[u32])
+    requires { All (λ number. number < length lying.old) numbers.now }
+    ensures { lying.new ≡ counted one_more lying.old numbers.now }
+{
+    for number in numbers {
+        let lies = &mut lying[*number as usize];
+        *lies = lies.saturating_add(1);
+    }
 }
 
 fn all_fit(bridles: &[Bridle], levers: u32) -> bool
@@ -91,11 +139,15 @@ impl Frame {
         ensures { IfOk result (λ f. f ≡ record { ends = replicate levers NormalEnd; bridles = bridles.items }) }
     {
         let ends = vec![in alloc; End::Normal; levers as usize]?;
-        let uses = index_of(alloc, levers, bridles.as_slice())?;
+        let at_normal = index_of(alloc, levers, End::Normal, bridles.as_slice())?;
+        let at_reversed = index_of(alloc, levers, End::Reversed, bridles.as_slice())?;
+        let lying = lying_in_each(alloc, ends.as_slice(), bridles.as_slice())?;
         Ok(Frame {
             ends,
             bridles,
-            uses,
+            at_normal,
+            at_reversed,
+            lying,
         })
     }
 
@@ -104,8 +156,9 @@ impl Frame {
         requires { IsLever (length self.now.ends) lever }
         ensures { result ≡ shift_of self.now.ends lever self.now.bridles }
     {
-        let uses = &self.uses[lever as usize - 1];
-        first_of(&self.ends, lever, &self.bridles, uses.as_slice())
+        let end = end_of(&self.ends, lever);
+        let uses = index_at(end, &self.at_normal, &self.at_reversed);
+        first_lone(&self.lying, uses[lever as usize - 1].as_slice())
     }
 
     /// Moves a lever to its other end, or tells the first bridle that isn't seated with it at mid. Then nothing
@@ -128,8 +181,14 @@ impl Frame {
         requires free { shift_of self.old.ends lever self.old.bridles ≡ Shifted }
         ensures { self.new ≡ record self.old { ends = ends_after self.old.ends lever Shifted } }
     {
-        let other = end_of(&self.ends, lever).other();
-        self.ends[lever as usize - 1] = other;
+        let at = lever as usize - 1;
+        let end = end_of(&self.ends, lever);
+        let other = end.other();
+        let left = index_at(end, &self.at_normal, &self.at_reversed);
+        let reached = index_at(other, &self.at_normal, &self.at_reversed);
+        count_out(&mut self.lying, left[at].as_slice());
+        count_in(&mut self.lying, reached[at].as_slice());
+        self.ends[at] = other;
     }
 
     /// The row that holds a lever, with the lever that it names, or `None` where the lever may move.

@@ -1,15 +1,15 @@
-//! The index of a frame: for each lever the bridles that name it.
+//! The index of a frame: for each lever, at one of its ends, the bridles that have a dog lying in a notch of it.
 
 ghost use Rattle.std.specs.Prelude.{◌≡◌, ◌<◌, ◌^◌, ◌∷◌, ◌++◌, [], All, IfOk, OnOk, length, replicate};
 ghost use Rattle.bridle_frame.specs.Seated.{BridleFits, DogFits};
 ghost use Rattle.bridle_frame.specs.Frames.{used_by, used_by_all};
 
 use crate::bridle::{Bridle, Dog};
-use locking_table::NoMemory;
+use locking_table::{End, NoMemory};
 use std::alloc::Global;
 use std::marker::Model;
 
-/// The numbers, from 0, of the bridles that name one lever, in order.
+/// The numbers, from 0, of the bridles that have a dog lying in a notch of one lever at an end, in order.
 #[derive(Debug, Drop)]
 pub struct Uses {
     numbers: Vec<u32>,
@@ -58,27 +58,34 @@ fn no_uses(alloc: Global, levers: u32) -> Result<Vec<Uses>, NoMemory>
     Ok(uses)
 }
 
-// Puts a bridle's number behind those of each lever that it names.
-fn add_uses(uses: &mut Vec<Uses>, dogs: &[Dog], number: u32) -> Result<(), NoMemory>
+// Puts a bridle's number behind those of each lever in which one of its dogs lies at that end.
+fn add_uses(uses: &mut Vec<Uses>, dogs: &[Dog], end: End, number: u32) -> Result<(), NoMemory>
     requires { All (DogFits (length uses.old.items)) dogs.now }
-    ensures { OnOk result (uses.new.items ≡ used_by uses.old.items number dogs.now) }
+    ensures { OnOk result (uses.new.items ≡ used_by uses.old.items end number dogs.now) }
 {
     for dog in dogs {
-        let uses_of = &mut uses[dog.lever as usize - 1];
-        uses_of.push(number)?;
+        if dog.notches.has_end(end) {
+            let uses_of = &mut uses[dog.lever as usize - 1];
+            uses_of.push(number)?;
+        }
     }
     Ok(())
 }
 
-/// For each lever the bridles that name it.
-pub fn index_of(alloc: Global, levers: u32, bridles: &[Bridle]) -> Result<Vec<Uses>, NoMemory>
+/// For each lever the bridles that have a dog lying in a notch of it where it stands at that end.
+pub fn index_of(
+    alloc: Global,
+    levers: u32,
+    end: End,
+    bridles: &[Bridle],
+) -> Result<Vec<Uses>, NoMemory>
     requires few { length bridles.now < 2 ^ 32 }
     requires fits { All (BridleFits levers) bridles.now }
-    ensures { IfOk result (λ uses. uses.items ≡ used_by_all (replicate levers []) 0 bridles.now) }
+    ensures { IfOk result (λ uses. uses.items ≡ used_by_all (replicate levers []) end 0 bridles.now) }
 {
     let mut uses = no_uses(alloc, levers)?;
     for (i, bridle) in bridles.iter().enumerate() {
-        add_uses(&mut uses, bridle.dogs.as_slice(), i as u32)?;
+        add_uses(&mut uses, bridle.dogs.as_slice(), end, i as u32)?;
     }
     Ok(uses)
 }

@@ -5,5 +5,7 @@ use Rattle.bridle_frame.proofs.index.index_of.Given as goal
 abbrev pub invariant-loop-i : goal.invariant-loop-i
 invariant-loop-i l = record {
   wide : length l.uses.items ≡ l.levers;
-  same : used_by_all l.uses.items l.i (drop l.i l.bridles) ≡ used_by_all (replicate l.levers []) 0 l.bridles;
+  same :
+      used_by_all l.uses.items l.end l.i (drop l.i l.bridles)
+      ≡ used_by_all (replicate l.levers []) l.end 0 l.bridles;
 }
