@@ -2,9 +2,10 @@
 
 ghost use Rattle.std.specs.Prelude.{◌≡◌, ◌≢◌, string_bytes, IfOk};
 ghost use Rattle.rail_text.specs.Causes.{Rose};
-ghost use Rattle.box_top.specs.Top.{PutOutcome, PutText, refused_line};
+ghost use Rattle.box_top.specs.Top.{PutOutcome, PutStop, PutText, refused_line};
 
 use crate::status::Status;
+use line_runs::Output;
 use rail_text::{Cause, Sink, SinkFault, cause_text, put_all};
 use std::alloc::{AllocError, Global};
 use text_fetch::Stop;
@@ -35,6 +36,23 @@ pub fn put_text<K: Sink>(out: &mut K, text: &[u8], status: Status) -> Status
     }
 }
 
+// Puts the line of a refusal. Of a fault of the shelf or want of memory nothing is put.
+fn put_stop<K: Sink>(alloc: Global, out: &mut K, stop: Stop) -> Status
+    ensures took { PutStop stop (K.taken out.old) (K.taken out.new) result }
+    ensures sink { result ≡ Status.SinkFault → Rose (K.faults out.old) (K.faults out.new) }
+    ensures not_fetched { result ≡ Status.ShelfFault → out.new ≡ out.old }
+    ensures no_memory { result ≡ Status.NoMemory → out.new ≡ out.old }
+{
+    match stop {
+        Stop::ShelfFault => Status::ShelfFault,
+        Stop::NoMemory => Status::NoMemory,
+        Stop::Refused { text, line, cause } => match refused_line(alloc, text, line, cause) {
+            Ok(line) => put_text(out, line.as_bytes(), Status::Refused),
+            Err(AllocError) => Status::NoMemory,
+        },
+    }
+}
+
 /// Puts what a command is to print: its text, or the line of a refusal. Of a fault of the shelf or want of memory
 /// nothing is put.
 pub fn put_outcome<K: Sink>(alloc: Global, out: &mut K, outcome: Result<Vec<u8>, Stop>) -> Status
@@ -45,11 +63,23 @@ pub fn put_outcome<K: Sink>(alloc: Global, out: &mut K, outcome: Result<Vec<u8>,
 {
     match outcome {
         Ok(text) => put_text(out, &text, Status::Done),
-        Err(Stop::ShelfFault) => Status::ShelfFault,
-        Err(Stop::NoMemory) => Status::NoMemory,
-        Err(Stop::Refused { text, line, cause }) => match refused_line(alloc, text, line, cause) {
-            Ok(line) => put_text(out, line.as_bytes(), Status::Refused),
-            Err(AllocError) => Status::NoMemory,
+        Err(stop) => put_stop(alloc, out, stop),
+    }
+}
+
+/// Puts the output of a run in its parts, or the line of a refusal. Of a fault of the shelf or want of memory nothing
+/// is put.
+pub fn put_output<K: Sink>(alloc: Global, out: &mut K, outcome: Result<Output, Stop>) -> Status
+    ensures took { PutOutcome (λ output. output) outcome (K.taken out.old) (K.taken out.new) result }
+    ensures sink { result ≡ Status.SinkFault → Rose (K.faults out.old) (K.faults out.new) }
+    ensures not_fetched { result ≡ Status.ShelfFault → out.new ≡ out.old }
+    ensures no_memory { result ≡ Status.NoMemory → out.new ≡ out.old }
+{
+    match outcome {
+        Ok(output) => match output.put(out) {
+            Ok(()) => Status::Done,
+            Err(SinkFault::Failed) => Status::SinkFault,
         },
+        Err(stop) => put_stop(alloc, out, stop),
     }
 }

@@ -2,9 +2,10 @@
 
 use crate::facts::{all_hold, hold};
 use rail_text::{
-    Cause, FetchFault, FileShelf, LineFault, LineForm, LineWords, Lines, MemShelf, MemSink, Names,
-    NoMemory, OutSink, ReadError, Shelf, Sink, SinkFault, TextLine, cause_text, first_word,
-    has_keyword, is_name, name_in, no_word, number_in, one_word, put_all, read_number, text_error,
+    Cause, FetchFault, FileShelf, KeptEnds, LineFault, LineForm, LineWords, Lines, MemShelf,
+    MemSink, Names, NoMemory, OutSink, ReadError, Shelf, Sink, SinkFault, TextLine, cause_text,
+    first_word, has_keyword, is_name, name_in, no_word, number_in, one_word, put_all, read_number,
+    text_error,
 };
 use std::alloc::Global;
 use std::io::Write;
@@ -139,8 +140,8 @@ const MANY_WORDS: &[u8] = b"clear up a b c d  f g h";
 
 #[test]
 fn words_are_cut_once(rt: HostRuntime) {
-    let line = line_of(MANY_WORDS, true);
-    let many = line.words();
+    let mut ends = KeptEnds::none();
+    let many = LineWords::new(MANY_WORDS, &mut ends);
     all_hold(
         &rt,
         &[
@@ -170,9 +171,14 @@ fn words_are_cut_once(rt: HostRuntime) {
 
 #[test]
 fn few_words_are_cut_once(rt: HostRuntime) {
-    let delay = LineWords::new(b"delay 60");
-    let end = LineWords::new(b"end");
-    let none = LineWords::new(b"");
+    let (mut of_delay, mut of_end, mut of_none) = (
+        KeptEnds::none(),
+        KeptEnds::none(),
+        KeptEnds::none(),
+    );
+    let delay = LineWords::new(b"delay 60", &mut of_delay);
+    let end = LineWords::new(b"end", &mut of_end);
+    let none = LineWords::new(b"", &mut of_none);
     all_hold(
         &rt,
         &[
@@ -203,7 +209,8 @@ fn words_between<'a>(words: &LineWords<'a>, from: usize, to: usize) -> Option<Li
 
 #[test]
 fn some_words_stand_in_a_row(rt: HostRuntime) {
-    let many = LineWords::new(MANY_WORDS);
+    let mut ends = KeptEnds::none();
+    let many = LineWords::new(MANY_WORDS, &mut ends);
     let some = words_between(&many, 2, 7).expect(&rt, "five words");
     let two = words_between(&some, 1, 3).expect(&rt, "two words");
     let none = words_between(&some, 5, 5).expect(&rt, "no word");
@@ -234,7 +241,10 @@ const LONG_LINE: &[u8] = b"0 1 2 3 4 5 6 7 8 9 a b c d e f g h";
 
 #[test]
 fn words_behind_the_first_are_sought(rt: HostRuntime) {
-    let long = LineWords::new(LONG_LINE);
+    // What was kept of another text doesn't matter.
+    let mut ends = KeptEnds::none();
+    LineWords::new(MANY_WORDS, &mut ends).word_count();
+    let long = LineWords::new(LONG_LINE, &mut ends);
     all_hold(
         &rt,
         &[
@@ -250,18 +260,22 @@ fn words_behind_the_first_are_sought(rt: HostRuntime) {
 }
 
 fn are_formed(text: &[u8], count: usize) -> bool {
-    match line_of(text, true).formed(true) {
+    match line_of(text, true).formed(true, &mut KeptEnds::none()) {
         Ok(Some(words)) => words.word_count() == count,
         _ => false,
     }
 }
 
 fn is_passed_over(text: &[u8], skips: bool) -> bool {
-    matches!(line_of(text, true).formed(skips), Ok(None))
+    matches!(
+        line_of(text, true).formed(skips, &mut KeptEnds::none()),
+        Ok(None)
+    )
 }
 
 fn formed_fault(text: &[u8]) -> Option<Cause> {
-    line_of(text, true).formed(true).err()
+    let mut ends = KeptEnds::none();
+    line_of(text, true).formed(true, &mut ends).err()
 }
 
 #[test]

@@ -9,7 +9,6 @@ pub mod PlainWords
 pub mod EntryLines
 pub mod JournalTexts
 pub mod Answered
-pub mod Refused
 pub mod Turns
 pub mod HeldTold
 pub mod MostTrains

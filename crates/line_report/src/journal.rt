@@ -12,12 +12,7 @@ use std::alloc::{AllocError, Global};
 
 // Puts an entry's line behind a text that is being made. Where memory runs out a part of the line may stand behind it.
 #[tactic(auto, unfolding(crate::specs::Journals::entry_text))]
-pub(crate) fn put_line(
-    out: &mut String,
-    plan: &Plan,
-    number: usize,
-    entry: &Entry,
-) -> Result<(), AllocError>
+fn put_line(out: &mut String, plan: &Plan, number: usize, entry: &Entry) -> Result<(), AllocError>
     requires { IsSpelled plan.now entry.now }
     ensures { OnOk result (string_bytes out.new ≡ string_bytes out.old ++ entry_text plan.now number entry.now) }
 {
@@ -61,25 +56,6 @@ fn put_entry_lines(
         put_line(out, plan, number + place, entry)?;
     }
     Ok(())
-}
-
-/// Puts the lines of entries that follow one another behind a text, as the journal has them where the first has this
-/// number. Each entry is one that the line can spell. Where memory runs out the text is as it was.
-pub fn put_entries(
-    out: &mut String,
-    plan: &Plan,
-    number: usize,
-    entries: &[Entry],
-) -> Result<(), AllocError>
-    requires spelled { All (IsSpelled plan.now) entries.now }
-    requires numbers { number + length entries.now < 2 ^ 64 }
-    ensures put { OnOk result
-        (string_bytes out.new ≡ string_bytes out.old ++ entries_text plan.now number entries.now) }
-    ensures kept { OnErr result (string_bytes out.new ≡ string_bytes out.old) }
-{
-    let mut lines = String::new(*out.allocator());
-    put_entry_lines(&mut lines, plan, number, entries)?;
-    put_text(out, lines)
 }
 
 // The journal's first line.

@@ -7,7 +7,9 @@ ghost use Rattle.line_report.specs.Reading.{heading_in, heading_of, most_journal
 use crate::entry_line::{box_in, entry_number, later_call_in, told_reply_in, told_words};
 use line_law::Entry;
 use line_plan::Plan;
-use rail_text::{Cause, LineFault, LineWords, Lines, ReadError, TextLine, number_in, text_error};
+use rail_text::{
+    Cause, KeptEnds, LineFault, LineWords, Lines, ReadError, TextLine, number_in, text_error,
+};
 use std::alloc::Global;
 use std::marker::Model;
 
@@ -43,7 +45,8 @@ fn heading_of(plan: &Plan, line: &TextLine<'_>) -> Result<u32, LineFault>
         (heading_of plan.now (record { text = line.now.text.now; ended = line.now.ended })) }
     ensures memory { TakesNoMemory result }
 {
-    match line.formed(false) {
+    let mut ends = KeptEnds::none();
+    match line.formed(false, &mut ends) {
         Ok(Some(words)) => heading_in(plan, &words),
         Ok(None) => unreachable!(),
         Err(cause) => Err(LineFault::Cause(cause)),
@@ -159,7 +162,8 @@ impl<'a> JournalReader<'a> {
     fn told_by(&self, line: &TextLine<'_>) -> Result<Option<Entry>, Cause>
         ensures { result ≡ told_by self.now.so_far (record { text = line.now.text.now; ended = line.now.ended }) }
     {
-        match line.formed(false) {
+        let mut ends = KeptEnds::none();
+        match line.formed(false, &mut ends) {
             Ok(Some(words)) => self.told_in(&words),
             Ok(None) => unreachable!(),
             Err(cause) => Err(cause),

@@ -13,7 +13,7 @@ mod refusals;
 mod sections;
 
 pub use hearing::{Hearing, judge_text};
-pub use journal::{print_journal, put_entries, put_entry, put_heading, put_journal};
+pub use journal::{print_journal, put_entry, put_heading, put_journal};
 pub use journal_reader::most_journal_bytes;
 pub use judging::{Verdict, judge, may_judge};
 pub use laws::{
@@ -21,5 +21,5 @@ pub use laws::{
     verdict_law,
 };
 pub use reading::{journals_law, read_journal};
-pub use refusals::{put_refusals, refused_count};
+pub use refusals::refused_count;
 pub use sections::{HeldTrains, count_on, most_trains, no_trains, put_sections};

@@ -1,12 +1,14 @@
 -- The journal's lines, copied from the registers that are printed.
 use Rattle.std.proofs.Common.{◌≡◌, ◌≢◌, ℕ, zero, suc, ◌+◌, ◌<◌, ◌≤◌, ◌^◌, true, false, eqb, not, List, [], ◌∷◌, ◌++◌}
-use Rattle.std.proofs.Common.{length, map, take, drop, get_or, slice_set, Option, Some, refl, sym, ap, subst, ◌∙◌}
+use Rattle.std.proofs.Common.{length, map, drop, get_or, slice_set, Option, Some, refl, sym, ap, subst, ◌∙◌}
 use Rattle.std.proofs.Common.{append_assoc}
 use Rattle.std.proofs.Common.{arith, codes, decimal, ◌⊎◌, inl, inr}
 use Rattle.std.specs.Option.{unwrap_or}
 use Rattle.std.proofs.lemmas.Bool.{eq-eqb}
 use Rattle.std.proofs.lemmas.Bool.Decides.{eqb_tells}
-use Rattle.std.proofs.lemmas.List.{drop_more, get_or-map, get_or-set_other, get_or-set_same, length-map, length-set}
+use Rattle.std.proofs.lemmas.List.{append-nil, drop_more, get_or-map, get_or-set_other, get_or-set_same, length-append}
+use Rattle.std.proofs.lemmas.List.{length-map, length-set}
+use Rattle.std.proofs.lemmas.List.Elements.{filter-append}
 use Rattle.std.proofs.lemmas.List.Filters.{length-filter_both}
 use Rattle.rail_text.specs.Lines.{cut_of, lacks}
 use Rattle.rail_text.specs.Words.{is_name}
@@ -21,8 +23,6 @@ use Rattle.script_text.proofs.Named.{valid_at}
 use Rattle.train_register.specs.Registers.{AreParts, RegisterFields, no_register, register_at, register_text}
 use Rattle.train_register.specs.Registers.{told_line, told_lines}
 use Rattle.line_report.specs.Asked.{AreFewEntries}
-use Rattle.line_report.specs.Journals.{entries_text, entry_text}
-use Rattle.line_report.proofs.Entries.{more_entries}
 use Rattle.line_report.proofs.EntryLines.{line_lacks_end}
 use Rattle.line_runs.specs.Copying.{AreLinesLeft, AreToldLines, behind_line, told_in}
 
@@ -111,9 +111,13 @@ all_left plan es registers is few parts = record {
       rw (parts.boxes b at, parts.entries b at) refl in (
         1,
         omega (arith, few, length-part b es),
-        get_or-map behind_line texts b [] [] (omega (arith, in_line, length-map registers text))
-            ∙ (ap (λ (t : List ℕ). behind_line t) (get_or-map text registers b no_register [] in_line ∙ of_box)
-            ∙ lines_of_register plan b (part_of b es) is at short),
+        (
+          [],
+          get_or-map behind_line texts b [] [] (omega (arith, in_line, length-map registers text))
+              ∙ (ap (λ (t : List ℕ). behind_line t) (get_or-map text registers b no_register [] in_line ∙ of_box)
+              ∙ (lines_of_register plan b (part_of b es) is at short
+              ∙ sym (append-nil (told_lines plan 1 (part_of b es))))),
+        ),
       );
 } where
   text : RegisterFields → List ℕ
@@ -142,8 +146,9 @@ pub told_next : (plan : PlanFields) (e : Entry) (es : List Entry) (lines : List 
 told_next plan e es lines is spelled left =
     let own = own_lines plan e es lines spelled left in
     let few : own.0 < 10 ^ 10 = omega (arith, own.1) in
-    ap (λ (t : List ℕ). told_in t) own.2
-    ∙ told_of_line plan own.0 e (told_lines plan (own.0 + 1) (part_of e.box_no es)) is few spelled
+    let later : List ℕ = told_lines plan (own.0 + 1) (part_of e.box_no es) in
+    ap (λ (t : List ℕ). told_in t) (own.2.1 ∙ append_assoc (told_line plan own.0 e) later own.2.0)
+    ∙ told_of_line plan own.0 e (later ++ own.2.0) is few spelled
 
 pub left_next : (plan : PlanFields) (e : Entry) (es : List Entry) (lines : List (List ℕ)) → IsPlan plan
     → IsSpelled plan e → AreLinesLeft plan (e ∷ es) lines
@@ -158,13 +163,17 @@ left_next plan e es lines is spelled left = record {
   here : AreToldLines plan (part_of e.box_no es) (get_or new e.box_no [])
   here =
       let own = own_lines plan e es lines spelled left in
-      let few : own.0 < 10 ^ 10 = omega (arith, own.1) in (
+      let few : own.0 < 10 ^ 10 = omega (arith, own.1) in
+      let later : List ℕ = told_lines plan (own.0 + 1) (part_of e.box_no es) in (
         own.0 + 1,
         omega (arith, own.1),
-        get_or-set_same lines e.box_no (behind_line (get_or lines e.box_no [])) []
-            (omega (arith, spelled.box, left.each))
-            ∙ (ap (λ (t : List ℕ). behind_line t) own.2
-            ∙ behind_of_line plan own.0 e (told_lines plan (own.0 + 1) (part_of e.box_no es)) is few spelled),
+        (
+          own.2.0,
+          get_or-set_same lines e.box_no (behind_line (get_or lines e.box_no [])) []
+              (omega (arith, spelled.box, left.each))
+              ∙ (ap (λ (t : List ℕ). behind_line t) (own.2.1 ∙ append_assoc (told_line plan own.0 e) later own.2.0)
+              ∙ behind_of_line plan own.0 e (later ++ own.2.0) is few spelled),
+        ),
       )
 
   by_box : (b : ℕ) → b < length plan.boxes
@@ -178,6 +187,40 @@ left_next plan e es lines is spelled left = record {
       (sym
       (get_or-set_other lines e.box_no b (behind_line (get_or lines e.box_no [])) [] (λ is_box. other.1 (sym is_box))))
       (subst (λ (own_entries : List Entry). AreToldLines plan own_entries (get_or lines b [])) part own)
+
+-- ---- the front entries alone
+
+told_lines-append : (plan : PlanFields) (n : ℕ) (es fs : List Entry)
+    → told_lines plan n (es ++ fs) ≡ told_lines plan n es ++ told_lines plan (n + length es) fs
+told_lines-append plan n [] fs = ap (λ (k : ℕ). told_lines plan k fs) (omega arith)
+told_lines-append plan n (e ∷ es) fs =
+    let moved : (n + 1) + length es ≡ n + length (e ∷ es) = omega arith in
+    ap (λ (t : List ℕ). told_line plan n e ++ t) (told_lines-append plan (n + 1) es fs)
+    ∙ sym (append_assoc (told_line plan n e) (told_lines plan (n + 1) es) (told_lines plan ((n + 1) + length es) fs))
+    ∙ ap (λ (k : ℕ). (told_line plan n e ++ told_lines plan (n + 1) es) ++ told_lines plan k fs) moved
+
+-- where the lines of all are left, those of the front ones are
+pub left_in_front : (plan : PlanFields) (es fs : List Entry) (lines : List (List ℕ))
+    → AreLinesLeft plan (es ++ fs) lines → AreLinesLeft plan es lines
+left_in_front plan es fs lines left = record { each = left.each; told = in_front } where
+  in_front : (b : ℕ) → b < length plan.boxes → AreToldLines plan (part_of b es) (get_or lines b [])
+  in_front b at =
+      let own = left.told b at in
+      let front : List Entry = part_of b es in
+      let behind : List Entry = part_of b fs in
+      let whole : part_of b (es ++ fs) ≡ front ++ behind = filter-append (λ (e : Entry). eqb e.box_no b) es fs in
+      let many : length (part_of b (es ++ fs)) ≡ length front + length behind =
+      ap length whole ∙ length-append front behind in (
+        own.0,
+        omega (arith, own.1, many),
+        (
+          told_lines plan (own.0 + length front) behind ++ own.2.0,
+          own.2.1
+              ∙ (ap (λ (all : List Entry). told_lines plan own.0 all ++ own.2.0) whole
+              ∙ (ap (λ (t : List ℕ). t ++ own.2.0) (told_lines-append plan own.0 front behind)
+              ∙ append_assoc (told_lines plan own.0 front) (told_lines plan (own.0 + length front) behind) own.2.0)),
+        ),
+      )
 
 -- ---- the loop
 
@@ -198,14 +241,6 @@ told_here plan es i d lines other told is lt spelled left told_is =
     let read : get_or lines e.box_no other ≡ get_or lines e.box_no [] =
     read_any lines e.box_no other [] (omega (arith, spelled.box, left.each)) in
     told_is ∙ (ap (λ (t : List ℕ). told_in t) read ∙ told_next plan e (drop (i + 1) es) lines is spelled here)
-
-pub copied_next : (plan : PlanFields) (es : List Entry) (i : ℕ) (d : Entry) (old out new : List ℕ) → i < length es
-    → out ≡ old ++ entries_text plan 1 (take i es) → new ≡ out ++ entry_text plan (i + 1) (get_or es i d)
-    → new ≡ old ++ entries_text plan 1 (take (i + 1) es)
-copied_next plan es i d old out new lt before more =
-    let counted : i + 1 ≡ 1 + i = omega arith in
-    more_entries plan 1 es i d old out new lt before
-    (more ∙ ap (λ (n : ℕ). out ++ entry_text plan n (get_or es i d)) counted)
 
 pub left_more : (plan : PlanFields) (es : List Entry) (i : ℕ) (d : Entry) (lines : List (List ℕ))
     (other rest : List ℕ) → IsPlan plan → i < length es → IsSpelled plan (get_or es i d)

@@ -4,6 +4,8 @@ pub mod Turning
 pub mod SerialTurns
 pub mod ScriptsWorked
 pub mod OutputRead
-pub mod Printed
 pub mod LineWatched
+pub mod Refused
+pub mod Printed
 pub mod Copied
+pub mod PutInParts

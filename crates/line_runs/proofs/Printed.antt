@@ -1,17 +1,20 @@
 -- An output that is printed in parts.
-use Rattle.std.proofs.Common.{◌≡◌, ℕ, List, [], ◌∷◌, ◌++◌, map, Result, Ok, Err, IfOk, codes, refl, sym, ap, ◌∙◌}
-use Rattle.std.proofs.Common.{append_assoc}
+use Rattle.std.proofs.Common.{◌≡◌, ℕ, ◌+◌, ◌≤◌, List, [], ◌∷◌, ◌++◌, drop, length, map, take, Result, Ok, Err, IfOk}
+use Rattle.std.proofs.Common.{append_assoc, arith, codes, decimal, refl, sym, ap, ◌∙◌}
 use Rattle.std.proofs.lemmas.Result.{IfOk-at_ok}
 use Rattle.std.specs.List.{flat_map}
-use Rattle.std.proofs.lemmas.List.{map-append}
+use Rattle.std.proofs.lemmas.List.{length-take, map-append, take-append-drop}
 use Rattle.line_plan.specs.Plans.{PlanFields}
 use Rattle.line_law.specs.declared.call.Entry.{Entry}
 use Rattle.line_report.specs.Journals.{entries_text, heading_text, journal_text}
-use Rattle.line_report.specs.Refusals.{refusals_text}
+use Rattle.line_report.specs.Refusals.{refusals_text, refused_count, refused_entries}
 use Rattle.line_report.specs.Sections.{sections_text}
+use Rattle.line_report.proofs.Entries.{entries_text-append}
 use Rattle.train_register.specs.Registers.{AreParts, RegisterFields, register_text, registers_text}
-use Rattle.train_register.proofs.Parts.{parts_text}
-use Rattle.line_runs.specs.Outputs.{AreInOrder, output_text, result_text}
+use Rattle.train_register.proofs.Parts.{parts_text as registers_whole}
+use Rattle.line_runs.specs.Copying.{AreCopied, AreHalves, CopiedFields, refusals_heading}
+use Rattle.line_runs.specs.Outputs.{AreInOrder, output_text, parts_text}
+use Rattle.line_runs.proofs.Refused.{refused_entries-append}
 
 -- two lists in order are the whole that both are
 pub in_order : {E X : Type 0} (front behind result : Result (List X) E) (first second whole : List X)
@@ -30,34 +33,79 @@ pub each_half : {X : Type 0} (f : X → List ℕ) (xs front behind : List X) →
     → map f front ++ map f behind ≡ map f xs
 each_half f xs front behind whole = sym (map-append f front behind) ∙ ap (map f) (sym whole)
 
--- texts one after another
-pub flat_texts : {X : Type 0} (f : X → List ℕ) (xs : List X) → flat_map (λ text. text) (map f xs) ≡ flat_map f xs
-flat_texts f [] = refl
-flat_texts f (x ∷ xs) = ap (λ (t : List ℕ). f x ++ t) (flat_texts f xs)
-
 -- what is made of each of what was made of each
 pub map_twice : {X Y Z : Type 0} (g : Y → Z) (f : X → Y) (xs : List X) → map g (map f xs) ≡ map (λ x. g (f x)) xs
 map_twice g f [] = refl
 map_twice {X} {Y} {Z} g f (x ∷ xs) = ap (λ (zs : List Z). g (f x) ∷ zs) (map_twice g f xs)
 
+-- the front half of a journal's entries, and the others
+pub in_halves : (plan : PlanFields) (es : List Entry) (half : ℕ) (front behind : CopiedFields)
+    → AreCopied plan 1 (take half es) front → AreCopied plan (half + 1) (drop half es) behind → half ≤ length es
+    → AreHalves plan es front behind
+in_halves plan es half front behind first second within =
+    let parts : take half es ++ drop half es ≡ es = take-append-drop half es in
+    let counted : 1 + length (take half es) ≡ half + 1 = omega (arith, length-take half es, within) in
+    record {
+      journal = rw (first.journal, second.journal)
+          (ap (λ (n : ℕ). entries_text plan 1 (take half es) ++ entries_text plan n (drop half es)) (sym counted)
+          ∙ (sym (entries_text-append plan 1 (take half es) (drop half es)) ∙ ap (entries_text plan 1) parts));
+      refused = rw (first.refused, second.refused)
+          (ap (λ (n : ℕ). refused_entries plan 1 (take half es) ++ refused_entries plan n (drop half es)) (sym counted)
+          ∙ (sym (refused_entries-append plan 1 (take half es) (drop half es)) ∙ ap (refused_entries plan 1) parts));
+    }
+
+-- the texts of registers one after another
+pub flat_texts : {X : Type 0} (f : X → List ℕ) (xs : List X) → flat_map (λ text. text) (map f xs) ≡ flat_map f xs
+flat_texts f [] = refl
+flat_texts f (x ∷ xs) = ap (λ (t : List ℕ). f x ++ t) (flat_texts f xs)
+
+regroup : (head entries end registers told refused sections : List ℕ)
+    → head ++ entries ++ end ++ registers ++ told ++ refused ++ sections
+    ≡ (head ++ entries ++ end) ++ (registers ++ ((told ++ refused) ++ sections))
+regroup head entries end registers told refused sections = simp append_assoc
+
+-- the journal is its first line, the lines of its entries, and its end
+journal_is : (plan : PlanFields) (es : List Entry)
+    → heading_text plan ++ entries_text plan 1 es ++ codes "end\n" ≡ journal_text plan es
+unfolding heading_text journal_text
+journal_is plan es =
+    ap (λ (t : List ℕ). t ++ codes "end\n")
+    (append_assoc (codes "journal " ++ decimal plan.version) (10 ∷ []) (entries_text plan 1 es))
+
+-- the refused calls are their number and their lines
+refusals_are : (plan : PlanFields) (es : List Entry)
+    → refusals_heading es ++ refused_entries plan 1 es ≡ refusals_text plan es
+unfolding refusals_text
+refusals_are plan es =
+    append_assoc (codes "refusals " ++ decimal (refused_count es)) (10 ∷ []) (refused_entries plan 1 es)
+
 -- the output is the journal, the texts of the registers, and what came of the run
-pub output_whole : (plan : PlanFields) (es : List Entry) (registers : List RegisterFields) (texts : List (List ℕ))
-    → AreParts plan es registers
+pub output_whole : (plan : PlanFields) (es : List Entry) (registers : List RegisterFields) (front behind : CopiedFields)
+    (texts : List (List ℕ)) (sections : List ℕ) → AreParts plan es registers
     → texts ≡ map (λ register. register_text plan register.box_no register.entries) registers
-    → ((journal_text plan es ++ flat_map (λ text. text) texts) ++ refusals_text plan es) ++ sections_text plan es
-    ≡ output_text plan es
+    → AreHalves plan es front behind → sections ≡ sections_text plan es
+    → parts_text plan es front behind texts sections ≡ output_text plan es
 unfolding output_text
-output_whole plan es registers texts parts are =
+output_whole plan es registers front behind texts sections parts are halves told =
     let registered : flat_map (λ text. text) texts ≡ registers_text plan es =
     ap (flat_map (λ text. text)) are
     ∙ (flat_texts (λ register. register_text plan register.box_no register.entries) registers
-    ∙ parts_text plan es registers parts) in
-    append_assoc (journal_text plan es ++ flat_map (λ text. text) texts) (refusals_text plan es) (sections_text plan es)
-    ∙ append_assoc (journal_text plan es) (flat_map (λ text. text) texts) (result_text plan es)
-    ∙ ap (λ (t : List ℕ). journal_text plan es ++ (t ++ result_text plan es)) registered
-
--- behind a text the journal is its first line, the lines of its entries, and its end
-pub journal_behind : (plan : PlanFields) (es : List Entry) (text : List ℕ)
-    → ((text ++ heading_text plan) ++ entries_text plan 1 es) ++ codes "end\n" ≡ text ++ journal_text plan es
-unfolding heading_text journal_text
-journal_behind plan es text = simp append_assoc
+    ∙ registers_whole plan es registers parts) in
+    let head : List ℕ = heading_text plan in
+    let entries : List ℕ = entries_text plan 1 es in
+    let refused : List ℕ = refused_entries plan 1 es in
+    let before : List ℕ = head ++ entries ++ codes "end\n" ++ registers_text plan es ++ refusals_heading es in
+    ap (λ (t : List ℕ). t ++ codes "end\n" ++ flat_map (λ text. text) texts ++ refusals_heading es ++ front.refused
+    ++ behind.refused ++ sections)
+    (append_assoc head front.journal behind.journal ∙ ap (λ (t : List ℕ). head ++ t) halves.journal)
+    ∙ (ap (λ (t : List ℕ). head ++ entries ++ codes "end\n" ++ t ++ refusals_heading es ++ front.refused
+    ++ behind.refused ++ sections) registered
+    ∙ (ap (λ (t : List ℕ). t ++ sections)
+    (append_assoc before front.refused behind.refused ∙ ap (λ (t : List ℕ). before ++ t) halves.refused)
+    ∙ (ap (λ (t : List ℕ). before ++ refused ++ t) told
+    ∙ (regroup head entries (codes "end\n") (registers_text plan es) (refusals_heading es) refused
+    (sections_text plan es)
+    ∙ (ap (λ (t : List ℕ). t ++ (registers_text plan es ++ ((refusals_heading es ++ refused) ++ sections_text plan es)))
+    (journal_is plan es)
+    ∙ ap (λ (t : List ℕ). journal_text plan es ++ (registers_text plan es ++ (t ++ sections_text plan es)))
+    (refusals_are plan es))))))

@@ -1,33 +1,48 @@
 //! The journal as it is printed. What is told of an entry is copied from the register of its box, which is printed
 //! already, so it is formatted once.
 
-ghost use Rattle.std.specs.Prelude.{◌≡◌, ◌<◌, ◌++◌, [], ◌∷◌, All, OnOk, codes, decimal, length};
-ghost use Rattle.std.specs.Option.{unwrap_or};
-ghost use Rattle.line_plan.specs.Plans.{PlanFields, box_name};
-ghost use Rattle.line_report.specs.Journals.{entries_text, entry_text, journal_text};
-ghost use Rattle.line_report.specs.Refusals.{refusals_text, refused_entries, refused_entry};
-ghost use Rattle.line_runs.specs.Copying.{AreLinesLeft, behind_line, told_in};
-ghost use Rattle.rail_text.specs.Lines.{cut_of};
+ghost use Rattle.std.specs.Prelude.{◌≡◌, ◌+◌, ◌<◌, ◌≤◌, ◌^◌, ◌++◌, [], ◌∷◌, All, IfOk, OnOk};
+ghost use Rattle.std.specs.Prelude.{codes, decimal, drop, length, map};
+ghost use Rattle.line_plan.specs.Plans.{box_name};
+ghost use Rattle.line_report.specs.Journals.{entries_text, entry_text};
+ghost use Rattle.line_report.specs.Refusals.{refused_entries, refused_entry};
+ghost use Rattle.line_runs.specs.Copying.{AreCopied, AreLinesLeft, behind_line, behind_word, first_line};
+ghost use Rattle.line_runs.specs.Copying.{refusals_heading, told_in};
 ghost use Rattle.script_text.specs.Entries.{IsSpelled, told_text};
 
+use crate::registers::PrintedRegisters;
 use itoa::Buffer;
 use line_law::{Entry, is_refused};
 use line_plan::Plan;
-use line_report::{put_heading, refused_count};
+use line_report::refused_count;
 use memchr::memchr;
-use std::alloc::AllocError;
+use rail_text::NoMemory;
+use std::alloc::{AllocError, Global};
 use std::marker::Model;
 
-// What stands in a text before the first of these bytes, and what behind it: nothing where there is none.
+// The first line of a text, and what stands behind it: nothing where it has no end.
 #[tactic(auto, using(rail_text::proofs::FirstByte::first_rules))]
-fn cut_at(byte: u8, text: &[u8]) -> (&[u8], &[u8])
-    ensures front { result.0.now ≡ (cut_of byte text.now).0 }
-    ensures behind { result.1.now ≡ unwrap_or (cut_of byte text.now).1 [] }
+fn cut_line(text: &[u8]) -> (&[u8], &[u8])
+    ensures line { result.0.now ≡ first_line text.now }
+    ensures behind { result.1.now ≡ behind_line text.now }
 {
-    match memchr(byte, text) {
+    match memchr(b'\n', text) {
         Some(at) => (&text[..at], &text[at + 1..]),
         None => (text, &[]),
     }
+}
+
+// What stands behind the first space of a line: nothing where it has none. What stands before it is short, so it is
+// sought byte by byte.
+fn behind_word(line: &[u8]) -> &[u8]
+    ensures { result.now ≡ behind_word line.now }
+{
+    for (at, byte) in line.iter().enumerate() {
+        if *byte == b' ' {
+            return &line[at + 1..];
+        }
+    }
+    &[]
 }
 
 /// The lines of a printed register that aren't copied yet. Contracts see their text.
@@ -49,8 +64,16 @@ impl<'a> ToldLines<'a> {
     pub(crate) fn of_register(text: &'a [u8]) -> ToldLines<'a>
         ensures { result ≡ behind_line text.now }
     {
-        let (_, rest) = cut_at(b'\n', text);
+        let (_, rest) = cut_line(text);
         ToldLines { rest }
+    }
+
+    // Passes over the next line.
+    fn pass(&mut self)
+        ensures { self.new ≡ behind_line self.old }
+    {
+        let (_, rest) = cut_line(self.rest);
+        self.rest = rest;
     }
 
     // What is told on the next line, behind its number.
@@ -58,10 +81,9 @@ impl<'a> ToldLines<'a> {
         ensures told { result.now ≡ told_in self.old }
         ensures rest { self.new ≡ behind_line self.old }
     {
-        let (line, rest) = cut_at(b'\n', self.rest);
+        let (line, rest) = cut_line(self.rest);
         self.rest = rest;
-        let (_, told) = cut_at(b' ', line);
-        told
+        behind_word(line)
     }
 }
 
@@ -118,67 +140,99 @@ fn put_entry(
     Ok(())
 }
 
-// Puts the lines of all entries behind the journal, numbered from 1, and the refused ones behind these. What is told of
-// each is the next that the register of its box has.
+// Passes over the lines of the first entries, so many of them.
+fn pass_over(plan: &Plan, entries: &[Entry], many: usize, lines: &mut [ToldLines<'_>])
+    requires many { many ≤ length entries.now }
+    requires spelled { All (IsSpelled plan.now) entries.now }
+    requires left { AreLinesLeft plan.now entries.now lines.old }
+    ensures { AreLinesLeft plan.now (drop many entries.now) lines.new }
+{
+    plan.meets_conditions();
+    for place in 0..many {
+        lines[entries[place].box_no as usize].pass();
+    }
+}
+
+// Puts the lines of these entries behind the journal, the first with this number, and the refused ones behind these.
+// What is told of each is the next that the register of its box has.
 fn copy_entries(
     journal: &mut Vec<u8>,
     refused: &mut Vec<u8>,
     plan: &Plan,
+    number: usize,
     entries: &[Entry],
     lines: &mut [ToldLines<'_>],
 ) -> Result<(), AllocError>
+    requires numbers { number + length entries.now < 2 ^ 64 }
     requires spelled { All (IsSpelled plan.now) entries.now }
     requires left { AreLinesLeft plan.now entries.now lines.old }
     ensures journal { OnOk result
-        (journal.new.items ≡ journal.old.items ++ entries_text plan.now 1 entries.now) }
+        (journal.new.items ≡ journal.old.items ++ entries_text plan.now number entries.now) }
     ensures refused { OnOk result
-        (refused.new.items ≡ refused.old.items ++ refused_entries plan.now 1 entries.now) }
+        (refused.new.items ≡ refused.old.items ++ refused_entries plan.now number entries.now) }
 {
     plan.meets_conditions();
     for (place, entry) in entries.iter().enumerate() {
         let told = lines[entry.box_no as usize].next_told();
-        put_entry(journal, refused, plan, place + 1, entry, told)?;
+        put_entry(journal, refused, plan, number + place, entry, told)?;
     }
     Ok(())
 }
 
-/// Puts the journal behind a text: its first line, those of its entries, which are copied from the registers, and its
-/// end; and its lines with refused replies behind another text.
-#[tactic(auto, using(crate::proofs::Printed::journal_behind))]
-pub(crate) fn copy_journal(
-    journal: &mut Vec<u8>,
-    refused: &mut Vec<u8>,
-    plan: &Plan,
-    entries: &[Entry],
-    lines: &mut [ToldLines<'_>],
-) -> Result<(), AllocError>
-    requires spelled { All (IsSpelled plan.now) entries.now }
-    requires left { AreLinesLeft plan.now entries.now lines.old }
-    ensures journal { OnOk result (journal.new.items ≡ journal.old.items ++ journal_text plan.now entries.now) }
-    ensures refused { OnOk result
-        (refused.new.items ≡ refused.old.items ++ refused_entries plan.now 1 entries.now) }
-{
-    let mut heading = String::new(*journal.allocator());
-    put_heading(&mut heading, plan)?;
-    journal.extend_from_slice(heading.as_bytes())?;
-    copy_entries(journal, refused, plan, entries, lines)?;
-    journal.extend_from_slice(b"end\n")?;
-    Ok(())
+/// What is copied of some entries: their lines in the journal, and those of them whose replies are refused. Contracts
+/// see both texts.
+#[derive(Drop)]
+pub(crate) struct CopiedLines {
+    pub(crate) journal: Vec<u8>,
+    pub(crate) refused: Vec<u8>,
 }
 
-/// Puts the refused calls behind a text, of which these are the lines: `refusals`, how many they are, and the lines.
-#[tactic(auto, unfolding(line_report::specs::Refusals::refusals_text))]
-pub(crate) fn put_refusals(
-    out: &mut Vec<u8>,
+impl Model for CopiedLines {
+    ghost use Rattle.line_runs.specs.Copying.{CopiedFields};
+
+    ghost Value = { CopiedFields };
+
+    ghost view = { λ copied. record { journal = copied.journal.items; refused = copied.refused.items } };
+}
+
+/// Copies the journal's lines of entries, but for the first so many, from the printed registers. There is room for so
+/// many bytes of the lines at once.
+pub(crate) fn copy_from(
+    alloc: Global,
+    plan: &Plan,
     entries: &[Entry],
-    refused: &[u8],
-) -> Result<(), AllocError>
-    ensures { (plan : PlanFields) → refused.now ≡ refused_entries plan 1 entries.now
-        → OnOk result (out.new.items ≡ out.old.items ++ refusals_text plan entries.now) }
+    from: usize,
+    registers: &PrintedRegisters,
+    room: usize,
+) -> Result<CopiedLines, NoMemory>
+    requires from { from ≤ length entries.now }
+    requires numbers { length entries.now + 1 < 2 ^ 64 }
+    requires spelled { All (IsSpelled plan.now) entries.now }
+    requires left { AreLinesLeft plan.now entries.now (map behind_line registers.now) }
+    ensures { IfOk result (AreCopied plan.now (from + 1) (drop from entries.now)) }
 {
+    let mut journal = Vec::with_capacity(alloc, room)?;
+    let mut refused = Vec::new(alloc);
+    let mut lines = registers.told_lines(alloc)?;
+    pass_over(plan, entries, from, &mut lines);
+    copy_entries(
+        &mut journal,
+        &mut refused,
+        plan,
+        from + 1,
+        &entries[from..],
+        &mut lines,
+    )?;
+    Ok(CopiedLines { journal, refused })
+}
+
+/// What stands before the lines of the refused calls: `refusals`, and how many they are.
+pub(crate) fn refusals_heading(alloc: Global, entries: &[Entry]) -> Result<Vec<u8>, AllocError>
+    ensures { IfOk result (λ text. text.items ≡ refusals_heading entries.now) }
+{
+    let mut out = Vec::new(alloc);
     out.extend_from_slice(b"refusals ")?;
-    put_number(out, refused_count(entries))?;
+    put_number(&mut out, refused_count(entries))?;
     out.push(b'\n')?;
-    out.extend_from_slice(refused)?;
-    Ok(())
+    Ok(out)
 }

@@ -1,9 +1,10 @@
 //! Runs: a line is worked by the scripts of its boxes, each on a thread of its own, and may be watched meanwhile. What
-//! is printed of it is built whole.
+//! is printed of it is made whole, in parts, before any of it is put.
 #![tactic(auto)]
 
 mod copying;
 mod look;
+mod output;
 mod printing;
 mod registers;
 mod roster;
@@ -15,6 +16,7 @@ mod watch;
 mod watched;
 mod worked;
 
+pub use output::Output;
 pub use run::run_outcome;
 pub use stress::stress_outcome;
 pub use watch::watch_outcome;

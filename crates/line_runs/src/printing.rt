@@ -1,23 +1,25 @@
 //! The output of a line that was worked: its registers are printed on threads, and the journal is copied from them.
 
-ghost use Rattle.std.specs.Prelude.{◌≡◌, All, IfOk, map, string_bytes};
-ghost use Rattle.line_report.specs.Journals.{journal_text};
-ghost use Rattle.line_report.specs.Refusals.{refused_entries};
+ghost use Rattle.std.specs.Prelude.{◌≡◌, ◌+◌, ◌<◌, ◌≤◌, ◌^◌, All, IfOk, codes, drop, length, map, string_bytes};
+ghost use Rattle.line_report.specs.Journals.{heading_text};
 ghost use Rattle.line_report.specs.Sections.{sections_text};
-ghost use Rattle.line_runs.specs.Outputs.{output_text};
+ghost use Rattle.line_runs.specs.Copying.{AreCopied, AreHalves, AreLinesLeft, behind_line};
+ghost use Rattle.line_runs.specs.Outputs.{output_text, parts_text};
 ghost use Rattle.line_runs.specs.Worked.{AreWorked, CanBePrinted, IsWorkedLine};
+ghost use Rattle.script_text.specs.Entries.{IsSpelled};
 ghost use Rattle.text_fetch.specs.Runs.{AreScriptsOf};
 ghost use Rattle.train_register.specs.Registers.{IsPrintable, register_text};
 
-use crate::copying::{copy_journal, put_refusals};
+use crate::copying::{CopiedLines, copy_from, refusals_heading};
+use crate::output::Output;
 use crate::registers::PrintedRegisters;
 use crate::worked::{WorkedLine, merged_journal};
-use line_law::Journal;
+use line_law::{Entry, Journal};
 use line_plan::Plan;
-use line_report::put_sections;
+use line_report::{put_heading, put_sections};
 use rail_text::NoMemory;
 use script_text::Script;
-use std::alloc::Global;
+use std::alloc::{AllocError, Global};
 use std::thread::{Threads, join};
 use train_register::{Ended, Register, print_register};
 
@@ -125,29 +127,42 @@ pub(crate) fn merged_and_printed<R: Threads + Sync>(
     Ok((WorkedLine { journal, ended }, registers))
 }
 
-// The journal, copied from the registers that are printed, with room for all that stands behind it, and those of its
-// lines whose replies are refused.
-fn print_journal(
+// The journal's lines, copied from the registers that are printed: of the entries of its front half on one thread, of
+// the others on another.
+fn copy_halves<R: Threads + Sync>(
+    rt: &R,
     alloc: Global,
     plan: &Plan,
     line: &WorkedLine,
     registers: &PrintedRegisters,
-) -> Result<(Vec<u8>, Vec<u8>), NoMemory>
+) -> Result<(CopiedLines, CopiedLines), NoMemory>
     requires line { CanBePrinted plan.now line.now.journal.entries line.now.ended.registers }
     requires registers { registers.now ≡ map
         (λ register. register_text plan.now register.box_no register.entries) line.now.ended.registers }
-    ensures { IfOk result (λ r. (r.0.items ≡ journal_text plan.now line.now.journal.entries)
-        × (r.1.items ≡ refused_entries plan.now 1 line.now.journal.entries)) }
+    ensures { IfOk result (λ r. AreHalves plan.now line.now.journal.entries r.0 r.1) }
 {
     plan.meets_conditions();
     let entries = line.journal.entries.as_slice();
-    let longer = entries.len().saturating_mul(LONGER);
-    let room = registers.room().saturating_mul(2).saturating_add(longer);
-    let mut journal = Vec::with_capacity(alloc, room)?;
-    let mut refused = Vec::new(alloc);
-    let mut lines = registers.told_lines(alloc)?;
-    copy_journal(&mut journal, &mut refused, plan, entries, &mut lines)?;
-    Ok((journal, refused))
+    let half = entries.len() / 2;
+    let room = registers
+        .room()
+        .saturating_add(entries.len().saturating_mul(LONGER))
+        / 2;
+    let in_front = &entries[..half];
+    let front = || -> Result<CopiedLines, NoMemory>
+        requires { All (IsSpelled plan.now) in_front.now
+            × AreLinesLeft plan.now in_front.now (map behind_line registers.now)
+            × (length in_front.now + 1 < 2 ^ 64) }
+        ensures { IfOk result (AreCopied plan.entry.now 1 in_front.entry.now) }
+    { copy_from(alloc, plan, in_front, 0, registers, room) };
+    let behind = || -> Result<CopiedLines, NoMemory>
+        requires { All (IsSpelled plan.now) entries.now
+            × AreLinesLeft plan.now entries.now (map behind_line registers.now)
+            × (half ≤ length entries.now) × (length entries.now + 1 < 2 ^ 64) }
+        ensures { IfOk result (AreCopied plan.entry.now (half + 1) (drop half entries.entry.now)) }
+    { copy_from(alloc, plan, entries, half, registers, room) };
+    let (front, behind) = join(rt, front, behind);
+    Ok((front?, behind?))
 }
 
 // The most trains that each section held.
@@ -160,6 +175,52 @@ fn print_sections(alloc: Global, plan: &Plan, line: &WorkedLine) -> Result<Strin
     Ok(text)
 }
 
+// The journal's first line.
+fn print_heading(alloc: Global, plan: &Plan) -> Result<Vec<u8>, AllocError>
+    ensures { IfOk result (λ text. text.items ≡ heading_text plan.now) }
+{
+    let mut text = String::new(alloc);
+    put_heading(&mut text, plan)?;
+    Ok(text.into_bytes())
+}
+
+// The journal's last line.
+fn print_end(alloc: Global) -> Result<Vec<u8>, AllocError>
+    ensures { IfOk result (λ text. text.items ≡ codes "end\n") }
+{
+    let mut text = Vec::new(alloc);
+    text.extend_from_slice(b"end\n")?;
+    Ok(text)
+}
+
+// The output of a line of these entries, by what was copied of both halves, the registers, and what tells of the
+// sections.
+#[tactic(auto, using(crate::proofs::Printed::output_whole))]
+fn put_together(
+    alloc: Global,
+    plan: &Plan,
+    entries: &[Entry],
+    halves: (CopiedLines, CopiedLines),
+    registers: PrintedRegisters,
+    sections: String,
+) -> Result<Output, AllocError>
+    ensures { IfOk result (λ output. output ≡ parts_text plan.now entries.now halves.0 halves.1 registers
+        (string_bytes sections)) }
+{
+    let (front, behind) = halves;
+    let mut output = Output::none(alloc);
+    output.push(print_heading(alloc, plan)?)?;
+    output.push(front.journal)?;
+    output.push(behind.journal)?;
+    output.push(print_end(alloc)?)?;
+    output.append(registers.into_texts())?;
+    output.push(refusals_heading(alloc, entries)?)?;
+    output.push(front.refused)?;
+    output.push(behind.refused)?;
+    output.push(sections.into_bytes())?;
+    Ok(output)
+}
+
 /// The whole output of a line that was worked, whose registers are printed already. The most trains of the sections are
 /// counted and printed on a thread, while the journal is copied from the registers.
 pub(crate) fn print_whole<R: Threads + Sync>(
@@ -168,31 +229,27 @@ pub(crate) fn print_whole<R: Threads + Sync>(
     plan: &Plan,
     line: &WorkedLine,
     registers: PrintedRegisters,
-) -> Result<Vec<u8>, NoMemory>
+) -> Result<Output, NoMemory>
     requires line { CanBePrinted plan.now line.now.journal.entries line.now.ended.registers }
     requires registers { registers ≡ map
         (λ register. register_text plan.now register.box_no register.entries) line.now.ended.registers }
-    ensures { IfOk result (λ text. text.items ≡ output_text plan.now line.now.journal.entries) }
+    ensures { IfOk result (λ output. output ≡ output_text plan.now line.now.journal.entries) }
 {
     let printed = &registers;
-    let journal = || -> Result<(Vec<u8>, Vec<u8>), NoMemory>
+    let halves = || -> Result<(CopiedLines, CopiedLines), NoMemory>
         requires { CanBePrinted plan.now line.now.journal.entries line.now.ended.registers
             × (printed.now ≡ map (λ register. register_text plan.now register.box_no register.entries)
             line.now.ended.registers) }
-        ensures { IfOk result (λ r. (r.0.items ≡ journal_text plan.entry.now line.entry.now.journal.entries)
-            × (r.1.items ≡ refused_entries plan.entry.now 1 line.entry.now.journal.entries)) }
-    { print_journal(alloc, plan, line, printed) };
+        ensures { IfOk result (λ r. AreHalves plan.entry.now line.entry.now.journal.entries r.0 r.1) }
+    { copy_halves(rt, alloc, plan, line, printed) };
     let sections = || -> Result<String, NoMemory>
         requires { CanBePrinted plan.now line.now.journal.entries line.now.ended.registers }
         ensures { IfOk result (λ text. string_bytes text
             ≡ sections_text plan.entry.now line.entry.now.journal.entries) }
     { print_sections(alloc, plan, line) };
-    let (journal, sections) = join(rt, journal, sections);
-    let (mut text, refused) = journal?;
-    registers.put_behind(&mut text)?;
-    put_refusals(&mut text, line.journal.entries.as_slice(), &refused)?;
-    text.extend_from_slice(sections?.as_bytes())?;
-    Ok(text)
+    let (halves, sections) = join(rt, halves, sections);
+    let entries = line.journal.entries.as_slice();
+    Ok(put_together(alloc, plan, entries, halves?, registers, sections?)?)
 }
 
 /// The whole output of a line that was worked, its registers printed on threads.
@@ -201,9 +258,9 @@ pub(crate) fn print_output<R: Threads + Sync>(
     alloc: Global,
     plan: &Plan,
     line: &WorkedLine,
-) -> Result<Vec<u8>, NoMemory>
+) -> Result<Output, NoMemory>
     requires { CanBePrinted plan.now line.now.journal.entries line.now.ended.registers }
-    ensures { IfOk result (λ text. text.items ≡ output_text plan.now line.now.journal.entries) }
+    ensures { IfOk result (λ output. output ≡ output_text plan.now line.now.journal.entries) }
 {
     let registers = print_registers(rt, alloc, plan, line.ended.registers.as_slice())?;
     print_whole(rt, alloc, plan, line, registers)

@@ -1,7 +1,6 @@
 //! The registers of a line as they are printed.
 
 ghost use Rattle.std.specs.Prelude.{◌≡◌, [], ◌∷◌, ◌++◌, IfOk, OnOk, map};
-ghost use Rattle.std.specs.List.{flat_map};
 ghost use Rattle.line_runs.specs.Copying.{behind_line};
 ghost use Rattle.line_runs.specs.Outputs.{AreInOrder};
 
@@ -19,16 +18,6 @@ fn told_lines_of<'a>(alloc: Global, texts: &'a [Vec<u8>]) -> Result<Vec<ToldLine
         lines.push(ToldLines::of_register(text))?;
     }
     Ok(lines)
-}
-
-// Puts these texts behind another, and gives each back.
-fn put_each_behind(texts: Vec<Vec<u8>>, out: &mut Vec<u8>) -> Result<(), AllocError>
-    ensures { OnOk result (out.new.items ≡ out.old.items ++ flat_map (λ text. text.items) texts.items) }
-{
-    for text in texts {
-        out.extend_from_slice(&text)?;
-    }
-    Ok(())
 }
 
 /// Registers as they are printed, each a text of its own. Contracts see the list of these texts.
@@ -97,11 +86,10 @@ impl PrintedRegisters {
         told_lines_of(alloc, &self.texts)
     }
 
-    /// Puts their texts behind another, and gives each back.
-    #[tactic(auto, using(crate::proofs::Printed::flat_texts))]
-    pub(crate) fn put_behind(self, out: &mut Vec<u8>) -> Result<(), AllocError>
-        ensures { OnOk result (out.new.items ≡ out.old.items ++ flat_map (λ text. text) self) }
+    /// Their texts in order.
+    pub(crate) fn into_texts(self) -> Vec<Vec<u8>>
+        ensures { map (λ text. text.items) result.items ≡ self }
     {
-        put_each_behind(self.texts, out)
+        self.texts
     }
 }

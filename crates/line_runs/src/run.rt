@@ -1,10 +1,11 @@
-//! The output of a run, built whole.
+//! The output of a run, made whole before any of it is put.
 
 ghost use Rattle.std.specs.Prelude.{◌≡◌, ◌∷◌, ℕ, List, IfOk, IsErrOf};
 ghost use Rattle.text_fetch.specs.FromTexts.{HasShelfFault, named};
 ghost use Rattle.text_fetch.specs.Runs.{AreScriptsOf, run_told, run_told_before};
 ghost use Rattle.line_runs.specs.Outputs.{IsOutputOf, MakesText};
 
+use crate::output::Output;
 use crate::printing::{merged_and_printed, print_whole};
 use crate::worked::work_scripts;
 use line_working::Gate;
@@ -20,10 +21,10 @@ fn run_output<R: Threads + Wait + Sync, G: Gate>(
     alloc: Global,
     inputs: &Inputs,
     gate: &G,
-) -> Result<Vec<u8>, NoMemory>
+) -> Result<Output, NoMemory>
     requires { AreScriptsOf inputs.now.plan inputs.now.scripts.items }
     ensures { IfOk result
-        (λ text. IsOutputOf (record { plan = inputs.now.plan; scripts = inputs.now.scripts.items }) text.items) }
+        (λ output. IsOutputOf (record { plan = inputs.now.plan; scripts = inputs.now.scripts.items }) output) }
 {
     let ended = work_scripts(rt, alloc, &inputs.plan, &inputs.scripts, gate)?;
     let (line, registers) = merged_and_printed(rt, alloc, &inputs.plan, &inputs.scripts, ended)?;
@@ -39,8 +40,8 @@ pub fn run_outcome<R: Threads + Wait + Sync, S: Shelf, G: Gate>(
     plan_name: &str,
     script_names: &[&str],
     gate: &G,
-) -> Result<Vec<u8>, Stop>
-    ensures told { MakesText IsOutputOf (λ text. text.items) result
+) -> Result<Output, Stop>
+    ensures told { MakesText IsOutputOf (λ output. output) result
         (run_told (S.held shelf.old) plan_name.now (named script_names.now)) }
     ensures fault { IsErrOf result Stop.ShelfFault
         → HasShelfFault (S.faults shelf.old) (S.faults shelf.new) (plan_name.now ∷ named script_names.now)
@@ -48,10 +49,10 @@ pub fn run_outcome<R: Threads + Wait + Sync, S: Shelf, G: Gate>(
     ensures same { (n : List ℕ) → S.held shelf.new n ≡ S.held shelf.old n }
 {
     let inputs = fetch_inputs(rt, alloc, shelf, plan_name, script_names)?;
-    let text = run_output(rt, alloc, &inputs, gate);
+    let output = run_output(rt, alloc, &inputs, gate);
     drop(inputs);
-    match text {
-        Ok(text) => Ok(text),
+    match output {
+        Ok(output) => Ok(output),
         Err(NoMemory) => Err(Stop::NoMemory),
     }
 }

@@ -1,4 +1,4 @@
-//! The output of a run that is watched, built whole.
+//! The output of a run that is watched, made whole before any of it is put.
 
 ghost use Rattle.std.specs.Prelude.{◌≡◌, ◌≤◌, ◌∷◌, ℕ, List, IfOk, IsErrOf, length, string_bytes};
 ghost use Rattle.text_fetch.specs.FromTexts.{HasShelfFault, named};
@@ -8,6 +8,7 @@ ghost use Rattle.line_runs.specs.Outputs.{MakesText, output_text};
 ghost use Rattle.line_runs.specs.Watched.{IsWatchOf, watch_text};
 ghost use Rattle.line_runs.specs.Worked.{CanBePrinted};
 
+use crate::output::Output;
 use crate::printing::print_output;
 use crate::watched::{WatchedLine, watched_line};
 use line_plan::Plan;
@@ -36,16 +37,16 @@ fn print_watch<R: Threads + Sync>(
     alloc: Global,
     plan: &Plan,
     watched: &WatchedLine,
-) -> Result<Vec<u8>, NoMemory>
+) -> Result<Output, NoMemory>
     requires printed { CanBePrinted plan.now watched.now.worked.journal.entries watched.now.worked.ended.registers }
     requires board { watched.now.board.boxes ≡ length plan.now.boxes }
-    ensures { IfOk result (λ text. text.items
+    ensures { IfOk result (λ output. output
         ≡ watch_text plan.now watched.now.worked.journal.entries watched.now.board.rounds) }
 {
-    let run = || -> Result<Vec<u8>, NoMemory>
+    let run = || -> Result<Output, NoMemory>
         requires { CanBePrinted plan.now watched.now.worked.journal.entries watched.now.worked.ended.registers }
         ensures { IfOk result
-            (λ text. text.items ≡ output_text plan.entry.now watched.entry.now.worked.journal.entries) }
+            (λ output. output ≡ output_text plan.entry.now watched.entry.now.worked.journal.entries) }
     { print_output(rt, alloc, plan, &watched.worked) };
     let board = || -> Result<String, NoMemory>
         requires { watched.now.board.boxes ≡ length plan.now.boxes }
@@ -53,9 +54,9 @@ fn print_watch<R: Threads + Sync>(
             (λ text. string_bytes text ≡ board_text plan.entry.now watched.entry.now.board.rounds) }
     { print_board(alloc, plan, &watched.board) };
     let (run, board) = join(rt, run, board);
-    let mut text = run?;
-    text.extend_from_slice(board?.as_bytes())?;
-    Ok(text)
+    let mut output = run?;
+    output.push(board?.into_bytes())?;
+    Ok(output)
 }
 
 // The whole output of a plan and its scripts, watched for so many rounds.
@@ -65,11 +66,11 @@ fn watch_output<R: Threads + Wait + Sync, G: Gate>(
     rounds: u32,
     inputs: &Inputs,
     gate: &G,
-) -> Result<Vec<u8>, NoMemory>
+) -> Result<Output, NoMemory>
     requires scripts { AreScriptsOf inputs.now.plan inputs.now.scripts.items }
     requires rounds { (1 ≤ rounds) × (rounds ≤ 1000) }
-    ensures { IfOk result (λ text. IsWatchOf rounds
-        (record { plan = inputs.now.plan; scripts = inputs.now.scripts.items }) text.items) }
+    ensures { IfOk result (λ output. IsWatchOf rounds
+        (record { plan = inputs.now.plan; scripts = inputs.now.scripts.items }) output) }
 {
     let watched = watched_line(rt, alloc, &inputs.plan, &inputs.scripts, rounds, gate)?;
     print_watch(rt, alloc, &inputs.plan, &watched)
@@ -85,9 +86,9 @@ pub fn watch_outcome<R: Threads + Wait + Sync, S: Shelf, G: Gate>(
     plan_name: &str,
     script_names: &[&str],
     gate: &G,
-) -> Result<Vec<u8>, Stop>
+) -> Result<Output, Stop>
     requires rounds { (1 ≤ rounds) × (rounds ≤ 1000) }
-    ensures told { MakesText (IsWatchOf rounds) (λ text. text.items) result
+    ensures told { MakesText (IsWatchOf rounds) (λ output. output) result
         (run_told (S.held shelf.old) plan_name.now (named script_names.now)) }
     ensures fault { IsErrOf result Stop.ShelfFault
         → HasShelfFault (S.faults shelf.old) (S.faults shelf.new) (plan_name.now ∷ named script_names.now)
@@ -95,10 +96,10 @@ pub fn watch_outcome<R: Threads + Wait + Sync, S: Shelf, G: Gate>(
     ensures same { (n : List ℕ) → S.held shelf.new n ≡ S.held shelf.old n }
 {
     let inputs = fetch_inputs(rt, alloc, shelf, plan_name, script_names)?;
-    let text = watch_output(rt, alloc, rounds, &inputs, gate);
+    let output = watch_output(rt, alloc, rounds, &inputs, gate);
     drop(inputs);
-    match text {
-        Ok(text) => Ok(text),
+    match output {
+        Ok(output) => Ok(output),
         Err(NoMemory) => Err(Stop::NoMemory),
     }
 }

@@ -7,6 +7,7 @@ ghost use Rattle.rail_text.specs.Lines.{words_of, ended_line};
 ghost use Rattle.rail_text.specs.Forms.{is_printable, is_skipped, is_empty_word, is_word, form_of, formed_words};
 
 use crate::line_words::{Seen, seen_of, seen_words};
+use crate::word_ends::KeptEnds;
 use crate::{Cause, LineWords, TextLine};
 
 /// The most bytes of a line, its end not counted.
@@ -76,13 +77,19 @@ impl<'a> TextLine<'a> {
     /// skipped.
     #[inline(always)]
     #[tactic(auto, unfolding(crate::specs::Forms::formed_words))]
-    pub fn formed(&self, skips: bool) -> Result<Option<LineWords<'a>>, Cause>
+    pub fn formed<'b>(
+        &self,
+        skips: bool,
+        ends: &'b mut KeptEnds,
+    ) -> Result<Option<LineWords<'b>>, Cause>
+    where
+        'a: 'b,
         ensures { GivesCause (λ words. words) result (formed_words skips (record {
           text = self.now.text.now;
           ended = self.now.ended;
         })) }
     {
-        let (words, seen) = seen_words(self.text);
+        let (words, seen) = seen_words(self.text, ends);
         match form_seen(self, skips, seen) {
             Ok(LineForm::Words) => Ok(Some(words)),
             Ok(LineForm::Skipped) => Ok(None),

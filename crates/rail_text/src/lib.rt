@@ -38,4 +38,5 @@ pub use out_sink::OutSink;
 pub use reading::{Draft, read_text};
 pub use shelf::Shelf;
 pub use sink::{Sink, put_all};
+pub use word_ends::KeptEnds;
 pub use words::{has_keyword, is_name, name_in, no_word, number_in, one_word};

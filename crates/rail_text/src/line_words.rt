@@ -7,9 +7,9 @@ ghost use Rattle.rail_text.specs.Gives.{GivesCause};
 ghost use Rattle.rail_text.specs.Lines.{words_of, words_after};
 ghost use Rattle.rail_text.specs.Words.{keyword, no_word, one_word};
 
+use crate::Cause;
 use crate::chunks::{CHUNK, odd_in};
-use crate::word_ends::{WordEnds, cut};
-use crate::{Cause, TextLine};
+use crate::word_ends::{KeptEnds, cut};
 use std::marker::Model;
 
 /// The words of a line, or some of them in a row, which are cut once. Contracts see the list of these
@@ -17,7 +17,7 @@ use std::marker::Model;
 #[derive(Drop)]
 pub struct LineWords<'a> {
     text: &'a [u8],
-    ends: WordEnds,
+    ends: &'a KeptEnds,
     from: usize,
     count: usize,
 }
@@ -31,7 +31,7 @@ impl<'a> Model for LineWords<'a> {
 
     ghost view = { λ w. take w.count (drop w.from (words_of w.text.now)) };
 
-    ghost invariant = { λ w. AreCut w.text.now w.ends.at w.ends.kept w.from w.count };
+    ghost invariant = { λ w. AreCut w.text.now w.ends.now.at w.ends.now.kept w.from w.count };
 }
 
 /// What is seen of the bytes of a line: whether each may stand in a line, and whether some word is
@@ -71,25 +71,24 @@ fn are_printable(text: &[u8]) -> bool
     odd_in(text, text.len() - CHUNK) == 0
 }
 
-/// The words of a text, and what is seen of it.
+/// The words of a text, which are cut into this room, and what is seen of it.
 #[inline(always)]
 #[tactic(auto, using(crate::proofs::WordEnds::all_rules))]
-pub(crate) fn seen_words(text: &[u8]) -> (LineWords<'_>, Seen)
+pub(crate) fn seen_words<'a>(text: &'a [u8], ends: &'a mut KeptEnds) -> (LineWords<'a>, Seen)
     ensures words { result.0 ≡ words_of text.now }
     ensures printable { result.1.printable ≡ list_all is_printable text.now }
     ensures gap { result.1.gap ≡ list_any is_empty_word (words_of text.now) }
 {
-    let mut words = LineWords {
-        text,
-        ends: WordEnds::none(),
-        from: 0,
-        count: 0,
-    };
-    let cut = cut(text, &mut words.ends);
-    words.count = cut.words;
+    let cut = cut(text, ends);
     let seen = Seen {
         printable: are_printable(text),
         gap: cut.gap,
+    };
+    let words = LineWords {
+        text,
+        ends,
+        from: 0,
+        count: cut.words,
     };
     (words, seen)
 }
@@ -99,17 +98,18 @@ pub(crate) fn seen_of(text: &[u8]) -> Seen
     ensures printable { result.printable ≡ list_all is_printable text.now }
     ensures gap { result.gap ≡ list_any is_empty_word (words_of text.now) }
 {
-    let (_, seen) = seen_words(text);
+    let mut ends = KeptEnds::none();
+    let (_, seen) = seen_words(text, &mut ends);
     seen
 }
 
 impl<'a> LineWords<'a> {
-    /// The words of this text: what stands between single spaces, so there is one at least, and one
-    /// may be empty.
-    pub fn new(text: &'a [u8]) -> LineWords<'a>
+    /// The words of this text, which are cut into this room: what stands between single spaces, so there is one at
+    /// least, and one may be empty.
+    pub fn new(text: &'a [u8], ends: &'a mut KeptEnds) -> LineWords<'a>
         ensures { result ≡ words_of text.now }
     {
-        let (words, _) = seen_words(text);
+        let (words, _) = seen_words(text, ends);
         words
     }
 
@@ -204,14 +204,5 @@ impl<'a> LineWords<'a> {
             None => Ok(()),
             Some(_) => Err(Cause::WordCount),
         }
-    }
-}
-
-impl<'a> TextLine<'a> {
-    /// The words of the line.
-    pub fn words(&self) -> LineWords<'a>
-        ensures { result ≡ words_of self.now.text.now }
-    {
-        LineWords::new(self.text)
     }
 }

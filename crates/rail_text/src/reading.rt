@@ -4,7 +4,7 @@ ghost use Rattle.std.specs.Prelude.{◌≡◌, ◌<◌, ◌+◌, ◌^◌, Bool, 
 ghost use Rattle.rail_text.specs.Gives.{FaultsFirst, GivesLine, GivesText};
 ghost use Rattle.rail_text.specs.Texts.{LineRunsOut, Reads, TextRunsOut, line_onto, lines_onto, text_onto};
 
-use crate::{Cause, LineFault, LineWords, Lines, ReadError, TextLine, text_error};
+use crate::{Cause, KeptEnds, LineFault, LineWords, Lines, ReadError, TextLine, text_error};
 
 /// What a reader makes of a text line by line.
 pub trait Draft {
@@ -41,7 +41,8 @@ fn read_line<D: Draft>(draft: &mut D, line: &TextLine<'_>) -> Result<(), LineFau
     }) result }
     ensures left { IsErrOf result LineFault.NoMemory → D.left draft.old draft.new }
 {
-    match line.formed(true) {
+    let mut ends = KeptEnds::none();
+    match line.formed(true, &mut ends) {
         Ok(Some(words)) => draft.read_words(&words),
         Ok(None) => Ok(()),
         Err(cause) => Err(LineFault::Cause(cause)),

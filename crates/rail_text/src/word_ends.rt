@@ -13,9 +13,9 @@ use crate::chunks::{CHUNK, lowest, spaces_in, without};
 /// How many ends are kept; that of a word behind these is sought when it is asked for.
 const KEPT: usize = 16;
 
-/// Where the first words of a text end, as far as it is kept.
-#[derive(Clone, Copy)]
-pub(crate) struct WordEnds {
+/// Room in which is kept where the first words of a text end. It is lent to the words of a text, which are cut into it.
+#[derive(Clone, Copy, Debug)]
+pub struct KeptEnds {
     at: [u8; KEPT],
     kept: usize,
 }
@@ -49,13 +49,10 @@ fn sought_start(text: &[u8], word: usize) -> usize
     }
 }
 
-impl WordEnds {
+impl KeptEnds {
     /// No end is kept.
-    pub fn none() -> WordEnds
-        ensures kept { result.kept ≡ 0 }
-        ensures room { length result.at ≡ 16 }
-    {
-        WordEnds {
+    pub fn none() -> KeptEnds {
+        KeptEnds {
             at: [0; KEPT],
             kept: 0,
         }
@@ -204,8 +201,7 @@ fn cut_bytes(text: &[u8], cutting: &mut Cutting, ends: &mut [u8; KEPT])
 
 /// Cuts a text into its words, and keeps where the first of them end.
 #[tactic(auto, using(crate::proofs::WordEnds::cut_rules))]
-pub(crate) fn cut(text: &[u8], ends: &mut WordEnds) -> CutText
-    requires { length ends.old.at ≡ 16 }
+pub(crate) fn cut(text: &[u8], ends: &mut KeptEnds) -> CutText
     ensures ends { AreEnds text.now ends.new.at ends.new.kept }
     ensures words { result.words ≡ length (words_of text.now) }
     ensures gap { result.gap ≡ list_any is_empty_word (words_of text.now) }

@@ -18,7 +18,7 @@ use bell_codes::CodeNo;
 use block_words::WelwynState;
 use line_law::{Act, Call, Reply};
 use line_plan::Plan;
-use rail_text::{Cause, LineWords, read_number};
+use rail_text::{Cause, KeptEnds, LineWords, read_number};
 
 // A number of 32 bits.
 fn small_number(word: &[u8]) -> Option<u32>
@@ -352,7 +352,8 @@ fn reply_of(plan: &Plan, box_no: u32, act: Act, text: &[u8]) -> Result<Reply, Ca
     ensures plan { IsPlan plan.now }
 {
     let _version = plan.version;
-    reply_in(plan, box_no, act, &LineWords::new(text))
+    let mut ends = KeptEnds::none();
+    reply_in(plan, box_no, act, &LineWords::new(text, &mut ends))
 }
 
 /// The reply that a text spells for a call of a box. Each reply has one spelling; any other text is `BadReply`, and so

@@ -12,7 +12,7 @@ use crate::acts::read_act;
 use crate::moments::{put_moment, read_moment};
 use line_law::Call;
 use line_plan::Plan;
-use rail_text::{Cause, LineWords, NoMemory};
+use rail_text::{Cause, KeptEnds, LineWords, NoMemory};
 use std::alloc::{AllocError, Global};
 
 /// The moment that begins the words of a line, in the form of the plan's version.
@@ -31,7 +31,8 @@ fn call_of(plan: &Plan, box_no: u32, text: &[u8]) -> Result<Call, Cause>
     ensures exact { result ≡ call_of plan.now box_no text.now }
     ensures plan { IsPlan plan.now }
 {
-    let words = LineWords::new(text);
+    let mut ends = KeptEnds::none();
+    let words = LineWords::new(text, &mut ends);
     let moment = moment_in(plan.version, &words)?;
     let act = read_act(plan, box_no, &words)?;
     Ok(Call { moment, act })

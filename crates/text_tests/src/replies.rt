@@ -6,7 +6,7 @@ use block_words::{Way, WelwynState};
 use line_law::{Act, Call, Entry, Reply};
 use line_plan::Plan;
 use plan_text::read_plan;
-use rail_text::{Cause, LineWords, NoMemory};
+use rail_text::{Cause, KeptEnds, LineWords, NoMemory};
 use script_text::{
     is_spelled, is_spelled_reply, may_answer, print_reply, put_number, put_told, read_call,
     read_reply, reply_in, way_word,
@@ -83,7 +83,9 @@ fn told_of(plan: &Plan, call: &str, text: &str) -> Result<(Act, Reply), Cause> {
     }
     let call = read_call(plan, 1, call.as_bytes())?;
     let reply = read_reply(plan, 1, &call, text.as_bytes())?;
-    let by_words = reply_in(plan, 1, call.act, &LineWords::new(text.as_bytes()))?;
+    let mut ends = KeptEnds::none();
+    let words = LineWords::new(text.as_bytes(), &mut ends);
+    let by_words = reply_in(plan, 1, call.act, &words)?;
     if by_words == reply {
         Ok((call.act, reply))
     } else {

@@ -6,7 +6,7 @@ use Rattle.line_runs.proofs.copying.copy_entries.Given as goal
 
 abbrev pub invariant-loop-place : goal.invariant-loop-place
 invariant-loop-place l = record {
-  journal : l.journal.items ≡ l.fn.journal.items ++ entries_text l.plan 1 (take l.place l.entries);
-  refused : l.refused.items ≡ l.fn.refused.items ++ refused_entries l.plan 1 (take l.place l.entries);
+  journal : l.journal.items ≡ l.fn.journal.items ++ entries_text l.plan l.number (take l.place l.entries);
+  refused : l.refused.items ≡ l.fn.refused.items ++ refused_entries l.plan l.number (take l.place l.entries);
   left : AreLinesLeft l.plan (drop l.place l.entries) l.lines;
 }

@@ -1,9 +1,9 @@
 use Rattle.std.proofs.Common.{◌%◌, ◌∙◌, refl}
 use Rattle.std.proofs.lemmas.List.{length-set}
 use Rattle.rail_text.proofs.Cuts.{ends_full, ends_kept, ends_none}
-use Rattle.rail_text.proofs.word_ends.WordEnds.keep.Goals as goal
-use Rattle.rail_text.proofs.word_ends.WordEnds.keep.Goals.{then-spaces-lt-KEPT, else-spaces-lt-KEPT}
-use Rattle.rail_text.proofs.word_ends.WordEnds.keep.Goals.{then-len-lt256, else-len-lt256}
+use Rattle.rail_text.proofs.word_ends.KeptEnds.keep.Goals as goal
+use Rattle.rail_text.proofs.word_ends.KeptEnds.keep.Goals.{then-spaces-lt-KEPT, else-spaces-lt-KEPT}
+use Rattle.rail_text.proofs.word_ends.KeptEnds.keep.Goals.{then-len-lt256, else-len-lt256}
 
 pub returns-clause-ends : goal.returns-clause-ends
 returns-clause-ends c text start gap is h =
