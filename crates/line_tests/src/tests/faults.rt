@@ -5,7 +5,12 @@ use crate::tests::desk::{
     TWO_BOXES, WATCH_TWO, agrees, work_behind,
 };
 use box_top::{OpenGate, Status};
+use rail_text::NoMemory;
+use std::alloc::Global;
+use std::process::Abort;
+use std::sync::Wait;
 use std::test::Fail;
+use std::thread::Threads;
 
 // The output of a run without a call.
 const IDLE: &[u8] = b"journal 1\nend\nregister Ash 0\nregister Beech 0\nrefusals 0\n\
@@ -160,13 +165,15 @@ fn failed_fetches_print_nothing(rt: HostRuntime) -> Result<(), Fail> {
     Ok(())
 }
 
-// The words, the texts, the status with a sound sink, what is printed, and in how many puts of ten bytes.
+// The words, the texts, the status with a sound sink, what is printed, and how many bytes of it are taken before each
+// put, where the sink takes ten bytes at most at a time; then all of them. The output of a run is put in its parts: the
+// journal's first line, its lines, its end, each register, the refused calls, the sections, and the board.
 type Output = (
     &'static [&'static str],
     &'static [&'static [u8]],
     Status,
     &'static [u8],
-    u64,
+    &'static [usize],
 );
 
 const OUTPUTS: [Output; 13] = [
@@ -175,7 +182,7 @@ const OUTPUTS: [Output; 13] = [
         &[TWO_BOXES, ASH_IDLE, BEECH_IDLE],
         Status::Done,
         IDLE,
-        12,
+        &[0, 10, 14, 24, 29, 39, 46, 56, 57, 67, 77, 87, 97, 107, 115],
     ),
     (
         WATCH_TWO,
@@ -193,28 +200,31 @@ const OUTPUTS: [Output; 13] = [
             1 up Beech Ash 0 normal unspent\n\
             2 down Ash Beech 0 normal unspent\n\
             2 up Beech Ash 0 normal unspent\n",
-        26,
+        &[
+            0, 10, 14, 24, 29, 39, 46, 56, 57, 67, 77, 87, 97, 107, 115, 125, 135, 145, 155, 165,
+            175, 185, 195, 205, 215, 225, 235, 245, 255,
+        ],
     ),
     (
         &["check", "plan"],
         &[TWO_BOXES],
         Status::Done,
         b"findings 0\n",
-        2,
+        &[0, 10, 11],
     ),
     (
         &["chart", "plan", "Ash"],
         &[TWO_BOXES],
         Status::Done,
         b"chart Ash\nchannels 0\ncolumn none\n",
-        4,
+        &[0, 10, 20, 30, 33],
     ),
     (
         &["upgrade", "plan"],
         &[TWO_BOXES],
         Status::Done,
         b"plan 2\nboxes 2\ndelay 120\nlooks 1000000000\nbox Ash\nbox Beech\nend\n",
-        7,
+        &[0, 10, 20, 30, 40, 50, 60, 64],
     ),
     (
         RUN_TWO,
@@ -233,16 +243,25 @@ const OUTPUTS: [Output; 13] = [
             refusals 0\n\
             section down Ash Beech most 0\n\
             section up Beech Ash most 0\n",
-        18,
+        &[
+            0, 10, 20, 30, 40, 44, 48, 58, 68, 78, 88, 93, 103, 110, 120, 121, 131, 141, 151, 161,
+            171, 179,
+        ],
     ),
     (
         RUN_TWO,
         &[b"plan 1", ASH_IDLE, BEECH_IDLE],
         Status::Refused,
         b"refused text 1 line 1: cut\n",
-        3,
+        &[0, 10, 20, 27],
     ),
-    (&["run"], &[], Status::Words, b"words not understood\n", 3),
+    (
+        &["run"],
+        &[],
+        Status::Words,
+        b"words not understood\n",
+        &[0, 10, 20, 21],
+    ),
     (
         JUDGE,
         &[
@@ -251,7 +270,7 @@ const OUTPUTS: [Output; 13] = [
         ],
         Status::Done,
         b"wrong at 1\nsaid heard 1 1\nlaw silent 0\n",
-        4,
+        &[0, 10, 20, 30, 39],
     ),
     (
         AUDIT,
@@ -261,21 +280,21 @@ const OUTPUTS: [Output; 13] = [
         ],
         Status::Done,
         b"audit 1\n1 rule 1 offer\n",
-        3,
+        &[0, 10, 20, 23],
     ),
     (
         TOKEN,
         &[TOKEN_IDLE],
         Status::Done,
         b"token 1\nend\ntokens 1 0 out 0\n",
-        3,
+        &[0, 10, 20, 29],
     ),
     (
         &["tables", "plan", "Ash"],
         &[b"plan 1\nboxes 2\ndelay 2\nlooks 9\nbox Ash\nlever 1 lock\nbox Beech\nend\n"],
         Status::Done,
         b"frame Ash\nlever 1 lock blue\nrows 0\n",
-        4,
+        &[0, 10, 20, 30, 35],
     ),
     (
         &["stress", "1"],
@@ -290,25 +309,39 @@ const OUTPUTS: [Output; 13] = [
             section up Beech Ash most 0\n\
             section down Beech Cedar most 1\n\
             section up Cedar Beech most 0\n",
-        17,
+        &[
+            0, 10, 20, 30, 40, 50, 60, 70, 80, 90, 100, 110, 120, 130, 140, 150, 160, 165,
+        ],
     ),
 ];
 
+// Fails each put of an output in turn, and at last one that never comes.
+fn fail_each_put<R: Threads + Wait + Sync + Abort>(
+    rt: &R,
+    alloc: Global,
+    words: &[&str],
+    texts: &[&[u8]],
+    status: Status,
+    printed: &[u8],
+    before: &[usize],
+) -> Result<(), NoMemory> {
+    let mut put = 0u64;
+    for kept in before {
+        put = put.saturating_add(1);
+        let outside = Outside {
+            bad_put: Some(put),
+            ..SOUND
+        };
+        let answer = work_behind(rt, alloc, words, texts, outside, &OpenGate, printed)?;
+        agrees(rt, words, put, answer.fills(*kept, status, printed));
+    }
+    Ok(())
+}
+
 #[test]
 fn failed_puts_leave_whole_puts(rt: HostRuntime) -> Result<(), Fail> {
-    for (words, texts, status, printed, puts) in OUTPUTS {
-        let mut kept = 0usize;
-        for put in 1..=puts + 1 {
-            let outside = Outside {
-                bad_put: Some(put),
-                ..SOUND
-            };
-            let answer = work_behind(&rt, rt.alloc(), words, texts, outside, &OpenGate, printed)?;
-            let is_so = answer.fills(kept, status, printed);
-            let is_last = printed.len() <= kept;
-            agrees(&rt, words, put, is_so & (is_last == (puts < put)));
-            kept = kept.saturating_add(10);
-        }
+    for (words, texts, status, printed, before) in OUTPUTS {
+        fail_each_put(&rt, rt.alloc(), words, texts, status, printed, before)?;
     }
     Ok(())
 }
