@@ -3,9 +3,9 @@
 ghost use Rattle.std.specs.Prelude.{◌≡◌, ◌<◌, All, length, option_map};
 ghost use Rattle.locking_table.specs.Meaning.{holder_of};
 ghost use Rattle.locking_table.specs.Places.{IsLever};
-ghost use Rattle.line_plan.specs.Frames.{frame_size, leads_to};
+ghost use Rattle.line_plan.specs.Frames.{BoxFields, frame_size, leads_to};
 ghost use Rattle.line_law.specs.declared.state.BoxState.{BoxState};
-ghost use Rattle.line_law.specs.Decisions.{Here, on_pair};
+ghost use Rattle.line_law.specs.Decisions.{Here, on_pair, or_later};
 ghost use Rattle.line_law.specs.LeverEnds.{first_reversed};
 ghost use Rattle.line_law.specs.Levers.{is_unspent_clear, lever_link, lock_refusal, pull, pull_refusal, pulled};
 ghost use Rattle.line_law.specs.Levers.{pulled_under, put, put_back, put_refusal, starter_way};
@@ -90,13 +90,10 @@ impl BoxState {
         })
     }
 
-    // What a pull is refused for in the box, by the row that holds the lever.
-    fn pull_refusal_by(&self, plan: &BoxPlan, lever: u32, holder: Option<Holder>) -> Option<Reply>
-        requires sound { IsSound plan.now }
-        requires frame { HasFrame plan.now self.now }
-        requires lever { IsLever (frame_size plan.now.levers) lever }
-        requires holder { holder ≡ holder_of self.now.ends lever plan.now.rows }
-        ensures { result ≡ pull_refusal plan.now self.now lever }
+    // What a pull is refused for whatever the locking says.
+    fn needless_pull(&self, plan: &BoxPlan, lever: u32) -> Option<Reply>
+        requires { IsLever (length self.now.ends) lever }
+        ensures { pull_refusal plan.now self.now lever ≡ or_later result (lock_refusal plan.now self.now lever) }
     {
         if end_of(self.ends.as_slice(), lever) == End::Reversed {
             return Some(Reply::AlreadyReversed);
@@ -104,21 +101,19 @@ impl BoxState {
         if plan.kind(lever) == Some(Kind::Spare) {
             return Some(Reply::Spare);
         }
-        self.lock_refusal(plan, lever, holder)
+        None
     }
 
-    // What putting a lever back is refused for, by the row that holds it.
-    fn put_refusal_by(&self, plan: &BoxPlan, lever: u32, holder: Option<Holder>) -> Option<Reply>
-        requires sound { IsSound plan.now }
-        requires frame { HasFrame plan.now self.now }
-        requires lever { IsLever (frame_size plan.now.levers) lever }
-        requires holder { holder ≡ holder_of self.now.ends lever plan.now.rows }
-        ensures { result ≡ put_refusal plan.now self.now lever }
+    // What putting a lever back is refused for whatever the locking says.
+    fn needless_put(&self, lever: u32) -> Option<Reply>
+        requires { IsLever (length self.now.ends) lever }
+        ensures { (box_plan : BoxFields)
+            → put_refusal box_plan self.now lever ≡ or_later result (lock_refusal box_plan self.now lever) }
     {
         if end_of(self.ends.as_slice(), lever) == End::Normal {
             return Some(Reply::AlreadyNormal);
         }
-        self.lock_refusal(plan, lever, holder)
+        None
     }
 
     /// What a pull is refused for in the box.
@@ -128,8 +123,11 @@ impl BoxState {
         requires lever { IsLever (frame_size plan.now.levers) lever }
         ensures { result ≡ pull_refusal plan.now self.now lever }
     {
+        if let Some(reply) = self.needless_pull(plan, lever) {
+            return Some(reply);
+        }
         let holder = plan.table.named_holder(self.ends.as_slice(), lever);
-        self.pull_refusal_by(plan, lever, holder)
+        self.lock_refusal(plan, lever, holder)
     }
 
     /// What putting a lever back is refused for.
@@ -139,8 +137,11 @@ impl BoxState {
         requires lever { IsLever (frame_size plan.now.levers) lever }
         ensures { result ≡ put_refusal plan.now self.now lever }
     {
+        if let Some(reply) = self.needless_put(lever) {
+            return Some(reply);
+        }
         let holder = plan.table.named_holder(self.ends.as_slice(), lever);
-        self.put_refusal_by(plan, lever, holder)
+        self.lock_refusal(plan, lever, holder)
     }
 
     /// What a pull is refused for, where every row holds: only the rows that name the lever are read.
@@ -151,10 +152,13 @@ impl BoxState {
         requires rows { RowsHold plan.now self.now }
         ensures { result ≡ pull_refusal plan.now self.now lever }
     {
+        if let Some(reply) = self.needless_pull(plan, lever) {
+            return Some(reply);
+        }
         let holder = plan
             .table
             .holder_among_its_rows(self.ends.as_slice(), lever);
-        self.pull_refusal_by(plan, lever, holder)
+        self.lock_refusal(plan, lever, holder)
     }
 
     /// What putting a lever back is refused for, where every row holds: only the rows that name the lever are read.
@@ -165,10 +169,13 @@ impl BoxState {
         requires rows { RowsHold plan.now self.now }
         ensures { result ≡ put_refusal plan.now self.now lever }
     {
+        if let Some(reply) = self.needless_put(lever) {
+            return Some(reply);
+        }
         let holder = plan
             .table
             .holder_among_its_rows(self.ends.as_slice(), lever);
-        self.put_refusal_by(plan, lever, holder)
+        self.lock_refusal(plan, lever, holder)
     }
 
     /// Reverses a lever, and lets its arm go off if it has one.

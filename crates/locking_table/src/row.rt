@@ -1,6 +1,6 @@
 //! Rows of a locking table, and what they mean.
 
-ghost use Rattle.std.specs.Prelude.{◌≡◌, ◌≤◌, ◌==◌, ◌↔◌, ◌∷◌, All, IsTrue, length, map, not};
+ghost use Rattle.std.specs.Prelude.{◌≡◌, ◌≤◌, ◌==◌, ◌+◌, ◌↔◌, ◌∷◌, All, IsTrue, length, map, not};
 ghost use Rattle.std.specs.List.{list_all, list_any};
 ghost use Rattle.locking_table.specs.declared.places.Stand.TheVariants.{AtMid};
 ghost use Rattle.locking_table.specs.Places.{IsLever, at_ends, is_normal, stand_at, stand_of};
@@ -99,6 +99,21 @@ fn idle_count(conds: &[Cond], ends: &[End], moved: u32) -> usize
         idle += usize::from(cond.is_idle(ends, moved));
     }
     idle
+}
+
+// How many of the first and the last condition don't act so: of at most two, these are all. Both are read, be they one
+// or two, so that nothing hangs on how many there are.
+fn idle_at_ends(conds: &[Cond], ends: &[End], moved: u32) -> usize
+    requires { All (CondFits (length ends.now)) conds.now }
+    ensures few { result ≤ 2 + length conds.now }
+    ensures none { (result == 0) ≡ list_all (acts (stand_of ends.now moved AtMid)) conds.now }
+{
+    match (conds.first(), conds.last()) {
+        (Some(first), Some(last)) if conds.len() <= 2 => {
+            usize::from(first.is_idle(ends, moved)) + usize::from(last.is_idle(ends, moved))
+        }
+        _ => idle_count(conds, ends, moved),
+    }
 }
 
 fn all_act(conds: &[Cond], ends: &[End], moved: u32, place: Stand) -> bool
@@ -223,7 +238,7 @@ impl Row {
     {
         let subject = usize::from(self.subject_is_normal(ends, lever));
         let object = usize::from(self.object_keeps(ends, lever));
-        subject + object + idle_count(self.when.as_slice(), ends, lever) != 0
+        subject + object + idle_at_ends(self.when.as_slice(), ends, lever) != 0
     }
 
     /// The lever that the row names where it holds the lever `moved`: its object where `moved` is its
