@@ -1,5 +1,5 @@
 -- A journal that is judged as its text is read.
-use Rattle.std.specs.Prelude.{◌≡◌, ℕ, List, Option, Some, None, Result, Ok, Err, length, slice_index}
+use Rattle.std.specs.Prelude.{◌≡◌, ℕ, Bool, true, false, List, Result, Ok, Err, length, slice_index}
 use Rattle.rail_text.specs.Gives.{◌>>=◌, Fault}
 use Rattle.rail_text.specs.declared.cause.ReadError.{ReadError}
 use Rattle.rail_text.specs.declared.cause.ReadError.TheVariants as errors
@@ -31,10 +31,10 @@ pub record HearsEntry (old new : JudgeFields) (e : Entry) : Type 0 where
   pub after : new ≡ heard old e
 
 -- he hears the entry that is read, if one is
-abbrev pub HearsNext : JudgeFields → JudgeFields → Result (Option Entry) ReadError → Type 0
-HearsNext old new (Ok (Some e)) = HearsEntry old new e
-HearsNext old new (Ok None) = new ≡ old
-HearsNext old new (Err error) = new ≡ old
+abbrev pub HearsNext : JudgeFields → JudgeFields → Result Bool ReadError → Entry → Type 0
+HearsNext old new (Ok true) e = HearsEntry old new e
+HearsNext old new (Ok false) e = new ≡ old
+HearsNext old new (Err error) e = new ≡ old
 
 -- a hearing of such entries, or the first fault; want of memory is free
 abbrev pub GivesHearing : Result HearingFields ReadError → Result (List Entry) Fault → Type 0

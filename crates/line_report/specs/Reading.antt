@@ -1,7 +1,7 @@
 -- Which journal a text gives, or its first fault.
-use Rattle.std.specs.Prelude.{ℕ, ◌+◌, ◌==◌, ◌≡◌, false, List, [], ◌∷◌, ◌++◌, length, drop, slice_get, slice_index}
+use Rattle.std.specs.Prelude.{ℕ, ◌+◌, ◌==◌, ◌≡◌, Bool, true, false, List, [], ◌∷◌, ◌++◌, length, drop, slice_get}
 use Rattle.std.specs.Prelude.{nat_lt, Option, Some, None, option_map, Result, Ok, Err, if◌then◌else◌, bytes_eq, codes}
-use Rattle.std.specs.Prelude.{position, cond}
+use Rattle.std.specs.Prelude.{position, cond, slice_index}
 use Rattle.std.specs.List.{join_with_byte}
 use Rattle.rail_text.specs.Forms.{form_of}
 use Rattle.rail_text.specs.Gives.{◌>>=◌, Fault}
@@ -175,18 +175,18 @@ pub record TellsNext (old new : ReaderFields) (e : Entry) : Type 0 where
   pub told : told_by old.so_far line ≡ Ok (Some e)
   pub after : new.so_far ≡ entry_onto old.so_far e
 
--- What a reader gives: an entry that its next line tells; nothing where that is `end`; or the first fault, for its line
--- and cause. It takes no memory.
-abbrev pub GivesNext : ReaderFields → ReaderFields → Result (Option Entry) ReadError → Type 0
-GivesNext old new (Ok (Some e)) = TellsNext old new e
-GivesNext old new (Ok None) = entries_left old ≡ Ok []
-GivesNext old new (Err (errors.Refused line cause)) = entries_left old ≡ Err (record { line = line; cause = cause })
-GivesNext old new (Err errors.NoMemory) = ⊥
+-- What a reader gives: true, with the entry that its next line tells; false where that is `end`; or the first fault,
+-- for its line and cause. It takes no memory.
+abbrev pub GivesNext : ReaderFields → ReaderFields → Result Bool ReadError → Entry → Type 0
+GivesNext old new (Ok true) e = TellsNext old new e
+GivesNext old new (Ok false) e = entries_left old ≡ Ok []
+GivesNext old new (Err (errors.Refused line cause)) e = entries_left old ≡ Err (record { line = line; cause = cause })
+GivesNext old new (Err errors.NoMemory) e = ⊥
 
 -- where no entry is given, no more is read
-abbrev pub StandsStill : SoFar → SoFar → Result (Option Entry) ReadError → Type 0
-StandsStill old new (Ok (Some e)) = Unit {0}
-StandsStill old new (Ok None) = new ≡ old
+abbrev pub StandsStill : SoFar → SoFar → Result Bool ReadError → Type 0
+StandsStill old new (Ok true) = Unit {0}
+StandsStill old new (Ok false) = new ≡ old
 StandsStill old new (Err error) = new ≡ old
 
 -- the lines that a reader has left tell these entries one after another, without a fault, up to where another stands

@@ -6,7 +6,7 @@ ghost use Rattle.line_plan.specs.Plans.{IsPlan};
 ghost use Rattle.line_report.specs.Hearings.{HearsAll, text_judged};
 ghost use Rattle.line_report.specs.Reading.{most_journal_bytes};
 
-use crate::journal_reader::JournalReader;
+use crate::journal_reader::{JournalReader, NO_ENTRY};
 use crate::judging::{Judgement, Verdict};
 use line_law::Entry;
 use line_plan::Plan;
@@ -33,8 +33,7 @@ impl<'a> Model for Hearing<'a> {
 }
 
 impl<'a> Hearing<'a> {
-    ghost use Rattle.std.specs.Prelude.{◌≡◌, ◌<◌, ◌≤◌, ◌^◌, ℕ, IfOk, IsErrOf, Ok, Some, length};
-    ghost use Rattle.line_law.specs.declared.call.Entry.{Entry};
+    ghost use Rattle.std.specs.Prelude.{◌≡◌, ◌<◌, ◌≤◌, ◌^◌, ℕ, IfOk, IsErrOf, Ok, length, true};
     ghost use Rattle.line_law.specs.declared.call.Reply.{Reply};
     ghost use Rattle.line_report.specs.Hearings.{GivesHearing, HearsNext};
     ghost use Rattle.line_report.specs.Readers.{start};
@@ -56,25 +55,23 @@ impl<'a> Hearing<'a> {
         Ok(Hearing { reader, judge })
     }
 
-    /// The next entry, once the judge has heard it; nothing where the line `end` comes next, and what stands behind
-    /// that isn't to be read. The first fault is refused with its line and cause, as `read_journal` tells it.
+    /// Whether an entry comes next, which is then put in the room that is lent, once the judge has heard it; else the
+    /// line `end` does, and what stands behind that isn't to be read. The first fault is refused with its line and
+    /// cause, as `read_journal` tells it.
     #[inline(always)]
-    pub fn next_entry(&mut self) -> Result<Option<Entry>, ReadError>
-        ensures gives { GivesNext self.old.reader self.new.reader result }
-        ensures heard { HearsNext self.old.judge self.new.judge result }
-        ensures behind { (e : Entry) → result ≡ Ok (Some e)
-            → IsBehind self.old.reader.so_far.plan self.old.reader.so_far.moments e }
-        ensures fewer { (e : Entry) → result ≡ Ok (Some e)
-            → length self.new.reader.rest < length self.old.reader.rest }
-        ensures few { (e : Entry) → result ≡ Ok (Some e) → self.new.judge.count < 2 ^ 32 }
+    pub fn next_entry(&mut self, entry: &mut Entry) -> Result<bool, ReadError>
+        ensures gives { GivesNext self.old.reader self.new.reader result entry.new }
+        ensures heard { HearsNext self.old.judge self.new.judge result entry.new }
+        ensures behind { result ≡ Ok true
+            → IsBehind self.old.reader.so_far.plan self.old.reader.so_far.moments entry.new }
+        ensures fewer { result ≡ Ok true → length self.new.reader.rest < length self.old.reader.rest }
+        ensures few { result ≡ Ok true → self.new.judge.count < 2 ^ 32 }
     {
-        match self.reader.next_entry()? {
-            Some(entry) => {
-                self.judge.hear(&entry);
-                Ok(Some(entry))
-            }
-            None => Ok(None),
+        let is_told = self.reader.next_entry(entry)?;
+        if is_told {
+            self.judge.hear(entry);
         }
+        Ok(is_told)
     }
 
     /// What the judge finds of the entries so far.
@@ -102,7 +99,8 @@ impl<'a> Hearing<'a> {
 fn hear_to_end(hearing: &mut Hearing<'_>) -> Result<(), ReadError>
     ensures { HearsAll hearing.old hearing.new result }
 {
-    while let Some(_) = hearing.next_entry()? {}
+    let mut entry = NO_ENTRY;
+    while hearing.next_entry(&mut entry)? {}
     Ok(())
 }
 

@@ -5,7 +5,7 @@ ghost use Rattle.rail_text.specs.Gives.{GivesLine, TakesNoMemory};
 ghost use Rattle.line_report.specs.Reading.{heading_in, heading_of, most_journal_bytes};
 
 use crate::entry_line::{box_in, entry_number, later_call_in, told_reply_in, told_words};
-use line_law::Entry;
+use line_law::{Act, Call, Entry, Reply};
 use line_plan::Plan;
 use rail_text::{
     Cause, KeptEnds, LineFault, LineWords, Lines, ReadError, TextLine, number_in, text_error,
@@ -23,6 +23,16 @@ pub fn most_journal_bytes(version: u8) -> usize
         134_217_728
     }
 }
+
+/// The room of an entry before one is read.
+pub const NO_ENTRY: Entry = Entry {
+    box_no: 0,
+    call: Call {
+        moment: 0,
+        act: Act::Bring { train: 0 },
+    },
+    reply: Reply::NoTrain,
+};
 
 // `journal V`: V is the plan's version.
 #[tactic(auto, unfolding(crate::specs::Reading::heading_in, crate::specs::Reading::version_in))]
@@ -170,30 +180,32 @@ impl<'a> JournalReader<'a> {
         }
     }
 
-    /// The next entry; nothing where the line `end` comes next, and what stands behind that isn't to be read. The
-    /// first fault is refused with its line and cause: where the text has no line `end`, it is `NoEnd` behind the last.
+    /// Whether an entry comes next, which is then put in the room that is lent; else the line `end` does, and what
+    /// stands behind that isn't to be read. The first fault is refused with its line and cause: where the text has no
+    /// line `end`, it is `NoEnd` behind the last.
     /// The plan knows the entry's call, its moment isn't below the one before it at the same box, and its reply is one
     /// that such a call may have and that some text spells; whether it is the law's isn't tested. It takes no memory.
     #[tactic(auto, unfolding(crate::specs::Reading::entries_from))]
-    pub(crate) fn next_entry(&mut self) -> Result<Option<Entry>, ReadError>
-        ensures gives { GivesNext self.old self.new result }
+    pub(crate) fn next_entry(&mut self, entry: &mut Entry) -> Result<bool, ReadError>
+        ensures gives { GivesNext self.old self.new result entry.new }
         ensures still { StandsStill self.old.so_far self.new.so_far result }
-        ensures fewer { (e : Entry) → result ≡ Ok (Some e) → length self.new.rest < length self.old.rest }
-        ensures few { (e : Entry) → result ≡ Ok (Some e) → self.new.so_far.count < 2 ^ 32 }
-        ensures behind { (e : Entry) → result ≡ Ok (Some e) → IsBehind self.old.so_far.plan self.old.so_far.moments e }
+        ensures fewer { result ≡ Ok true → length self.new.rest < length self.old.rest }
+        ensures few { result ≡ Ok true → self.new.so_far.count < 2 ^ 32 }
+        ensures behind { result ≡ Ok true → IsBehind self.old.so_far.plan self.old.so_far.moments entry.new }
     {
         let number = self.count + 2;
         let Some(line) = self.lines.next() else {
             return Err(text_error(number, Cause::NoEnd));
         };
         match self.told_by(&line) {
-            Ok(Some(entry)) => {
-                self.moments[entry.box_no as usize] = entry.call.moment;
-                self.last = entry.box_no;
+            Ok(Some(told)) => {
+                self.moments[told.box_no as usize] = told.call.moment;
+                self.last = told.box_no;
                 self.count += 1;
-                Ok(Some(entry))
+                *entry = told;
+                Ok(true)
             }
-            Ok(None) => Ok(None),
+            Ok(None) => Ok(false),
             Err(cause) => Err(text_error(number, cause)),
         }
     }

@@ -14,7 +14,7 @@ mod sections;
 
 pub use hearing::{Hearing, judge_text};
 pub use journal::{print_journal, put_entry, put_heading, put_journal};
-pub use journal_reader::most_journal_bytes;
+pub use journal_reader::{NO_ENTRY, most_journal_bytes};
 pub use judging::{Verdict, judge, may_judge};
 pub use laws::{
     answers_law, held_law, histories_can_be_printed, most_trains_law, printed_journal_law,

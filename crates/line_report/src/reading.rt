@@ -10,7 +10,7 @@ ghost use Rattle.line_report.specs.Asked.{AreAsked, AreFewEntries};
 ghost use Rattle.line_report.specs.Reading.{RunsOutAt, entries_left, journal_of, most_journal_bytes};
 ghost use Rattle.line_report.specs.Spelled.{SpellsJournal};
 
-use crate::journal_reader::JournalReader;
+use crate::journal_reader::{JournalReader, NO_ENTRY};
 use line_law::{Entry, Journal};
 use line_plan::{Items, Plan};
 use rail_text::ReadError;
@@ -23,7 +23,8 @@ fn keep_entries(reader: &mut JournalReader<'_>, kept: &mut Vec<Entry>) -> Result
     ensures gives { GivesText (λ _. kept.new.items) result (entries_left reader.old) }
     ensures memory { RunsOutAt reader.old reader.new kept.new.items result }
 {
-    while let Some(entry) = reader.next_entry()? {
+    let mut entry = NO_ENTRY;
+    while reader.next_entry(&mut entry)? {
         kept.push(entry)?;
     }
     Ok(())

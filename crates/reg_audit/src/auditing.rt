@@ -8,7 +8,7 @@ ghost use Rattle.reg_audit.specs.Held.{held_told};
 ghost use Rattle.reg_audit.specs.Marks.{breaches_at, breaches_of, rules_on};
 
 use crate::deed::{Deed, deed_of};
-use crate::marks::{SideMarks, is_broken, marks_after, no_marks};
+use crate::marks::{SideMarks, is_broken, mark, no_marks};
 use crate::rule::{Breach, Rule};
 use block_words::Way;
 use line_law::{ByWay, Entry, Journal};
@@ -140,10 +140,10 @@ impl Auditor {
         let deed = deed_of(plan, entry);
         count_on(&mut self.trains, plan, entry);
         let held = held_told(&self.trains, entry.box_no, &deed);
-        let here = self.marks[at];
         self.count += 1;
-        add_breaches(&mut self.found, plan, self.count, &here, held, &deed)?;
-        self.marks[at] = marks_after(plan, &deed, &here);
+        let here = &mut self.marks[at];
+        add_breaches(&mut self.found, plan, self.count, here, held, &deed)?;
+        mark(plan, &deed, here);
         Ok(())
     }
 

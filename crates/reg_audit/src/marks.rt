@@ -76,26 +76,21 @@ fn shown_after(way: Way, deed: &Deed, before: Position) -> Position
 }
 
 impl SideMarks {
-    // The marks of a side after something was done at its box.
-    fn after(self, plan: &Plan, side: Way, deed: &Deed) -> SideMarks
-        ensures { result ≡ side_after plan.now side deed.now self }
+    // Marks on a side what was done at its box.
+    fn mark(&mut self, plan: &Plan, side: Way, deed: &Deed)
+        ensures { self.new ≡ side_after plan.now side deed.now self.old }
     {
         let bell = bell_on(side, deed);
         let new = unprompted(self.last_bell, bell);
+        let class_heard = is_of_class(plan, BellKind::Heard, new);
         let entering = is_bell(new, BellEntry::rung(TRAIN_ENTERING_SECTION));
         let out = is_bell(new, BellEntry::rung(TRAIN_OUT_OF_SECTION));
         let from = side.opposite();
-        SideMarks {
-            last_bell: later_bell(bell, self.last_bell),
-            offered: since_after(
-                gives_clear(from, deed),
-                is_of_class(plan, BellKind::Heard, new),
-                self.offered,
-            ),
-            entering: since_after(deed.entered() == Some(side), entering, self.entering),
-            left: since_after(out, deed.leaves_berth(from), self.left),
-            shown: shown_after(from, deed, self.shown),
-        }
+        self.last_bell = later_bell(bell, self.last_bell);
+        self.offered = since_after(gives_clear(from, deed), class_heard, self.offered);
+        self.entering = since_after(deed.entered() == Some(side), entering, self.entering);
+        self.left = since_after(out, deed.leaves_berth(from), self.left);
+        self.shown = shown_after(from, deed, self.shown);
     }
 
     // Whether the first rule is broken by what was done on this side.
@@ -131,24 +126,20 @@ pub fn no_marks(alloc: Global, boxes: usize) -> Result<Vec<ByWay<SideMarks>>, No
     Ok(vec![in alloc; none; boxes]?)
 }
 
-/// The marks of a box after something was done there. A bell is of one side alone, and nothing done leaves both.
-pub fn marks_after(plan: &Plan, deed: &Deed, marks: &ByWay<SideMarks>) -> ByWay<SideMarks>
-    ensures { result ≡ marks_after plan.now deed.now marks.now }
+/// Marks what was done at a box, in place. A bell is of one side alone, and nothing done leaves both.
+pub fn mark(plan: &Plan, deed: &Deed, marks: &mut ByWay<SideMarks>)
+    ensures { marks.new ≡ marks_after plan.now deed.now marks.old }
 {
     match *deed {
-        Deed::Nothing => *marks,
-        Deed::Rang { side: Way::Up, .. } | Deed::Heard { side: Way::Up, .. } => ByWay {
-            up: marks.up.after(plan, Way::Up, deed),
-            down: marks.down,
-        },
-        Deed::Rang { .. } | Deed::Heard { .. } => ByWay {
-            up: marks.up,
-            down: marks.down.after(plan, Way::Down, deed),
-        },
-        _ => ByWay {
-            up: marks.up.after(plan, Way::Up, deed),
-            down: marks.down.after(plan, Way::Down, deed),
-        },
+        Deed::Nothing => {}
+        Deed::Rang { side: Way::Up, .. } | Deed::Heard { side: Way::Up, .. } => {
+            marks.up.mark(plan, Way::Up, deed);
+        }
+        Deed::Rang { .. } | Deed::Heard { .. } => marks.down.mark(plan, Way::Down, deed),
+        _ => {
+            marks.up.mark(plan, Way::Up, deed);
+            marks.down.mark(plan, Way::Down, deed);
+        }
     }
 }
 

@@ -11,7 +11,7 @@ ghost use Rattle.reg_audit.specs.Texts.{text_audited};
 use crate::auditing::Auditor;
 use crate::printing::print_audit;
 use line_plan::Plan;
-use line_report::{Hearing, Verdict};
+use line_report::{Hearing, NO_ENTRY, Verdict};
 use rail_text::ReadError;
 use std::alloc::Global;
 
@@ -25,7 +25,8 @@ fn audit_to_end(
     requires opening { hearing.old.judge ≡ opening_judge plan.now }
     ensures { AuditsAll plan.now hearing.old hearing.new auditor.new result }
 {
-    while let Some(entry) = hearing.next_entry()? {
+    let mut entry = NO_ENTRY;
+    while hearing.next_entry(&mut entry)? {
         if let Verdict::Legal = hearing.verdict() {
             auditor.hear(plan, &entry)?;
         }

@@ -12,11 +12,11 @@ loop-init c = record { heard = ([], none_kept _, refl) }
 pub loop-preserved : goal.loop-preserved
 loop-preserved c =
     let so_far = c.loop.invariant.heard in
-    let e = c.in-Some.field-0 in
+    let e = c.next_entry.new.entry in
     let tells : TellsNext c.loop.hearing.reader c.next_entry.new.self.reader e =
-    rw c.in-Some.is at c.in_ok-next_entry.ensures.gives in
+    rw c.if-branch.true at c.in_ok-next_entry.ensures.gives in
     let hears : HearsEntry c.loop.hearing.judge c.next_entry.new.self.judge e =
-    rw c.in-Some.is at c.in_ok-next_entry.ensures.heard in
+    rw c.if-branch.true at c.in_ok-next_entry.ensures.heard in
     record {
       heard = (
         so_far.0 ++ e ∷ [],

@@ -1,5 +1,4 @@
-use Rattle.std.proofs.Common.{◌≡◌, Ok, arith, sym, ap, subst, ◌∙◌, refl}
-use Rattle.line_law.specs.declared.call.Entry.{Entry}
+use Rattle.std.proofs.Common.{Ok, arith, sym, ap, subst, ◌∙◌, refl}
 use Rattle.line_report.specs.Readers.{ReaderFields}
 use Rattle.line_report.specs.Spelled.{IsBehind}
 use Rattle.line_report.proofs.NextEntry.{tells_at, told_behind}
@@ -7,7 +6,7 @@ use Rattle.line_report.proofs.journal_reader.JournalReader.next_entry.Goals as g
 
 pub index_mut-requires : goal.index_mut-requires
 index_mut-requires c =
-    let behind = told_behind _ _ c.in-Ok-Some.entry
+    let behind = told_behind _ _ c.in-Ok-Some.told
     (sym c.told_by.ensures ∙ c.in-Ok-Some.is ∙ ap Ok c.in-Ok-Some.field-0-is) in
     let box = behind.spelled.box in
     let each = c.self.invariant.each in
@@ -16,13 +15,10 @@ index_mut-requires c =
 
 pub returns-in-Ok-Some-clause-gives : goal.returns-in-Ok-Some-clause-gives
 returns-in-Ok-Some-clause-gives c =
-    tells_at _ _ c.args.self.now _ _ c.in-Ok-Some.entry c.self.view_is c.in-Some.ensures.line
+    tells_at _ _ c.args.self.now _ _ c.in-Ok-Some.told c.self.view_is c.in-Some.ensures.line
     (sym c.told_by.ensures ∙ c.in-Ok-Some.is ∙ ap Ok c.in-Ok-Some.field-0-is) refl
 
 pub returns-in-Ok-Some-clause-behind : goal.returns-in-Ok-Some-clause-behind
-returns-in-Ok-Some-clause-behind c e same =
-    let behind = told_behind _ _ c.in-Ok-Some.entry
-    (sym c.told_by.ensures ∙ c.in-Ok-Some.is ∙ ap Ok c.in-Ok-Some.field-0-is) in
-    let is : c.in-Ok-Some.entry ≡ e = cc in
-    subst (λ (r : ReaderFields). IsBehind r.so_far.plan r.so_far.moments e) c.self.view_is
-    (subst (λ (x : Entry). IsBehind c.self.inside.plan.now c.self.inside.moments.items x) is behind)
+returns-in-Ok-Some-clause-behind c same =
+    subst (λ (r : ReaderFields). IsBehind r.so_far.plan r.so_far.moments c.in-Ok-Some.told) c.self.view_is
+    (told_behind _ _ c.in-Ok-Some.told (sym c.told_by.ensures ∙ c.in-Ok-Some.is ∙ ap Ok c.in-Ok-Some.field-0-is))

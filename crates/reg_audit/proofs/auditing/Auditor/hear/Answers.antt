@@ -26,16 +26,8 @@ count_on-requires-clause-few c =
     (held_room c.args.plan.now (state_of c.args.plan.now c.requires.es) (length c.requires.es)
     c.self.inside.trains.items c.requires.few has.trains)
 
-pub index-requires : goal.index-requires
-index-requires c =
-    let within = (is_next c.args.plan.now c.requires.es c.args.entry.now c.requires.legal).box_no in
-    let each = (subst (λ (auditor : AuditorFields). HasAudited c.args.plan.now c.requires.es auditor)
-    (sym c.self.view_is) c.requires.has).each in
-    let len = c.self.inside.marks.ok.0 in
-    omega (arith, within, each, len)
-
-pub index_mut-requires : goal.index_mut-requires
-index_mut-requires c =
+pub index_mut-here-requires : goal.index_mut-here-requires
+index_mut-here-requires c =
     let within = (is_next c.args.plan.now c.requires.es c.args.entry.now c.requires.legal).box_no in
     let each = (subst (λ (auditor : AuditorFields). HasAudited c.args.plan.now c.requires.es auditor)
     (sym c.self.view_is) c.requires.has).each in
@@ -57,7 +49,7 @@ returns c es before legal =
     let now : List (ByWay HeldTrains) =
     take c.self.inside.trains.len (c.count_on.new.trains ++ drop (length c.count_on.new.trains) old) in
     let deed : Deed = c.deed_of-deed.result in
-    let here : ByWay SideMarks = c.index.result.now in
+    let here : ByWay SideMarks = c.index_mut-here.result.now in
     let deed_is : deed ≡ deed_of plan e = c.deed_of-deed.ensures in
     let held_is = c.held_told-held.ensures
     ∙ ap (λ (ts : List (ByWay HeldTrains)). held_told ts e.box_no deed) c.deref.ensures.value
@@ -66,6 +58,6 @@ returns c es before legal =
     let each = has.each in
     let within = next.box_no in
     let hand = at_hand plan (state_of plan es) e c.self.inside.marks.items deed here c.held_told-held.result
-    (omega (arith, each, within)) deed_is c.index.ensures held_is in
-    audited_on plan es e _ deed here c.marks_after.result c.held_told-held.result now c.add_breaches.new.found.items
-    has hand c.marks_after.ensures held_on c.in_ok-add_breaches.ensures
+    (omega (arith, each, within)) deed_is c.index_mut-here.ensures.value held_is in
+    audited_on plan es e _ deed here c.mark.new.marks c.held_told-held.result now c.add_breaches.new.found.items
+    has hand c.mark.ensures held_on c.in_ok-add_breaches.ensures
