@@ -18,7 +18,7 @@ use Rattle.script_text.specs.Entries.{IsSpelled}
 use Rattle.script_text.specs.declared.script.Script.{Script}
 use Rattle.text_fetch.specs.Runs.{Run}
 use Rattle.train_laws.specs.MayPull.{IsPullTold}
-use Rattle.train_register.specs.Registers.{AreParts, IsPrintable, RegisterFields}
+use Rattle.train_register.specs.Registers.{AreParts, IsPrintable, RegisterFields, register_text}
 use Rattle.line_runs.specs.Rosters.{calls_of_scripts}
 
 -- how many calls each script has
@@ -75,6 +75,12 @@ pub record CanBePrinted (plan : PlanFields) (entries : List Entry) (registers : 
   pub spelled : All (IsSpelled plan) entries
   pub parts : AreParts plan entries registers
   pub printable : All (IsPrintable plan) registers
+
+-- a legal journal can be printed, and the registers with its parts have these texts
+pub record HasTexts (plan : PlanFields) (entries : List Entry) (texts : List (List ℕ)) : Type 0 where
+  pub registers : List RegisterFields
+  pub printed : CanBePrinted plan entries registers
+  pub same : texts ≡ map (λ register. register_text plan register.box_no register.entries) registers
 
 -- a line was worked and has ended: its journal is one of this run, and it can be printed with its registers
 pub record IsWorkedLine (run : Run) (entries : List Entry) (registers : List RegisterFields) : Type 0 where

@@ -1,11 +1,13 @@
 //! The output of a line that was worked: its registers are printed on threads, and the journal is copied from them.
 
 ghost use Rattle.std.specs.Prelude.{◌≡◌, ◌+◌, ◌<◌, ◌≤◌, ◌^◌, All, IfOk, codes, drop, length, map, string_bytes};
+ghost use Rattle.line_law.specs.History.{IsLegal};
+ghost use Rattle.line_report.specs.Asked.{AreFewEntries};
 ghost use Rattle.line_report.specs.Journals.{heading_text};
 ghost use Rattle.line_report.specs.Sections.{sections_text};
 ghost use Rattle.line_runs.specs.Copying.{AreCopied, AreHalves, AreLinesLeft, behind_line};
 ghost use Rattle.line_runs.specs.Outputs.{output_text, parts_text};
-ghost use Rattle.line_runs.specs.Worked.{AreWorked, CanBePrinted, IsWorkedLine};
+ghost use Rattle.line_runs.specs.Worked.{AreWorked, CanBePrinted, HasTexts, IsJournalOf, IsWorkedLine};
 ghost use Rattle.script_text.specs.Entries.{IsSpelled};
 ghost use Rattle.text_fetch.specs.Runs.{AreScriptsOf};
 ghost use Rattle.train_register.specs.Registers.{IsPrintable, register_text};
@@ -94,19 +96,19 @@ pub(crate) fn print_registers<R: Threads + Sync>(
 }
 
 /// Merges the registers of a line whose scripts were worked into its journal, and prints them meanwhile on threads.
+/// They aren't kept behind that.
 pub(crate) fn merged_and_printed<R: Threads + Sync>(
     rt: &R,
     alloc: Global,
     plan: &Plan,
     scripts: &[Script],
     ended: Ended,
-) -> Result<(WorkedLine, PrintedRegisters), NoMemory>
+) -> Result<(Journal, PrintedRegisters), NoMemory>
     requires scripts { AreScriptsOf plan.now scripts.now }
     requires worked { AreWorked plan.now scripts.now ended.registers }
-    ensures line { IfOk result (λ r. IsWorkedLine (record { plan = plan.now; scripts = scripts.now })
-        r.0.journal.entries r.0.ended.registers) }
-    ensures printed { IfOk result (λ r. r.1
-        ≡ map (λ register. register_text plan.now register.box_no register.entries) r.0.ended.registers) }
+    ensures journal { IfOk result
+        (λ r. IsJournalOf (record { plan = plan.now; scripts = scripts.now }) r.0.entries) }
+    ensures printed { IfOk result (λ r. HasTexts plan.now r.0.entries r.1) }
 {
     plan.meets_conditions();
     let parts = &ended;
@@ -123,8 +125,8 @@ pub(crate) fn merged_and_printed<R: Threads + Sync>(
             parts.entry.now.registers) }
     { print_registers(rt, alloc, plan, parts.registers.as_slice()) };
     let (journal, registers) = join(rt, journal, registers);
-    let (journal, registers) = (journal?, registers?);
-    Ok((WorkedLine { journal, ended }, registers))
+    drop(ended);
+    Ok((journal?, registers?))
 }
 
 // The journal's lines, copied from the registers that are printed: of the entries of its front half on one thread, of
@@ -133,16 +135,14 @@ fn copy_halves<R: Threads + Sync>(
     rt: &R,
     alloc: Global,
     plan: &Plan,
-    line: &WorkedLine,
+    journal: &Journal,
     registers: &PrintedRegisters,
 ) -> Result<(CopiedLines, CopiedLines), NoMemory>
-    requires line { CanBePrinted plan.now line.now.journal.entries line.now.ended.registers }
-    requires registers { registers.now ≡ map
-        (λ register. register_text plan.now register.box_no register.entries) line.now.ended.registers }
-    ensures { IfOk result (λ r. AreHalves plan.now line.now.journal.entries r.0 r.1) }
+    requires { HasTexts plan.now journal.now.entries registers.now }
+    ensures { IfOk result (λ r. AreHalves plan.now journal.now.entries r.0 r.1) }
 {
     plan.meets_conditions();
-    let entries = line.journal.entries.as_slice();
+    let entries = journal.entries.as_slice();
     let half = entries.len() / 2;
     let room = registers
         .room()
@@ -166,12 +166,13 @@ fn copy_halves<R: Threads + Sync>(
 }
 
 // The most trains that each section held.
-fn print_sections(alloc: Global, plan: &Plan, line: &WorkedLine) -> Result<String, NoMemory>
-    requires { CanBePrinted plan.now line.now.journal.entries line.now.ended.registers }
-    ensures { IfOk result (λ text. string_bytes text ≡ sections_text plan.now line.now.journal.entries) }
+fn print_sections(alloc: Global, plan: &Plan, journal: &Journal) -> Result<String, NoMemory>
+    requires legal { IsLegal plan.now journal.now.entries }
+    requires few { AreFewEntries journal.now.entries }
+    ensures { IfOk result (λ text. string_bytes text ≡ sections_text plan.now journal.now.entries) }
 {
     let mut text = String::new(alloc);
-    put_sections(&mut text, alloc, plan, &line.journal)?;
+    put_sections(&mut text, alloc, plan, journal)?;
     Ok(text)
 }
 
@@ -221,34 +222,30 @@ fn put_together(
     Ok(output)
 }
 
-/// The whole output of a line that was worked, whose registers are printed already. The most trains of the sections are
+/// The whole output of a line's journal, whose registers are printed already. The most trains of the sections are
 /// counted and printed on a thread, while the journal is copied from the registers.
 pub(crate) fn print_whole<R: Threads + Sync>(
     rt: &R,
     alloc: Global,
     plan: &Plan,
-    line: &WorkedLine,
+    journal: &Journal,
     registers: PrintedRegisters,
 ) -> Result<Output, NoMemory>
-    requires line { CanBePrinted plan.now line.now.journal.entries line.now.ended.registers }
-    requires registers { registers ≡ map
-        (λ register. register_text plan.now register.box_no register.entries) line.now.ended.registers }
-    ensures { IfOk result (λ output. output ≡ output_text plan.now line.now.journal.entries) }
+    requires { HasTexts plan.now journal.now.entries registers }
+    ensures { IfOk result (λ output. output ≡ output_text plan.now journal.now.entries) }
 {
     let printed = &registers;
     let halves = || -> Result<(CopiedLines, CopiedLines), NoMemory>
-        requires { CanBePrinted plan.now line.now.journal.entries line.now.ended.registers
-            × (printed.now ≡ map (λ register. register_text plan.now register.box_no register.entries)
-            line.now.ended.registers) }
-        ensures { IfOk result (λ r. AreHalves plan.entry.now line.entry.now.journal.entries r.0 r.1) }
-    { copy_halves(rt, alloc, plan, line, printed) };
+        requires { HasTexts plan.now journal.now.entries printed.now }
+        ensures { IfOk result (λ r. AreHalves plan.entry.now journal.entry.now.entries r.0 r.1) }
+    { copy_halves(rt, alloc, plan, journal, printed) };
     let sections = || -> Result<String, NoMemory>
-        requires { CanBePrinted plan.now line.now.journal.entries line.now.ended.registers }
+        requires { IsLegal plan.now journal.now.entries × AreFewEntries journal.now.entries }
         ensures { IfOk result (λ text. string_bytes text
-            ≡ sections_text plan.entry.now line.entry.now.journal.entries) }
-    { print_sections(alloc, plan, line) };
+            ≡ sections_text plan.entry.now journal.entry.now.entries) }
+    { print_sections(alloc, plan, journal) };
     let (halves, sections) = join(rt, halves, sections);
-    let entries = line.journal.entries.as_slice();
+    let entries = journal.entries.as_slice();
     Ok(put_together(alloc, plan, entries, halves?, registers, sections?)?)
 }
 
@@ -263,5 +260,5 @@ pub(crate) fn print_output<R: Threads + Sync>(
     ensures { IfOk result (λ output. output ≡ output_text plan.now line.now.journal.entries) }
 {
     let registers = print_registers(rt, alloc, plan, line.ended.registers.as_slice())?;
-    print_whole(rt, alloc, plan, line, registers)
+    print_whole(rt, alloc, plan, &line.journal, registers)
 }

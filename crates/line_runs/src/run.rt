@@ -15,20 +15,23 @@ use std::sync::Wait;
 use std::thread::Threads;
 use text_fetch::{Inputs, Stop, fetch_inputs};
 
-// The whole output of a plan and its scripts.
+// The whole output of a plan and its scripts. Neither the scripts nor the registers are kept while the journal is
+// printed.
 fn run_output<R: Threads + Wait + Sync, G: Gate>(
     rt: &R,
     alloc: Global,
-    inputs: &Inputs,
+    inputs: Inputs,
     gate: &G,
 ) -> Result<Output, NoMemory>
-    requires { AreScriptsOf inputs.now.plan inputs.now.scripts.items }
+    requires { AreScriptsOf inputs.plan inputs.scripts.items }
     ensures { IfOk result
-        (λ output. IsOutputOf (record { plan = inputs.now.plan; scripts = inputs.now.scripts.items }) output) }
+        (λ output. IsOutputOf (record { plan = inputs.plan; scripts = inputs.scripts.items }) output) }
 {
-    let ended = work_scripts(rt, alloc, &inputs.plan, &inputs.scripts, gate)?;
-    let (line, registers) = merged_and_printed(rt, alloc, &inputs.plan, &inputs.scripts, ended)?;
-    print_whole(rt, alloc, &inputs.plan, &line, registers)
+    let Inputs { plan, scripts } = inputs;
+    let ended = work_scripts(rt, alloc, &plan, &scripts, gate)?;
+    let (journal, registers) = merged_and_printed(rt, alloc, &plan, &scripts, ended)?;
+    drop(scripts);
+    print_whole(rt, alloc, &plan, &journal, registers)
 }
 
 /// The output of the run of the named texts, each script worked by its own signalman on a thread of his own; or why
@@ -49,9 +52,7 @@ pub fn run_outcome<R: Threads + Wait + Sync, S: Shelf, G: Gate>(
     ensures same { (n : List ℕ) → S.held shelf.new n ≡ S.held shelf.old n }
 {
     let inputs = fetch_inputs(rt, alloc, shelf, plan_name, script_names)?;
-    let output = run_output(rt, alloc, &inputs, gate);
-    drop(inputs);
-    match output {
+    match run_output(rt, alloc, inputs, gate) {
         Ok(output) => Ok(output),
         Err(NoMemory) => Err(Stop::NoMemory),
     }

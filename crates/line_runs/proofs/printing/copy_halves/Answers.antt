@@ -16,16 +16,16 @@ join-front-requires-after_bounds g c κs within =
     let es = c.as_slice-entries.result.now in
     let half = length es / 2 in
     let lines = map behind_line c.args.registers.now in
-    let same : es ≡ c.args.line.now.journal.entries = c.as_slice-entries.ensures in
-    let few = c.requires.line.few in
+    let same : es ≡ c.args.journal.now.entries = c.as_slice-entries.ensures in
+    let few = c.requires.printed.few in
     let many = length-take half es in
     let long = ap length same in
     let spelled : All (IsSpelled plan) es =
-    subst (λ (xs : List Entry). All (IsSpelled plan) xs) (sym same) c.requires.line.spelled in
+    subst (λ (xs : List Entry). All (IsSpelled plan) xs) (sym same) c.requires.printed.spelled in
     let left : AreLinesLeft plan es lines =
-    rw (same, c.requires.registers)
-    (all_left plan c.args.line.now.journal.entries c.args.line.now.ended.registers c.meets_conditions.ensures
-    c.requires.line.few c.requires.line.parts) in
+    rw (same, c.requires.same)
+    (all_left plan c.args.journal.now.entries c.requires.registers c.meets_conditions.ensures
+    c.requires.printed.few c.requires.printed.parts) in
     let in_front : AreLinesLeft plan (take half es) lines =
     left_in_front plan (take half es) (drop half es) lines
     (subst (λ (xs : List Entry). AreLinesLeft plan xs lines) (sym (take-append-drop half es)) left) in (

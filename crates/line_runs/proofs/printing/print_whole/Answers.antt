@@ -10,7 +10,7 @@ use Rattle.line_runs.proofs.printing.print_whole.Goals as goal
 pub returns : goal.returns
 returns g c =
     let plan = c.args.plan.now in
-    let es = c.args.line.now.journal.entries in
+    let es = c.args.journal.now.entries in
     let front = c.in_ok-halves.field-0.0 in
     let behind = c.in_ok-halves.field-0.1 in
     let sections = string_bytes c.in_ok-sections.field-0 in
@@ -26,5 +26,5 @@ returns g c =
     ∙ (ap (λ (texts : List (List ℕ)). parts_text plan c.as_slice-entries.result.now front behind texts sections)
     c.registers.view_is
     ∙ ap (λ (xs : List Entry). parts_text plan xs front behind c.args.registers sections) c.as_slice-entries.ensures
-    ∙ output_whole plan es c.args.line.now.ended.registers front behind c.args.registers sections c.requires.line.parts
-    c.requires.registers halves told)
+    ∙ output_whole plan es c.requires.registers front behind c.args.registers sections c.requires.printed.parts
+    c.requires.same halves told)
