@@ -2,8 +2,8 @@
 
 use crate::facts::{all_hold, are_equal, hold, is_debugged, is_shown};
 use locking_table::{
-    Cond, Conds, End, NoMemory, Row, RowError, RowFault, RowKind, Stand, Table, When, end_of,
-    print_row, read_row, read_spelled, stand_of,
+    Cond, Conds, End, NoMemory, Row, RowError, RowFault, RowKind, Stand, Table, end_of, print_row,
+    read_row, read_spelled, stand_of,
 };
 use std::alloc::{AllocError, Global};
 use std::process::Abort;
@@ -78,12 +78,11 @@ fn a_row_has_its_parts(rt: HostRuntime) -> Result<(), Fail> {
         subject: 1,
         kind: RowKind::ReleasedBy,
         object: 2,
-        when: Conds::from_vec(CONDS.to_vec(alloc)?),
+        when: Conds::both(CONDS[0], CONDS[1]),
     };
     let row = read_row(alloc, b"1 released by 2 when 6 reversed and 7 normal")?;
     has_parts(&rt, &row, &wanted);
-    let count = wanted.when.into_vec().len();
-    assert!(rt; count == 2);
+    assert!(rt; wanted.copied() == row);
     Ok(())
 }
 
@@ -92,16 +91,15 @@ fn a_row_is_read_as_it_is_spelled(rt: HostRuntime) -> Result<(), Fail> {
     let alloc = rt.alloc();
     let text = b"1 released by 2 when 6 reversed and 7 normal";
     let spelled = read_spelled(text)?;
-    let kept = spelled.kept(alloc)?;
     let row = read_row(alloc, text)?;
     all_hold(
         &rt,
         &[
-            ("the row", kept == row),
+            ("the row", spelled == row),
             ("its levers differ", spelled.levers_differ()),
             (
                 "its conditions",
-                spelled.when == When::Both(CONDS[0], CONDS[1]),
+                spelled.when.as_slice() == CONDS.as_slice(),
             ),
             (
                 "a row that ends too early",

@@ -144,7 +144,7 @@ impl BoxState {
         self.lock_refusal(plan, lever, holder)
     }
 
-    /// What a pull is refused for, where every row holds: only the rows that name the lever are read.
+    /// What a pull is refused for, where every row holds: only the rows that may hold the lever are read.
     pub(crate) fn steady_pull_refusal(&self, plan: &BoxPlan, lever: u32) -> Option<Reply>
         requires sound { IsSound plan.now }
         requires frame { HasFrame plan.now self.now }
@@ -161,7 +161,7 @@ impl BoxState {
         self.lock_refusal(plan, lever, holder)
     }
 
-    /// What putting a lever back is refused for, where every row holds: only the rows that name the lever are read.
+    /// What putting a lever back is refused for, where every row holds: only the rows that may hold the lever are read.
     pub(crate) fn steady_put_refusal(&self, plan: &BoxPlan, lever: u32) -> Option<Reply>
         requires sound { IsSound plan.now }
         requires frame { HasFrame plan.now self.now }
@@ -266,7 +266,7 @@ impl BoxState {
         self.put_unless(refusal, plan, lever)
     }
 
-    /// The pull where every row holds: only the rows that name the lever are read.
+    /// The pull where every row holds: only the rows that may hold the lever are read.
     pub(crate) fn steady_pull(&mut self, pair: &mut PairState, plan: &BoxPlan, lever: u32) -> Reply
         requires sound { IsSound plan.now }
         requires frame { HasFrame plan.now self.old }
@@ -279,7 +279,7 @@ impl BoxState {
         self.pull_unless(refusal, pair, plan, lever)
     }
 
-    /// The putting back where every row holds: only the rows that name the lever are read.
+    /// The putting back where every row holds: only the rows that may hold the lever are read.
     pub(crate) fn steady_put(&mut self, plan: &BoxPlan, lever: u32) -> Reply
         requires sound { IsSound plan.now }
         requires frame { HasFrame plan.now self.old }

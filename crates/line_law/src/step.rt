@@ -88,7 +88,7 @@ pub fn perform_at(
     }
 }
 
-// One call of a box in which every row holds: what holds a lever is sought among the rows that name it.
+// One call of a box in which every row holds: what holds a lever is sought among the rows that may hold it.
 fn perform_steadily(
     here: &mut BoxState,
     pair: &mut PairState,

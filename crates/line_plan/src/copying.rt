@@ -10,7 +10,7 @@ use crate::box_plan::BoxPlan;
 use crate::items::Items;
 use crate::label::Label;
 use crate::signal::{Signal, TrackLock};
-use locking_table::{Conds, Row, Table};
+use locking_table::{Row, Table};
 use rail_text::{Names, NoMemory};
 use std::alloc::Global;
 
@@ -106,18 +106,6 @@ fn copied_tracks(alloc: Global, tracks: &[TrackLock]) -> Result<Items<TrackLock>
     Ok(Items::from_vec(copied))
 }
 
-fn copied_row(alloc: Global, row: &Row) -> Result<Row, NoMemory>
-    ensures { IfOk result (λ copied. copied ≡ row.now) }
-{
-    let conds = Vec::from_slice(alloc, row.when.as_slice())?;
-    Ok(Row {
-        subject: row.subject,
-        kind: row.kind,
-        object: row.object,
-        when: Conds::from_vec(conds),
-    })
-}
-
 // A row more, which some text spells.
 fn push_row(table: &mut Table, row: Row) -> Result<(), NoMemory>
     requires few { length table.old < 2 ^ 32 - 1 }
@@ -135,7 +123,7 @@ fn copied_table(alloc: Global, table: &Table) -> Result<Table, NoMemory>
 {
     let mut copied = Table::new(alloc);
     for row in table.rows() {
-        push_row(&mut copied, copied_row(alloc, row)?)?;
+        push_row(&mut copied, row.copied())?;
     }
     Ok(copied)
 }

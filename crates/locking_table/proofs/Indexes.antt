@@ -1,6 +1,6 @@
--- A row that doesn't name a lever lets it move where the row holds, so the rows that name it are enough to look at; and
--- the index is built right.
-use Rattle.std.proofs.Common.{◌≡◌, ℕ, ◌+◌, ◌-◌, ◌<◌, ◌≤◌, ◌^◌, List, [], ◌∷◌, ◌++◌, length, drop, take, Bool, true}
+-- A row that doesn't bear on a lever lets it move where the row holds, so the rows that may hold it are enough to look
+-- at; and the index is built right.
+use Rattle.std.proofs.Common.{◌≡◌, ◌≢◌, ℕ, ◌+◌, ◌-◌, ◌<◌, ◌≤◌, ◌^◌, List, [], ◌∷◌, ◌++◌, length, drop, take, Bool, true}
 use Rattle.std.proofs.Common.{false, not, ◌&&◌, ◌||◌, ◌==◌, if◌then◌else◌, inl, inr, refl, sym, ap, ◌∙◌, subst}
 use Rattle.std.proofs.Common.{append-nil, arith, length-append, take_all}
 use Rattle.std.specs.Prelude.{Option, Some, All, IsTrue, map, slice_index_or, slice_set}
@@ -15,12 +15,17 @@ use Rattle.locking_table.specs.declared.places.Stand.TheVariants.{AtMid}
 use Rattle.locking_table.specs.declared.row.Cond.{Cond}
 use Rattle.locking_table.specs.declared.row.Holder.{Holder}
 use Rattle.locking_table.specs.declared.row.Row.{Row}
-use Rattle.locking_table.specs.Places.{IsLever, at_ends, end_at, other_end, stand_at, stand_of}
+use Rattle.locking_table.specs.declared.places.End.TheVariants.{Normal, Reversed}
+use Rattle.locking_table.specs.declared.row.RowKind.{RowKind}
+use Rattle.locking_table.specs.declared.row.RowKind.TheVariants.{LocksNormal, ReleasedBy, LocksBoth}
+use Rattle.locking_table.specs.Places.{IsLever, at_ends, end_at, is_mid, is_normal, other_end, stand_at, stand_of}
 use Rattle.locking_table.specs.Meaning.{MayMove, RowHolds, acts, first_holder, holder_of, holding_lever, row_allows}
-use Rattle.locking_table.specs.Meaning.{row_holds}
-use Rattle.locking_table.specs.Sound.{CondFits, IsRow, RowFits, all_differ, levers_of}
+use Rattle.locking_table.specs.Meaning.{breaks, row_holds}
+use Rattle.locking_table.specs.Sound.{CondFits, IsRow, RowFits, all_differ}
 use Rattle.locking_table.proofs.Holding.{may_move_more, may_move_none}
-use Rattle.locking_table.specs.Index.{AreAlike, AreFiled, IsIndex, IsTable, first_of, names, naming, no_row, once}
+use Rattle.locking_table.specs.Index.{AreAlike, AreFiled, IsIndex, IsTable, bearing, bears, first_of, levers_held}
+use Rattle.locking_table.specs.Index.{levers_under, names, no_row, once}
+use Rattle.locking_table.proofs.MidLemmas.{mid_is_enough}
 
 -- ---- a row that doesn't name the lever
 
@@ -106,7 +111,48 @@ none_moved ends place row fits =
 
 pub ruleset end_rules = (none_moved)
 
--- ---- the rows that name a lever are enough to look at
+-- ---- the rows that may hold a lever are enough to look at
+
+or_none : (a : Bool) → (a || false) ≡ a
+or_none true = refl
+or_none false = refl
+
+end_is_no_mid : (end : End) → is_mid (stand_at end) ≡ false
+end_is_no_mid Normal = refl
+end_is_no_mid Reversed = refl
+
+no_break : (s c b : Bool) → b ≡ false → not (s && c && b) ≡ true
+no_break true true b h = rw h refl
+no_break true false b h = refl
+no_break false c b h = refl
+
+-- a row that locks both ways lets every lever move but its object
+both_keep : (ends : List End) (lever : ℕ) (row : Row) → row.kind ≡ LocksBoth → (row.object == lever) ≡ false
+    → row_allows ends lever row ≡ true
+both_keep ends lever row kind away =
+    let still : breaks row.kind (stand_of ends lever AtMid row.object) ≡ false =
+    rw (kind, away) (end_is_no_mid (end_at ends row.object)) in
+    sym (mid_is_enough ends lever row)
+    ∙ no_break (not (is_normal (stand_of ends lever AtMid row.subject)))
+    (list_all (acts (stand_of ends lever AtMid)) row.when) (breaks row.kind (stand_of ends lever AtMid row.object))
+    still
+
+-- the same, of numbers that aren't equal
+pub both_let : (ends : List End) (lever : ℕ) (row : Row) → row.kind ≡ LocksBoth → row.object ≢ lever
+    → row_allows ends lever row ≡ true
+both_let ends lever row kind apart = elim (eqb_tells row.object lever) [
+  | inl here ↦ absurd (apart here.1)
+  | inr away ↦ both_keep ends lever row kind away.0
+]
+
+-- a row that holds and doesn't bear on the lever lets it move
+away_keeps : (kind : RowKind) (ends : List End) (lever : ℕ) (row : Row) → row.kind ≡ kind
+    → list_any (λ n. n == lever) (levers_under kind row) ≡ false → RowHolds (at_ends ends) row
+    → row_allows ends lever row ≡ true
+away_keeps LocksNormal ends lever row is away holds = away_allows ends lever row away holds
+away_keeps ReleasedBy ends lever row is away holds = away_allows ends lever row away holds
+away_keeps LocksBoth ends lever row is away holds =
+    both_keep ends lever row is (sym (or_none (row.object == lever)) ∙ away)
 
 look : (ends : List End) (lever : ℕ) (rows : List Row) (from : ℕ) (row : Row) (named ok : Bool) (ns : List ℕ)
     (rest : Option Holder) → slice_index_or rows from no_row ≡ row → row_allows ends lever row ≡ ok
@@ -129,18 +175,18 @@ at_drop rows from r rs h =
 
 look_from : (ends : List End) (lever : ℕ) (rows : List Row) (from : ℕ) (rs : List Row) → drop from rows ≡ rs
     → All (RowHolds (at_ends ends)) rs
-    → first_of ends lever rows (naming from lever rs) ≡ first_holder ends lever (from + 1) rs
+    → first_of ends lever rows (bearing from lever rs) ≡ first_holder ends lever (from + 1) rs
 look_from ends lever rows from [] is all = refl
 look_from ends lever rows from (r ∷ rs) is all =
     let at = at_drop rows from r rs is in
-    look ends lever rows from r (names lever r) (row_allows ends lever r) (naming (from + 1) lever rs)
+    look ends lever rows from r (bears lever r) (row_allows ends lever r) (bearing (from + 1) lever rs)
     (first_holder ends lever (from + 1 + 1) rs) at.0 refl
-    (λ h. away_allows ends lever r h (All-head (RowHolds (at_ends ends)) r rs all))
+    (λ h. away_keeps r.kind ends lever r refl h (All-head (RowHolds (at_ends ends)) r rs all))
     (look_from ends lever rows (from + 1) rs at.1 (All-tail (RowHolds (at_ends ends)) r rs all))
 
-pub first_of-naming : (ends : List End) (lever : ℕ) (rows : List Row) → All (RowHolds (at_ends ends)) rows
-    → first_of ends lever rows (naming 0 lever rows) ≡ holder_of ends lever rows
-first_of-naming ends lever rows all = look_from ends lever rows 0 rows refl all
+pub first_of-bearing : (ends : List End) (lever : ℕ) (rows : List Row) → All (RowHolds (at_ends ends)) rows
+    → first_of ends lever rows (bearing 0 lever rows) ≡ holder_of ends lever rows
+first_of-bearing ends lever rows all = look_from ends lever rows 0 rows refl all
 
 -- the numbers are of rows
 abbrev IsBelow : ℕ → ℕ → Type 0
@@ -151,21 +197,21 @@ within_one : (from limit : ℕ) (named : Bool) (ns : List ℕ) → from < limit 
 within_one from limit true ns h all = All-cons (IsBelow limit) from ns h all
 within_one from limit false ns h all = all
 
-naming_within : (from limit lever : ℕ) (rs : List Row) → from + length rs ≤ limit
-    → All (IsBelow limit) (naming from lever rs)
-naming_within from limit lever [] h = All-nil (IsBelow limit)
-naming_within from limit lever (r ∷ rs) h =
-    within_one from limit (names lever r) (naming (from + 1) lever rs) (omega arith)
-    (naming_within (from + 1) limit lever rs (omega arith))
+bearing_within : (from limit lever : ℕ) (rs : List Row) → from + length rs ≤ limit
+    → All (IsBelow limit) (bearing from lever rs)
+bearing_within from limit lever [] h = All-nil (IsBelow limit)
+bearing_within from limit lever (r ∷ rs) h =
+    within_one from limit (bears lever r) (bearing (from + 1) lever rs) (omega arith)
+    (bearing_within (from + 1) limit lever rs (omega arith))
 
-pub within : (lever : ℕ) (rows : List Row) → All (λ n. n < length rows) (naming 0 lever rows)
-within lever rows = naming_within 0 (length rows) lever rows (omega arith)
+pub within : (lever : ℕ) (rows : List Row) → All (λ n. n < length rows) (bearing 0 lever rows)
+within lever rows = bearing_within 0 (length rows) lever rows (omega arith)
 
 -- the index of a table, of which what is read for a lever is enough
 pub uses_within : (rows rs : List Row) (uses us : List (List ℕ)) (lever : ℕ) (numbers : List ℕ) → IsIndex rows uses
     → rs ≡ rows → us ≡ uses → numbers ≡ slice_index_or us lever [] → All (λ n. n < length rs) numbers
 uses_within rows rs uses us lever numbers index same alike read =
-    let named : numbers ≡ naming 0 lever rows = read
+    let named : numbers ≡ bearing 0 lever rows = read
     ∙ (ap (λ (l : List (List ℕ)). slice_index_or l lever []) alike ∙ index lever) in
     rw (named, same) (within lever rows)
 
@@ -174,9 +220,9 @@ pub uses_tell : (ends : List End) (rows rs : List Row) (uses us : List (List ℕ
     → All (RowHolds (at_ends ends)) rows
     → first_of ends lever rs numbers ≡ holder_of ends lever rows
 uses_tell ends rows rs uses us lever numbers index same alike read all =
-    let named : numbers ≡ naming 0 lever rows = read
+    let named : numbers ≡ bearing 0 lever rows = read
     ∙ (ap (λ (l : List (List ℕ)). slice_index_or l lever []) alike ∙ index lever) in
-    rw (named, same) (first_of-naming ends lever rows all)
+    rw (named, same) (first_of-bearing ends lever rows all)
 
 -- ---- how the index is built
 
@@ -189,20 +235,20 @@ last_one : (t : Bool) (from at : ℕ) → from ≡ at → (if t then from ∷ []
 last_one true from at h = rw h refl
 last_one false from at h = refl
 
-naming_more : (from at lever : ℕ) (rows : List Row) (row : Row) → from + length rows ≡ at
-    → naming from lever (rows ++ row ∷ []) ≡ naming from lever rows ++ once (names lever row) at
-naming_more from at lever [] row h = last_one (names lever row) from at (omega arith)
-naming_more from at lever (r ∷ rs) row h =
-    front_step (names lever r) from (naming (from + 1) lever (rs ++ row ∷ [])) (naming (from + 1) lever rs)
-    (once (names lever row) at) (naming_more (from + 1) at lever rs row (omega arith))
+bearing_more : (from at lever : ℕ) (rows : List Row) (row : Row) → from + length rows ≡ at
+    → bearing from lever (rows ++ row ∷ []) ≡ bearing from lever rows ++ once (bears lever row) at
+bearing_more from at lever [] row h = last_one (bears lever row) from at (omega arith)
+bearing_more from at lever (r ∷ rs) row h =
+    front_step (bears lever r) from (bearing (from + 1) lever (rs ++ row ∷ [])) (bearing (from + 1) lever rs)
+    (once (bears lever row) at) (bearing_more (from + 1) at lever rs row (omega arith))
 
 -- a table with a row more
 pub index_more : (rows : List Row) (row : Row) (uses new : List (List ℕ)) (number : ℕ) → IsIndex rows uses
-    → number ≡ length rows → AreFiled uses (levers_of row) number new → IsIndex (rows ++ row ∷ []) new
+    → number ≡ length rows → AreFiled uses (levers_held row) number new → IsIndex (rows ++ row ∷ []) new
 index_more rows row uses new number index is filed lever =
     filed lever
-    ∙ (ap (λ (l : List ℕ). l ++ once (names lever row) number) (index lever)
-    ∙ sym (naming_more 0 number lever rows row (omega arith)))
+    ∙ (ap (λ (l : List ℕ). l ++ once (bears lever row) number) (index lever)
+    ∙ sym (bearing_more 0 number lever rows row (omega arith)))
 
 -- a table whose index changed places alone
 pub index_alike : (rows : List Row) (uses new : List (List ℕ)) → IsIndex rows uses → AreAlike uses new
@@ -291,7 +337,7 @@ takes_back old wide after left new lever number same less is alike lesser back a
 -- with a row more
 pub table_more : (rows after : List Row) (row read : Row) (uses new : List (List ℕ)) (number : ℕ) → IsTable rows uses
     → IsRow row → length rows < 2 ^ 32 - 1 → after ≡ rows ++ row ∷ [] → number ≡ length rows
-    → read ≡ slice_index_or after number read → AreFiled uses (levers_of read) number new → IsTable after new
+    → read ≡ slice_index_or after number read → AreFiled uses (levers_held read) number new → IsTable after new
 table_more rows after row read uses new number table is few grown at found filed =
     let same : read ≡ row = found
     ∙ (ap (λ (l : List Row). slice_index_or l number read) grown
@@ -305,7 +351,7 @@ table_more rows after row read uses new number table is few grown at found filed
       index =
           subst (λ (l : List Row). IsIndex l new) (sym grown)
           (index_more rows row uses new number table.index
-          at (subst (λ (r : Row). AreFiled uses (levers_of r) number new) same filed));
+          at (subst (λ (r : Row). AreFiled uses (levers_held r) number new) same filed));
     }
 
 -- with a row that was taken off again

@@ -142,21 +142,21 @@ checked row = if all_differ (levers_of row) then Ok row else Err faults.SameLeve
 unfoldable pub row_of : List ℕ → Result Row RowFault
 row_of text = grammar_of text >>= checked
 
--- The reader's answer where reading fails: the same fault, or memory ran out.
+-- The reader's answer where reading fails: the same fault. It takes no memory.
 abbrev pub FailsRow : {A : Type 0} → RowError → Result A RowFault → Type 0
 FailsRow (errors.BadRow word) read = read ≡ Err (faults.BadRow word)
 FailsRow errors.SameLever read = read ≡ Err faults.SameLever
-FailsRow errors.NoMemory read = Unit {0}
+FailsRow errors.NoMemory read = ⊥
 
--- A reader answers what reading gives, unless memory ran out.
+-- A reader answers what reading gives.
 abbrev pub GivesRow : {A : Type 0} → Result A RowError → Result A RowFault → Type 0
 GivesRow (Ok value) read = read ≡ Ok value
 GivesRow (Err error) read = FailsRow error read
 
 -- A reader that takes no memory answers what reading gives.
-abbrev pub GivesFault : {X Y : Type 0} → (X → Y) → Result X RowFault → Result Y RowFault → Type 0
-GivesFault view (Ok value) read = read ≡ Ok (view value)
-GivesFault view (Err fault) read = read ≡ Err fault
+abbrev pub GivesFault : {A : Type 0} → Result A RowFault → Result A RowFault → Type 0
+GivesFault (Ok value) read = read ≡ Ok value
+GivesFault (Err fault) read = read ≡ Err fault
 
 -- The same of a part of a row, behind which these words are left.
 abbrev pub GivesPart : {A : Type 0} → Result A RowFault → Left → Result (A × Left) RowFault → Type 0

@@ -1,45 +1,78 @@
 //! The conditions of a row.
 
-ghost use Rattle.std.specs.Prelude.{◌≡◌};
+ghost use Rattle.std.specs.Prelude.{◌≡◌, ◌≤◌, ◌∷◌, [], length};
 
 use crate::row::Cond;
 use std::marker::Model;
 
-/// A list of conditions, which contracts see as the list.
+// The conditions as they are kept.
+#[derive(Clone, Copy, Debug)]
+enum Kept {
+    None,
+    One([Cond; 1]),
+    Both([Cond; 2]),
+}
+
+/// The conditions of a row, which contracts see as a list: it acts always, or where one acts, or where both act. They
+/// take no memory beside the row's own.
 #[derive(Debug, Drop)]
 pub struct Conds {
-    items: Vec<Cond>,
+    kept: Kept,
 }
 
 impl Model for Conds {
     ghost use Rattle.std.specs.Prelude.{List};
     ghost use Rattle.locking_table.specs.declared.row.Cond.{Cond};
+    ghost use Rattle.locking_table.specs.Spelled.{conds_kept};
 
     ghost Value = { List Cond };
 
-    ghost view = { λ c. c.items.items };
+    ghost view = { λ c. conds_kept c.kept };
 }
 
 impl Conds {
-    /// The conditions of a `Vec`.
-    pub fn from_vec(items: Vec<Cond>) -> Self
-        ensures { result ≡ items.items }
+    /// No condition.
+    pub fn none() -> Conds
+        ensures { result ≡ [] }
     {
-        Conds { items }
+        Conds { kept: Kept::None }
     }
 
-    /// The conditions as a `Vec` again.
-    pub fn into_vec(self) -> Vec<Cond>
-        ensures { result.items ≡ self }
+    /// One condition.
+    pub fn one(cond: Cond) -> Conds
+        ensures { result ≡ cond ∷ [] }
     {
-        self.items
+        Conds {
+            kept: Kept::One([cond]),
+        }
+    }
+
+    /// Two conditions, in the order of the row's text.
+    pub fn both(first: Cond, second: Cond) -> Conds
+        ensures { result ≡ first ∷ second ∷ [] }
+    {
+        Conds {
+            kept: Kept::Both([first, second]),
+        }
+    }
+
+    /// The same conditions again.
+    pub fn copied(&self) -> Conds
+        ensures { result ≡ self.now }
+    {
+        Conds { kept: self.kept }
     }
 
     /// The conditions as a slice.
     pub fn as_slice(&self) -> &[Cond]
-        ensures { result.now ≡ self.now }
+        ensures same { result.now ≡ self.now }
+        ensures few { length self.now ≤ 2 }
     {
-        &self.items
+        match &self.kept {
+            Kept::None => &[],
+            Kept::One(conds) => conds,
+            Kept::Both(conds) => conds,
+        }
     }
 }
 
@@ -53,7 +86,7 @@ impl PartialEq for Conds {
     ghost laws = { lists_per laws-law };
 
     fn eq(&self, other: &Conds) -> bool {
-        self.items == other.items
+        self.as_slice() == other.as_slice()
     }
 }
 

@@ -1,21 +1,21 @@
-//! The index of a table: for each lever the rows that name it.
+//! The index of a table: for each lever the rows that may hold it.
 
 ghost use Rattle.std.specs.Prelude.{◌≡◌, ◌≤◌, ◌-◌, ◌<◌, ◌^◌, ◌∷◌, ◌++◌, [], All, IsTrue, OnOk, OnErr, length};
 ghost use Rattle.std.specs.Prelude.{IfOk, slice_index_or, take};
-ghost use Rattle.locking_table.specs.Index.{AreAlike, AreFiled, first_of};
+ghost use Rattle.locking_table.specs.Index.{AreAlike, AreFiled, first_of, levers_held};
 ghost use Rattle.locking_table.specs.Places.{IsLever};
-ghost use Rattle.locking_table.specs.Sound.{IsRow, RowFits, all_differ, levers_of};
+ghost use Rattle.locking_table.specs.Sound.{IsRow, RowFits, all_differ};
 
 use crate::memory::NoMemory;
 use crate::places::End;
-use crate::row::{Holder, Row};
+use crate::row::{Holder, Row, RowKind};
 use std::alloc::Global;
 use std::marker::Model;
 
 // The rows of a lever for which there is room at first.
 const USES_AT_FIRST: usize = 16;
 
-/// The numbers, from 0, of the rows that name one lever, in table order.
+/// The numbers, from 0, of the rows that may hold one lever, in table order.
 #[derive(Debug, Drop)]
 pub struct Uses {
     numbers: Vec<u32>,
@@ -95,14 +95,18 @@ fn file(uses: &mut Vec<Uses>, alloc: Global, levers: &[u32], number: u32) -> Res
     filed
 }
 
-/// Puts a row's number behind those of each lever that it names. Where memory runs out, for each lever the rows stay.
+/// Puts a row's number behind those of each lever that it may hold. Where memory runs out, for each lever the rows
+/// stay.
 pub fn file_row(uses: &mut Vec<Uses>, alloc: Global, row: &Row, number: u32) -> Result<(), NoMemory>
     requires { IsRow row.now }
-    ensures ok { OnOk result (AreFiled uses.old.items (levers_of row.now) number uses.new.items) }
+    ensures ok { OnOk result (AreFiled uses.old.items (levers_held row.now) number uses.new.items) }
     ensures err { OnErr result (AreAlike uses.old.items uses.new.items) }
 {
     let subject = row.subject;
     let object = row.object;
+    if row.kind == RowKind::LocksBoth {
+        return file(uses, alloc, &[object], number);
+    }
     match row.when.as_slice() {
         [] => file(uses, alloc, &[subject, object], number),
         [cond] => file(uses, alloc, &[subject, object, cond.lever], number),
@@ -117,7 +121,7 @@ pub fn file_row(uses: &mut Vec<Uses>, alloc: Global, row: &Row, number: u32) -> 
     }
 }
 
-/// The numbers, from 0, of the rows that name a lever.
+/// The numbers, from 0, of the rows that may hold a lever.
 pub fn uses_of(uses: &[Uses], lever: u32) -> &[u32]
     ensures { result.now ≡ slice_index_or uses.now lever [] }
 {

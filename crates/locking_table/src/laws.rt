@@ -1,10 +1,11 @@
 //! What holds a lever, in the words of the locking.
 
-ghost use Rattle.std.specs.Prelude.{◌≡◌, ◌↔◌, ℕ, All, Err, List, None, Ok, Some, false, true};
+ghost use Rattle.std.specs.Prelude.{◌≡◌, ◌≢◌, ◌↔◌, ℕ, All, Err, List, None, Ok, Some, false, true};
 ghost use Rattle.locking_table.specs.declared.places.End.{End};
 ghost use Rattle.locking_table.specs.declared.places.Stand.{Stand};
 ghost use Rattle.locking_table.specs.declared.row.Holder.{Holder};
 ghost use Rattle.locking_table.specs.declared.row.Row.{Row};
+ghost use Rattle.locking_table.specs.declared.row.RowKind.TheVariants.{LocksBoth};
 ghost use Rattle.locking_table.specs.FirstFault.{NamesTwice, StopsAt};
 ghost use Rattle.locking_table.specs.Index.{names};
 ghost use Rattle.locking_table.specs.Meaning.{IsFirstToFail, MayMove, RowHolds, holder_of, row_allows, row_holds};
@@ -26,6 +27,7 @@ pub fn holder_law()
 
 /// A law: a row that doesn't name a lever means the same wherever that lever stands. So rows that hold and don't name
 /// it neither hold the lever nor are broken by its move; and of rows that hold, only one that names the lever holds it.
+/// A row that locks both ways lets every lever move but its object.
 pub fn unnamed_lever_law()
     ensures same { (ends : List End) (lever : ℕ) (place : Stand) (row : Row) → names lever row ≡ false
         → row_holds (stand_of ends lever place) row ≡ row_holds (at_ends ends) row }
@@ -33,6 +35,8 @@ pub fn unnamed_lever_law()
         → All (RowHolds (at_ends ends)) rows → MayMove ends lever rows }
     ensures holder { (ends : List End) (lever : ℕ) (row : Row) → RowHolds (at_ends ends) row
         → row_allows ends lever row ≡ false → names lever row ≡ true }
+    ensures both { (ends : List End) (lever : ℕ) (row : Row) → row.kind ≡ LocksBoth → row.object ≢ lever
+        → row_allows ends lever row ≡ true }
 {}
 
 /// A law of rows as texts: what is printed of a row is read as that row, and a text that is read as a row is the one

@@ -13,7 +13,6 @@ mod places;
 mod printing;
 mod reading;
 mod row;
-mod spelled;
 mod table;
 mod words;
 
@@ -25,5 +24,4 @@ pub use places::{End, MOST_LEVERS, Stand, end_of, stand_of};
 pub use printing::{print_row, put_row};
 pub use reading::{read_row, read_spelled};
 pub use row::{Cond, Holder, Row, RowKind};
-pub use spelled::{SpelledRow, When};
 pub use table::Table;

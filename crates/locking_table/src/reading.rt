@@ -1,15 +1,14 @@
 //! Rows as they are read.
 
-ghost use Rattle.std.specs.Prelude.{◌≡◌, ◌+◌, ◌<◌, ◌≤◌, ◌^◌, Err, IfOk, IsOk};
+ghost use Rattle.std.specs.Prelude.{◌≡◌, ◌+◌, ◌<◌, ◌≤◌, ◌^◌, IfOk};
 ghost use Rattle.locking_table.specs.Printing.{row_text};
 ghost use Rattle.locking_table.specs.Reading.{GivesFault, GivesPart, GivesRow, asked_from, cond_from, conds_from};
 ghost use Rattle.locking_table.specs.Reading.{grammar_of, locked_from, row_of};
 ghost use Rattle.locking_table.specs.Sound.{IsRow};
-ghost use Rattle.locking_table.specs.Spelled.{as_row, conds_of};
 
+use crate::conds::Conds;
 use crate::fault::{RowError, RowFault};
 use crate::row::{Cond, Row, RowKind};
-use crate::spelled::{SpelledRow, When};
 use crate::words::{Bound, Verb, Words};
 use std::alloc::Global;
 
@@ -65,32 +64,32 @@ fn read_cond(words: &mut Words<'_>, joint: &[u8]) -> Result<Cond, RowFault>
 
 // Up to two conditions, and no word more.
 #[tactic(auto, unfolding(crate::specs::Reading::conds_from, crate::specs::Reading::second_from))]
-fn read_when(words: &mut Words<'_>) -> Result<When, RowFault>
+fn read_when(words: &mut Words<'_>) -> Result<Conds, RowFault>
     requires { words.old.number < 2 ^ 7 }
-    ensures { GivesFault conds_of result (conds_from words.old) }
+    ensures { GivesFault result (conds_from words.old) }
 {
     if words.is_empty() {
-        return Ok(When::Always);
+        return Ok(Conds::none());
     }
     let first = read_cond(words, b"when")?;
     if words.is_empty() {
-        return Ok(When::One(first));
+        return Ok(Conds::one(first));
     }
     let second = read_cond(words, b"and")?;
     words.finish()?;
-    Ok(When::Both(first, second))
+    Ok(Conds::both(first, second))
 }
 
 // A row by the grammar of rows, whether or not it names a lever twice.
 #[tactic(auto, unfolding(crate::specs::Reading::grammar_of, crate::specs::Reading::row_from))]
-fn read_grammar(text: &[u8]) -> Result<SpelledRow, RowFault>
-    ensures { GivesFault as_row result (grammar_of text.now) }
+fn read_grammar(text: &[u8]) -> Result<Row, RowFault>
+    ensures { GivesFault result (grammar_of text.now) }
 {
     let mut words = Words::new(text);
     let subject = words.lever()?;
     let (kind, object) = read_asked(&mut words)?;
     let when = read_when(&mut words)?;
-    Ok(SpelledRow {
+    Ok(Row {
         subject,
         kind,
         object,
@@ -98,16 +97,16 @@ fn read_grammar(text: &[u8]) -> Result<SpelledRow, RowFault>
     })
 }
 
-/// The row that a text spells, as it is spelled. Takes no memory.
+/// The row that a text spells. It takes no memory.
 ///
 /// Its words stand between single spaces. It is `A locks B normal`, `A locks B both ways` or `A released by B`,
 /// alone, or followed by `when C E`, or by `when C E and D E`. A, B, C and D are numbers from 1 to 120 without
 /// leading zeros, and E is `normal` or `reversed`. All levers that it names differ.
 #[tactic(auto, using(crate::proofs::Spelling::row_rules), unfolding(crate::specs::Reading::row_of))]
-pub fn read_spelled(text: &[u8]) -> Result<SpelledRow, RowFault>
-    ensures exact { GivesFault as_row result (row_of text.now) }
-    ensures row { IfOk result (λ row. IsRow (as_row row)) }
-    ensures spelled { IfOk result (λ row. text.now ≡ row_text (as_row row)) }
+pub fn read_spelled(text: &[u8]) -> Result<Row, RowFault>
+    ensures exact { GivesFault result (row_of text.now) }
+    ensures row { IfOk result IsRow }
+    ensures spelled { IfOk result (λ row. text.now ≡ row_text row) }
 {
     let row = read_grammar(text)?;
     if row.levers_differ() {
@@ -117,14 +116,11 @@ pub fn read_spelled(text: &[u8]) -> Result<SpelledRow, RowFault>
     }
 }
 
-/// The row that a text spells, as [`read_spelled`] reads it, to be kept. Want of memory is told only of a text that
-/// spells a row.
-pub fn read_row(alloc: Global, text: &[u8]) -> Result<Row, RowError>
+/// The row that a text spells, as [`read_spelled`] reads it. It takes no memory of the allocator.
+pub fn read_row(_: Global, text: &[u8]) -> Result<Row, RowError>
     ensures exact { GivesRow result (row_of text.now) }
-    ensures memory { result ≡ Err RowError.NoMemory → IsOk (row_of text.now) }
     ensures row { IfOk result IsRow }
     ensures spelled { IfOk result (λ row. text.now ≡ row_text row) }
 {
-    let row = read_spelled(text)?;
-    Ok(row.kept(alloc)?)
+    Ok(read_spelled(text)?)
 }

@@ -28,8 +28,8 @@ pub struct Cond {
     pub end: End,
 }
 
-/// A row of a locking table. A row that some text spells has levers from 1 to 120 that all differ, and at
-/// most two conditions.
+/// A row of a locking table, which takes no memory beside its own. A row that some text spells has levers from 1 to 120
+/// that all differ.
 #[derive(Debug, PartialEq, Eq, Drop)]
 pub struct Row {
     pub subject: u32,
@@ -164,6 +164,18 @@ fn conds_fit(conds: &[Cond], levers: u32) -> bool
 }
 
 impl Row {
+    /// The same row again.
+    pub fn copied(&self) -> Row
+        ensures { result ≡ self.now }
+    {
+        Row {
+            subject: self.subject,
+            kind: self.kind,
+            object: self.object,
+            when: self.when.copied(),
+        }
+    }
+
     /// Whether a frame of levers 1 to `levers` has each lever that the row names.
     pub fn fits(&self, levers: u32) -> bool
         ensures { IsTrue result ↔ RowFits levers self.now }
@@ -173,11 +185,12 @@ impl Row {
             && conds_fit(self.when.as_slice(), levers)
     }
 
-    /// Whether some text spells the row: its levers are 1 to 120 and all differ, and it has at most two conditions.
+    /// Whether some text spells the row: its levers are 1 to 120 and all differ.
     pub fn is_spelled(&self) -> bool
         ensures { IsTrue result ↔ IsRow self.now }
     {
-        self.fits(MOST_LEVERS) && self.levers_differ() && self.when.as_slice().len() <= 2
+        let conds = self.when.as_slice();
+        self.fits(MOST_LEVERS) && levers_differ(self.subject, self.object, conds)
     }
 
     /// Whether all levers that the row names differ.

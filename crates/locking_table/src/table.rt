@@ -19,7 +19,7 @@ use std::marker::Model;
 #[derive(Debug, Drop)]
 pub struct Table {
     rows: Vec<Row>,
-    // For each lever the rows that name it.
+    // For each lever the rows that may hold it.
     uses: Vec<Uses>,
 }
 
@@ -161,8 +161,8 @@ impl Table {
         first_holder(&self.rows, positions, lever)
     }
 
-    /// The holder as `named_holder` gives it, where every row holds in the positions. Only the rows that name the lever
-    /// are read: where it holds, any other lets the lever move.
+    /// The holder as `named_holder` gives it, where every row holds in the positions. Only the rows that may hold
+    /// the lever are read: where it holds, any other lets the lever move.
     pub fn holder_among_its_rows(&self, positions: &[End], lever: u32) -> Option<Holder>
         requires lever { IsLever (length positions.now) lever }
         requires rows { All (RowFits (length positions.now)) self.now }

@@ -7,7 +7,6 @@ use Rattle.rail_text.specs.Words.{number_in}
 use Rattle.rail_text.specs.declared.cause.Cause.{Cause}
 use Rattle.rail_text.specs.declared.cause.Cause.TheVariants as causes
 use Rattle.block_words.specs.declared.Way.{Way}
-use Rattle.block_words.specs.declared.Way.TheVariants.{Up, Down}
 use Rattle.locking_table.specs.Reading.{row_of}
 use Rattle.locking_table.specs.Sound.{all_differ, levers_of}
 use Rattle.locking_table.specs.declared.fault.RowFault.{RowFault}

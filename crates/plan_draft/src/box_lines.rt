@@ -6,7 +6,6 @@ ghost use Rattle.std.specs.List.{join_with_byte, list_any};
 ghost use Rattle.rail_text.specs.Gives.{FaultsFirst, GivesLine, TakesNoMemory};
 ghost use Rattle.locking_table.specs.Reading.{row_of};
 ghost use Rattle.locking_table.specs.Sound.{IsRow, all_differ, levers_of};
-ghost use Rattle.locking_table.specs.Spelled.{as_row, conds_of};
 ghost use Rattle.line_plan.specs.Frames.{begins_at, berth_places, end_places, entered_by, frame_size, homes_of};
 ghost use Rattle.line_plan.specs.Frames.{is_entered, kind_of, place_of, signal_of};
 ghost use Rattle.plan_draft.specs.BoxLines.{all_worked, arm_in, berth_at, berth_onto, clear_onto, clearing_in};
@@ -25,7 +24,7 @@ use line_plan::{
     Berth, BoxPlan, Items, Kind, Lever, MOST_PLACES, MOST_ROWS, Signal, To, TrackLock, comes_in,
     leaves,
 };
-use locking_table::{Cond, MOST_LEVERS, Row, RowFault, SpelledRow, When, read_spelled};
+use locking_table::{Cond, MOST_LEVERS, Row, RowFault, read_spelled};
 use rail_text::{Cause, LineFault, LineWords, NoMemory, number_in};
 use std::alloc::Global;
 
@@ -525,9 +524,9 @@ fn row_cause(fault: RowFault) -> Cause
 }
 
 // The row that a text spells.
-fn spelled_row(text: &[u8]) -> Result<SpelledRow, LineFault>
-    ensures gives { GivesLine as_row result (spelled_row (row_of text.now)) }
-    ensures row { IfOk result (λ row. IsRow (as_row row)) }
+fn spelled_row(text: &[u8]) -> Result<Row, LineFault>
+    ensures gives { GivesLine (λ row. row) result (spelled_row (row_of text.now)) }
+    ensures row { IfOk result IsRow }
     ensures memory { TakesNoMemory result }
 {
     match read_spelled(text) {
@@ -560,71 +559,42 @@ fn conds_worked(here: &BoxPlan, conds: &[Cond]) -> Result<(), LineFault>
     Ok(())
 }
 
-// This lever and the levers of these conditions are so.
-#[tactic(auto, unfolding(crate::specs::BoxLines::all_worked))]
-fn lever_and_conds_worked(here: &BoxPlan, lever: u32, conds: &[Cond]) -> Result<(), LineFault>
-    ensures gives { GivesLine (λ _. tt) result (all_worked here.now (lever ∷ map (λ cond. cond.lever) conds.now)) }
-    ensures memory { TakesNoMemory result }
-{
-    worked(here, lever)?;
-    conds_worked(here, conds)
-}
-
-// The object of a row and the levers of its conditions are so.
-fn behind_subject_worked(here: &BoxPlan, row: &SpelledRow) -> Result<(), LineFault>
-    ensures gives { GivesLine (λ _. tt) result
-        (all_worked here.now (row.now.object ∷ map (λ cond. cond.lever) (conds_of row.now.when))) }
-    ensures memory { TakesNoMemory result }
-{
-    match row.when {
-        When::Always => lever_and_conds_worked(here, row.object, &[]),
-        When::One(first) => lever_and_conds_worked(here, row.object, &[first]),
-        When::Both(first, second) => lever_and_conds_worked(here, row.object, &[first, second]),
-    }
-}
-
 // The levers of a row are so.
 #[tactic(auto, unfolding(crate::specs::BoxLines::all_worked))]
-fn row_worked(here: &BoxPlan, row: &SpelledRow) -> Result<(), LineFault>
-    ensures gives { GivesLine (λ _. tt) result (all_worked here.now (levers_of (as_row row.now))) }
+fn row_worked(here: &BoxPlan, row: &Row) -> Result<(), LineFault>
+    ensures gives { GivesLine (λ _. tt) result (all_worked here.now (levers_of row.now)) }
     ensures memory { TakesNoMemory result }
 {
     worked(here, row.subject)?;
-    behind_subject_worked(here, row)
-}
-
-// The row, to be kept.
-fn kept_row(alloc: Global, row: &SpelledRow) -> Result<Row, NoMemory>
-    ensures { IfOk result (λ kept. kept ≡ as_row row.now) }
-{
-    row.kept(alloc).or(Err(NoMemory))
+    worked(here, row.object)?;
+    conds_worked(here, row.when.as_slice())
 }
 
 // A row more, whose levers are so.
 #[tactic(auto, unfolding(crate::specs::BoxLines::with_row))]
-fn with_row(alloc: Global, here: &mut BoxPlan, row: &SpelledRow) -> Result<(), LineFault>
-    requires { IsRow (as_row row.now) }
-    ensures gives { GivesLine (λ _. here.new) result (with_row here.old (as_row row.now)) }
+fn with_row(here: &mut BoxPlan, row: Row) -> Result<(), LineFault>
+    requires { IsRow row }
+    ensures gives { GivesLine (λ _. here.new) result (with_row here.old row) }
     ensures name { here.new.name ≡ here.old.name }
-    ensures memory { FaultsFirst result (with_row here.old (as_row row.now)) }
+    ensures memory { FaultsFirst result (with_row here.old row) }
     ensures same { OnErr result (here.new ≡ here.old) }
 {
-    row_worked(here, row)?;
+    row_worked(here, &row)?;
     if here.table.len() >= MOST_ROWS {
         return Err(LineFault::Cause(Cause::TooMany));
     }
-    here.add_row(kept_row(alloc, row)?)?;
+    here.add_row(row)?;
     Ok(())
 }
 
 /// `row`, and behind it the text of a row.
 #[tactic(auto, unfolding(crate::specs::BoxLines::row_onto))]
-pub fn row_line(alloc: Global, here: &mut BoxPlan, words: &LineWords<'_>) -> Result<(), LineFault>
+pub fn row_line(here: &mut BoxPlan, words: &LineWords<'_>) -> Result<(), LineFault>
     ensures gives { GivesLine (λ _. here.new) result (row_onto here.old words.now) }
     ensures name { here.new.name ≡ here.old.name }
     ensures memory { FaultsFirst result (row_onto here.old words.now) }
     ensures same { OnErr result (here.new ≡ here.old) }
 {
     let row = spelled_row(rest(words))?;
-    with_row(alloc, here, &row)
+    with_row(here, row)
 }

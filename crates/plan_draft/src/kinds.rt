@@ -194,7 +194,7 @@ fn box_with(
         Stage::Clear => clear_line(alloc, here, words),
         Stage::Permissive => permissive_line(here, words),
         Stage::Track => track_line(alloc, here, words),
-        Stage::Row => row_line(alloc, here, words),
+        Stage::Row => row_line(here, words),
         _ => Err(LineFault::Cause(Cause::WrongKeyword)),
     }
 }

@@ -14,4 +14,4 @@ returns c =
     c.from-subject.ensures c.from-object.ensures
     (c.idle_at_ends.ensures.none
     ∙ ap (λ (conds : List Cond). list_all (acts (stand_of c.args.ends.now c.args.lever AtMid)) conds)
-    c.as_slice.ensures)
+    c.as_slice.ensures.same)
