@@ -12,11 +12,11 @@ use Rattle.line_law.specs.declared.call.Reply.TheVariants.{BellNotYet, Turned, S
 use Rattle.line_law.specs.declared.call.Reply.TheVariants.{PulledUnder, HeldByInstrument, Entered, SectionFull}
 use Rattle.line_law.specs.declared.call.Reply.TheVariants.{TrainNotYet, Berthed, NoTrainAt, Cleared}
 use Rattle.word_laws.specs.Footprint.{Kind, BellWord, BlockWord, PlainLineWord, way_at}
-use Rattle.line_law.specs.History.{after_entry, part_of}
+use Rattle.line_law.specs.History.{IsLegal, after_entry, part_of}
 use Rattle.line_law.specs.Law.{pair_of, step}
 use Rattle.line_law.specs.States.{LineState, opening_state}
 use Rattle.word_laws.specs.TellsWord.{kind_told}
-use Rattle.train_register.specs.Registers.{RegisterFields}
+use Rattle.train_register.specs.Registers.{AreParts, RegisterFields}
 
 -- ---- what keeps an entry back
 
@@ -118,3 +118,13 @@ IsInOrder plan es = IsOrderFrom plan (opening_state plan) (parts_of plan es) es
 -- a journal is the order of the entries of a line's registers
 abbrev pub IsOrder : PlanFields → List RegisterFields → List Entry → Type 0
 IsOrder plan registers es = IsOrderFrom plan (opening_state plan) (lists_of registers) es
+
+-- What comes of the merge: the journal is the order of the entries of a line's registers, and a legal history with
+-- these registers as its parts; so it stands in the order of its own parts, and has as many entries as any such history.
+pub record IsMergeOf (plan : PlanFields) (registers : List RegisterFields) (journal : List Entry) : Type 0 where
+  pub order : IsOrder plan registers journal
+  pub legal : IsLegal plan journal
+  pub parts : AreParts plan journal registers
+  pub in_order : IsInOrder plan journal
+  pub count : (history : List Entry) → IsLegal plan history → AreParts plan history registers
+      → length journal ≡ length history

@@ -10,4 +10,4 @@ mod lines;
 mod merging;
 
 pub use laws::{exchange_law, order_law, parts_law, reply_law};
-pub use merging::merge;
+pub use merging::{merge, merged};

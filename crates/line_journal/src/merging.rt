@@ -1,18 +1,16 @@
 //! The merge of registers into the journal.
 
 ghost use Rattle.std.specs.Prelude.{◌≡◌, ◌↔◌, ◌<◌, ◌+◌, ◌-◌, ◌≤◌, ◌∷◌, if◌then◌else◌};
-ghost use Rattle.std.specs.Prelude.{List, IfOk, IsTrue, All, true, false, drop, replicate, length, slice_set};
+ghost use Rattle.std.specs.Prelude.{◌++◌, IfOk, IsTrue, OnOk, All, true, false, drop, replicate, length, slice_set};
 ghost use Rattle.std.specs.Prelude.{option_copied};
-ghost use Rattle.line_law.specs.declared.call.Entry.{Entry};
-ghost use Rattle.line_law.specs.History.{IsLegal};
 ghost use Rattle.line_law.specs.States.{opening_pair};
-ghost use Rattle.train_register.specs.Registers.{AreParts};
 ghost use Rattle.word_laws.specs.Footprint.{way_at};
 ghost use Rattle.line_journal.specs.Keepers.{AreRests, IsFirstAwake, IsOpen, IsPlaced, NoneAsleepOpen, NoneOpenBelow};
 ghost use Rattle.line_journal.specs.Keepers.{opens_from, pair_woken, woken};
 ghost use Rattle.line_journal.specs.Lists.{AreOfBoxes, HasSpaceFor, HaveEnded};
 ghost use Rattle.line_journal.specs.Merging.{AreTallies, KeepsMerging};
-ghost use Rattle.line_journal.specs.Order.{IsInOrder, IsOrder, list_at};
+ghost use Rattle.line_law.specs.History.{entries_at};
+ghost use Rattle.line_journal.specs.Order.{IsMergeOf, list_at};
 ghost use Rattle.line_journal.specs.Halves.{made, pair_for};
 
 use crate::fitting::{fits, is_on_word, make};
@@ -174,19 +172,30 @@ fn tallies_in(entries: &[Entry]) -> usize
     entries.len()
 }
 
+// Puts these entries, where they stand, behind others.
+fn put_each<'a>(entries: &mut Vec<&'a Entry>, more: &'a [Entry]) -> Result<(), NoMemory>
+    ensures { OnOk result (entries_at entries.new.items ≡ entries_at entries.old.items ++ more.now) }
+{
+    for entry in more {
+        entries.push(entry)?;
+    }
+    Ok(())
+}
+
 // Places the next entries of a box as long as they were decided on its own tally: where no lower box is open, one after
 // another is the next.
-fn place_tallies(
-    left: &mut Left<'_>,
-    entries: &mut Vec<Entry>,
+fn place_tallies<'a>(
+    left: &mut Left<'a>,
+    entries: &mut Vec<&'a Entry>,
     box_no: usize,
 ) -> Result<(), NoMemory>
     requires { box_no < length left.old }
-    ensures { IfOk result (λ done. KeepsMerging box_no entries.old.items left.old entries.new.items left.new) }
+    ensures { IfOk result (λ done. KeepsMerging box_no (entries_at entries.old.items) left.old
+        (entries_at entries.new.items) left.new) }
 {
     let next = left.of_box(box_no);
     let many = tallies_in(next);
-    entries.extend_from_slice(&next[..many])?;
+    put_each(entries, &next[..many])?;
     left.place_some(box_no, many);
     Ok(())
 }
@@ -226,19 +235,14 @@ fn open_rests(alloc: Global, plan: &Plan, left: &Left<'_>) -> Result<Vec<usize>,
     Ok(rests)
 }
 
-/// Merges the registers of a line that has ended into its journal, or tells that memory ran out. The registers are the
-/// parts of one legal history of the line. At each point the next entry is that of the lowest-numbered box whose next
-/// entry has the reply that the law gives there, and is kept back by no remaining entry of another box. That never gets
-/// stuck; the journal is a legal history of the line, with these registers as its parts, and so in the order of its own
-/// parts.
-pub fn merge(alloc: Global, plan: &Plan, ended: &Ended) -> Result<Journal, NoMemory>
+/// Merges the registers of a line that has ended into its journal, or tells that memory ran out: the entries of the
+/// journal, where they stand in the registers. The registers are the parts of one legal history of the line. At each
+/// point the next entry is that of the lowest-numbered box whose next entry has the reply that the law gives there, and
+/// is kept back by no remaining entry of another box. That never gets stuck; the journal is a legal history of the
+/// line, with these registers as its parts, and so in the order of its own parts.
+pub fn merged<'a>(alloc: Global, plan: &Plan, ended: &'a Ended) -> Result<Vec<&'a Entry>, NoMemory>
     requires { HaveEnded plan.now ended.now.registers }
-    ensures order { IfOk result (λ journal. IsOrder plan.now ended.now.registers journal.entries) }
-    ensures legal { IfOk result (λ journal. IsLegal plan.now journal.entries) }
-    ensures parts { IfOk result (λ journal. AreParts plan.now journal.entries ended.now.registers) }
-    ensures in_order { IfOk result (λ journal. IsInOrder plan.now journal.entries) }
-    ensures count { IfOk result (λ journal. (history : List Entry) → IsLegal plan.now history
-        → AreParts plan.now history ended.now.registers → length journal.entries ≡ length history) }
+    ensures { IfOk result (λ entries. IsMergeOf plan.now ended.now.registers (entries_at entries.items)) }
 {
     let mut pairs = open_pairs(alloc, plan.boxes.len() - 1)?;
     let mut left = Left::new(alloc, ended.registers.as_slice())?;
@@ -252,10 +256,30 @@ pub fn merge(alloc: Global, plan: &Plan, ended: &Ended) -> Result<Journal, NoMem
             plan, &mut pairs, &mut left, &mut rests, &mut awake, &mut from, box_no,
         );
         if let Some(entry) = placed {
-            entries.push(*entry)?;
+            entries.push(entry)?;
         }
     }
+    Ok(entries)
+}
+
+// The same entries by themselves.
+fn copied(alloc: Global, entries: &[&Entry]) -> Result<Vec<Entry>, NoMemory>
+    ensures { IfOk result (λ copied. copied.items ≡ entries_at entries.now) }
+{
+    let mut copied = Vec::with_capacity(alloc, entries.len())?;
+    for entry in entries {
+        copied.push(**entry)?;
+    }
+    Ok(copied)
+}
+
+/// The journal into which the registers of a line that has ended are merged, as [`merged`] does it.
+pub fn merge(alloc: Global, plan: &Plan, ended: &Ended) -> Result<Journal, NoMemory>
+    requires { HaveEnded plan.now ended.now.registers }
+    ensures { IfOk result (λ journal. IsMergeOf plan.now ended.now.registers journal.entries) }
+{
+    let entries = merged(alloc, plan, ended)?;
     Ok(Journal {
-        entries: Items::from_vec(entries),
+        entries: Items::from_vec(copied(alloc, &entries)?),
     })
 }

@@ -3,7 +3,9 @@ use Rattle.std.proofs.Common.{◌≡◌, ◌≢◌, ◌⊎◌, ℕ, ◌+◌, ◌
 use Rattle.std.proofs.Common.{◌++◌, length, take, drop, get_or, replicate, refl, sym, ap, subst, ◌∙◌, arith}
 use Rattle.std.proofs.lemmas.Bool.{cases_lt}
 use Rattle.std.proofs.lemmas.Bool.Decides.{eqb_tells, nat_tests}
-use Rattle.std.proofs.lemmas.List.{get_or-set_other, get_or-set_same, get_or_past, length-replicate, length-set}
+use Rattle.std.specs.Borrow.{Bor}
+use Rattle.std.proofs.lemmas.List.{get_or-map, get_or-set_other, get_or-set_same, get_or_past, length-replicate}
+use Rattle.std.proofs.lemmas.List.{length-set}
 use Rattle.std.proofs.lemmas.List.{take_at}
 use Rattle.block_words.specs.declared.Way.{Way}
 use Rattle.block_words.specs.declared.Way.TheVariants.{Up, Down}
@@ -11,7 +13,7 @@ use Rattle.line_plan.specs.Plans.{IsPlan, PlanFields}
 use Rattle.line_plan.specs.Sections.{IsSection, advance_of}
 use Rattle.line_law.specs.declared.call.Entry.{Entry}
 use Rattle.line_law.specs.declared.ways.ByWay.{ByWay}
-use Rattle.line_law.specs.History.{IsLegal}
+use Rattle.line_law.specs.History.{IsLegal, entries_at}
 use Rattle.line_law.specs.Ways.{of_way}
 use Rattle.line_law.proofs.Opens.{all_one}
 use Rattle.line_report.specs.Between.{AreMost, CountsBeside, CountsOn, MayGain, pairs_after, pair_after, no_trains}
@@ -19,6 +21,7 @@ use Rattle.line_report.specs.Between.{section_between, trains_at}
 use Rattle.line_report.specs.Gains.{count_after, counts_trains}
 use Rattle.line_report.specs.declared.sections.HeldTrains.{HeldTrains}
 use Rattle.line_report.proofs.HeldTold.{none_gains, none_loses, third_gains, third_loses}
+use Rattle.line_report.proofs.Turns.{no_entry}
 use Rattle.line_report.proofs.MostTrains.{IsCounted, counted_first, counted_last, counted_more, counted_still}
 
 -- both sections of a pair are sections of the line
@@ -206,3 +209,12 @@ pairs_end plan es i trains le h = record {
       λ p way lt. counted_last plan es (section_between p way) i (of_way (trains_at trains p) way) le
       (h.counted p way lt);
 }
+
+-- the trains are counted on by the entry where one points
+pub counts_at : (plan : PlanFields) (es : List (Bor Entry)) (i : ℕ) (d : Bor Entry)
+    (read old new : List (ByWay HeldTrains)) → i < length es → read ≡ old → CountsOn plan (get_or es i d).now read new
+    → CountsOn plan (get_or (entries_at es) i no_entry) old new
+counts_at plan es i d read old new within same counts =
+    subst (λ (e : Entry). CountsOn plan e old new)
+    (sym (get_or-map (λ (entry : Bor Entry). entry.now) es i d no_entry within))
+    (subst (λ (trains : List (ByWay HeldTrains)). CountsOn plan (get_or es i d).now trains new) same counts)

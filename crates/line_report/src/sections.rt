@@ -4,7 +4,7 @@ ghost use Rattle.std.specs.Prelude.{◌≡◌, ◌+◌, ◌++◌, ◌∷◌, ◌
 ghost use Rattle.std.specs.Prelude.{IsOk, OnErr, string_bytes};
 ghost use Rattle.line_plan.specs.Plans.{box_name};
 ghost use Rattle.line_plan.specs.Sections.{IsSection, advance_of, limit_of};
-ghost use Rattle.line_law.specs.History.{IsLegal};
+ghost use Rattle.line_law.specs.History.{IsLegal, entries_at};
 ghost use Rattle.line_law.specs.Sections.{IsClean};
 ghost use Rattle.line_report.specs.Asked.{AreFewEntries};
 ghost use Rattle.line_report.specs.Between.{AreMost, CountsBeside, CountsOn, MayGain, no_trains, pair_after};
@@ -272,11 +272,11 @@ pub fn no_trains(alloc: Global, pairs: usize) -> Result<Vec<ByWay<HeldTrains>>, 
 fn most_by_pairs(
     alloc: Global,
     plan: &Plan,
-    entries: &[Entry],
+    entries: &[&Entry],
 ) -> Result<Vec<ByWay<HeldTrains>>, NoMemory>
-    requires legal { IsLegal plan.now entries.now }
-    requires few { AreFewEntries entries.now }
-    ensures { IfOk result (λ trains. AreMost plan.now entries.now trains.items) }
+    requires legal { IsLegal plan.now (entries_at entries.now) }
+    requires few { AreFewEntries (entries_at entries.now) }
+    ensures { IfOk result (λ trains. AreMost plan.now (entries_at entries.now) trains.items) }
 {
     plan.meets_conditions();
     let mut trains = no_trains(alloc, plan.boxes.len() - 1)?;
@@ -340,21 +340,22 @@ fn put_pairs(out: &mut String, plan: &Plan, trains: &[ByWay<HeldTrains>]) -> Res
 
 /// Puts the lines of all sections behind a text: for each pair of neighbours in order that of the down line, and then
 /// that of the up line, each with the most trains that the section held after any of the entries of a legal journal, or
-/// before them all. There are fewer than 2^32 entries. Where memory runs out the text is as it was.
+/// before them all. The entries are read where they stand; there are fewer than 2^32. Where memory runs out the text is
+/// as it was.
 #[tactic(auto, using(crate::proofs::PairTexts::all_pairs))]
 pub fn put_sections(
     out: &mut String,
     alloc: Global,
     plan: &Plan,
-    journal: &Journal,
+    entries: &[&Entry],
 ) -> Result<(), NoMemory>
-    requires legal { IsLegal plan.now journal.now.entries }
-    requires few { AreFewEntries journal.now.entries }
+    requires legal { IsLegal plan.now (entries_at entries.now) }
+    requires few { AreFewEntries (entries_at entries.now) }
     ensures put { OnOk result
-        (string_bytes out.new ≡ string_bytes out.old ++ sections_text plan.now journal.now.entries) }
+        (string_bytes out.new ≡ string_bytes out.old ++ sections_text plan.now (entries_at entries.now)) }
     ensures kept { OnErr result (string_bytes out.new ≡ string_bytes out.old) }
 {
-    let trains = most_by_pairs(alloc, plan, journal.entries.as_slice())?;
+    let trains = most_by_pairs(alloc, plan, entries)?;
     let mut lines = String::new(alloc);
     put_pairs(&mut lines, plan, &trains)?;
     put_text(out, lines)?;

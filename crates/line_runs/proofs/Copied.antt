@@ -3,7 +3,13 @@ use Rattle.std.proofs.Common.{◌≡◌, ◌≢◌, ℕ, zero, suc, ◌+◌, ◌
 use Rattle.std.proofs.Common.{length, map, drop, get_or, slice_set, Option, Some, refl, sym, ap, subst, ◌∙◌}
 use Rattle.std.proofs.Common.{append_assoc}
 use Rattle.std.proofs.Common.{arith, codes, decimal, ◌⊎◌, inl, inr}
+use Rattle.std.proofs.Common.{◌-◌, take, take_all}
+use Rattle.std.proofs.lemmas.List.{drop-map, length-drop}
+use Rattle.std.proofs.Math.ListN.{get_or-map as get_or-map-any}
+use Rattle.std.specs.Borrow.{Bor}
 use Rattle.std.specs.Option.{unwrap_or}
+use Rattle.std.specs.Prelude.{All}
+use Rattle.std.proofs.lemmas.List.Elements.{All-get_or}
 use Rattle.std.proofs.lemmas.Bool.{eq-eqb}
 use Rattle.std.proofs.lemmas.Bool.Decides.{eqb_tells}
 use Rattle.std.proofs.lemmas.List.{append-nil, drop_more, get_or-map, get_or-set_other, get_or-set_same, length-append}
@@ -17,12 +23,16 @@ use Rattle.rail_text.proofs.PrintedWords.{decimal_is_word, list_all-both, name_i
 use Rattle.rail_text.proofs.PrintedWords.{word_lacks_space}
 use Rattle.line_plan.specs.Plans.{IsPlan, PlanFields, box_name, names_of}
 use Rattle.line_law.specs.declared.call.Entry.{Entry}
-use Rattle.line_law.specs.History.{part_of}
+use Rattle.line_law.specs.History.{entries_at, part_of}
 use Rattle.script_text.specs.Entries.{IsSpelled, told_text}
 use Rattle.script_text.proofs.Named.{valid_at}
 use Rattle.train_register.specs.Registers.{AreParts, RegisterFields, no_register, register_at, register_text}
 use Rattle.train_register.specs.Registers.{told_line, told_lines}
 use Rattle.line_report.specs.Asked.{AreFewEntries}
+use Rattle.line_report.specs.Journals.{entries_text, entry_text}
+use Rattle.line_report.specs.Refusals.{refused_entries, refused_entry}
+use Rattle.line_report.proofs.Entries.{more_entries}
+use Rattle.line_runs.proofs.Refused.{more_refused}
 use Rattle.line_report.proofs.EntryLines.{line_lacks_end}
 use Rattle.line_runs.specs.Copying.{AreLinesLeft, AreToldLines, behind_line, told_in}
 
@@ -256,3 +266,76 @@ left_more plan es i d lines other rest is lt spelled left behind =
     subst (λ (t : List ℕ). AreLinesLeft plan (drop (i + 1) es) (slice_set lines e.box_no t))
     (sym (behind ∙ ap (λ (t : List ℕ). behind_line t) read))
     (left_next plan e (drop (i + 1) es) lines is spelled here)
+
+-- ---- the same, of entries where these point
+
+pub spelled_at : (plan : PlanFields) (es : List (Bor Entry)) (i : ℕ) (d : Bor Entry) → i < length es
+    → All (IsSpelled plan) (entries_at es) → IsSpelled plan (get_or es i d).now
+spelled_at plan es i d lt spelled =
+    subst (IsSpelled plan) (get_or-map-any (λ (e : Bor Entry). e.now) es i d)
+    (All-get_or (IsSpelled plan) (entries_at es) i d.now
+    (omega (arith, lt, length-map es (λ (e : Bor Entry). e.now))) spelled)
+
+-- the register of its box is one of those that are left
+pub box_within : (plan : PlanFields) (es : List (Bor Entry)) (i : ℕ) (d : Bor Entry) (lines : List (List ℕ))
+    → i < length es → All (IsSpelled plan) (entries_at es) → AreLinesLeft plan (drop i (entries_at es)) lines
+    → (get_or es i d).now.box_no < length lines
+box_within plan es i d lines lt spelled left =
+    omega (arith, (spelled_at plan es i d lt spelled).box, left.each)
+
+pub told_at : (plan : PlanFields) (es : List (Bor Entry)) (i : ℕ) (d : Bor Entry) (lines : List (List ℕ))
+    (other told : List ℕ) → IsPlan plan → i < length es → All (IsSpelled plan) (entries_at es)
+    → AreLinesLeft plan (drop i (entries_at es)) lines
+    → told ≡ told_in (get_or lines (get_or es i d).now.box_no other) → told ≡ told_text plan (get_or es i d).now
+told_at plan es i d lines other told is lt spelled left told_is =
+    let here : get_or (entries_at es) i d.now ≡ (get_or es i d).now =
+    get_or-map-any (λ (e : Bor Entry). e.now) es i d in
+    let within : i < length (entries_at es) = omega (arith, lt, length-map es (λ (e : Bor Entry). e.now)) in
+    subst (λ (e : Entry). told ≡ told_text plan e) here
+    (told_here plan (entries_at es) i d.now lines other told is within
+    (All-get_or (IsSpelled plan) (entries_at es) i d.now within spelled) left
+    (subst (λ (e : Entry). told ≡ told_in (get_or lines e.box_no other)) (sym here) told_is))
+
+pub left_at : (plan : PlanFields) (es : List (Bor Entry)) (i : ℕ) (d : Bor Entry) (lines : List (List ℕ))
+    (other rest : List ℕ) → IsPlan plan → i < length es → All (IsSpelled plan) (entries_at es)
+    → AreLinesLeft plan (drop i (entries_at es)) lines
+    → rest ≡ behind_line (get_or lines (get_or es i d).now.box_no other)
+    → AreLinesLeft plan (drop (i + 1) (entries_at es)) (slice_set lines (get_or es i d).now.box_no rest)
+left_at plan es i d lines other rest is lt spelled left behind =
+    let here : get_or (entries_at es) i d.now ≡ (get_or es i d).now =
+    get_or-map-any (λ (e : Bor Entry). e.now) es i d in
+    let within : i < length (entries_at es) = omega (arith, lt, length-map es (λ (e : Bor Entry). e.now)) in
+    subst (λ (e : Entry). AreLinesLeft plan (drop (i + 1) (entries_at es)) (slice_set lines e.box_no rest)) here
+    (left_more plan (entries_at es) i d.now lines other rest is within
+    (All-get_or (IsSpelled plan) (entries_at es) i d.now within spelled) left
+    (subst (λ (e : Entry). rest ≡ behind_line (get_or lines e.box_no other)) (sym here) behind))
+
+pub entries_more_at : (plan : PlanFields) (number : ℕ) (es : List (Bor Entry)) (i : ℕ) (d : Bor Entry)
+    (old out new : List ℕ) → i < length es → out ≡ old ++ entries_text plan number (take i (entries_at es))
+    → new ≡ out ++ entry_text plan (number + i) (get_or es i d).now
+    → new ≡ old ++ entries_text plan number (take (i + 1) (entries_at es))
+entries_more_at plan number es i d old out new lt before more =
+    let here : get_or (entries_at es) i d.now ≡ (get_or es i d).now =
+    get_or-map-any (λ (e : Bor Entry). e.now) es i d in
+    more_entries plan number (entries_at es) i d.now old out new
+    (omega (arith, lt, length-map es (λ (e : Bor Entry). e.now))) before
+    (subst (λ (e : Entry). new ≡ out ++ entry_text plan (number + i) e) (sym here) more)
+
+pub refused_more_at : (plan : PlanFields) (number : ℕ) (es : List (Bor Entry)) (i : ℕ) (d : Bor Entry)
+    (old out new : List ℕ) → i < length es → out ≡ old ++ refused_entries plan number (take i (entries_at es))
+    → new ≡ out ++ refused_entry plan (number + i) (get_or es i d).now
+    → new ≡ old ++ refused_entries plan number (take (i + 1) (entries_at es))
+refused_more_at plan number es i d old out new lt before more =
+    let here : get_or (entries_at es) i d.now ≡ (get_or es i d).now =
+    get_or-map-any (λ (e : Bor Entry). e.now) es i d in
+    more_refused plan number (entries_at es) i d.now old out new
+    (omega (arith, lt, length-map es (λ (e : Bor Entry). e.now))) before
+    (subst (λ (e : Entry). new ≡ out ++ refused_entry plan (number + i) e) (sym here) more)
+
+-- those behind the first so many
+pub behind_is : (many : ℕ) (es : List (Bor Entry))
+    → entries_at (take (length es - many) (drop many es)) ≡ drop many (entries_at es)
+behind_is many es =
+    ap (λ (rest : List (Bor Entry)). entries_at rest)
+    (take_all (length es - many) (drop many es) (let e = length-drop many es in omega (arith, e)))
+    ∙ sym (drop-map (λ (e : Bor Entry). e.now) many es)

@@ -4,6 +4,7 @@
 ghost use Rattle.std.specs.Prelude.{◌≡◌, ◌+◌, ◌<◌, ◌≤◌, ◌^◌, ◌++◌, [], ◌∷◌, All, IfOk, OnOk};
 ghost use Rattle.std.specs.Prelude.{codes, decimal, drop, length, map};
 ghost use Rattle.line_plan.specs.Plans.{box_name};
+ghost use Rattle.line_law.specs.History.{entries_at};
 ghost use Rattle.line_report.specs.Journals.{entries_text, entry_text};
 ghost use Rattle.line_report.specs.Refusals.{refused_entries, refused_entry};
 ghost use Rattle.line_runs.specs.Copying.{AreCopied, AreLinesLeft, behind_line, behind_word, first_line};
@@ -141,11 +142,11 @@ fn put_entry(
 }
 
 // Passes over the lines of the first entries, so many of them.
-fn pass_over(plan: &Plan, entries: &[Entry], many: usize, lines: &mut [ToldLines<'_>])
+fn pass_over(plan: &Plan, entries: &[&Entry], many: usize, lines: &mut [ToldLines<'_>])
     requires many { many ≤ length entries.now }
-    requires spelled { All (IsSpelled plan.now) entries.now }
-    requires left { AreLinesLeft plan.now entries.now lines.old }
-    ensures { AreLinesLeft plan.now (drop many entries.now) lines.new }
+    requires spelled { All (IsSpelled plan.now) (entries_at entries.now) }
+    requires left { AreLinesLeft plan.now (entries_at entries.now) lines.old }
+    ensures { AreLinesLeft plan.now (drop many (entries_at entries.now)) lines.new }
 {
     plan.meets_conditions();
     for place in 0..many {
@@ -160,16 +161,16 @@ fn copy_entries(
     refused: &mut Vec<u8>,
     plan: &Plan,
     number: usize,
-    entries: &[Entry],
+    entries: &[&Entry],
     lines: &mut [ToldLines<'_>],
 ) -> Result<(), AllocError>
     requires numbers { number + length entries.now < 2 ^ 64 }
-    requires spelled { All (IsSpelled plan.now) entries.now }
-    requires left { AreLinesLeft plan.now entries.now lines.old }
+    requires spelled { All (IsSpelled plan.now) (entries_at entries.now) }
+    requires left { AreLinesLeft plan.now (entries_at entries.now) lines.old }
     ensures journal { OnOk result
-        (journal.new.items ≡ journal.old.items ++ entries_text plan.now number entries.now) }
+        (journal.new.items ≡ journal.old.items ++ entries_text plan.now number (entries_at entries.now)) }
     ensures refused { OnOk result
-        (refused.new.items ≡ refused.old.items ++ refused_entries plan.now number entries.now) }
+        (refused.new.items ≡ refused.old.items ++ refused_entries plan.now number (entries_at entries.now)) }
 {
     plan.meets_conditions();
     for (place, entry) in entries.iter().enumerate() {
@@ -177,6 +178,14 @@ fn copy_entries(
         put_entry(journal, refused, plan, number + place, entry, told)?;
     }
     Ok(())
+}
+
+// The entries behind the first so many.
+fn behind<'a, 'b>(entries: &'b [&'a Entry], many: usize) -> &'b [&'a Entry]
+    requires { many ≤ length entries.now }
+    ensures { entries_at result.now ≡ drop many (entries_at entries.now) }
+{
+    &entries[many..]
 }
 
 /// What is copied of some entries: their lines in the journal, and those of them whose replies are refused. Contracts
@@ -196,39 +205,40 @@ impl Model for CopiedLines {
 }
 
 /// Copies the journal's lines of entries, but for the first so many, from the printed registers. There is room for so
-/// many bytes of the lines at once.
+/// many bytes of the lines at once, and of those of the refused calls: what isn't filled takes no memory.
 pub(crate) fn copy_from(
     alloc: Global,
     plan: &Plan,
-    entries: &[Entry],
+    entries: &[&Entry],
     from: usize,
     registers: &PrintedRegisters,
     room: usize,
 ) -> Result<CopiedLines, NoMemory>
     requires from { from ≤ length entries.now }
     requires numbers { length entries.now + 1 < 2 ^ 64 }
-    requires spelled { All (IsSpelled plan.now) entries.now }
-    requires left { AreLinesLeft plan.now entries.now (map behind_line registers.now) }
-    ensures { IfOk result (AreCopied plan.now (from + 1) (drop from entries.now)) }
+    requires spelled { All (IsSpelled plan.now) (entries_at entries.now) }
+    requires left { AreLinesLeft plan.now (entries_at entries.now) (map behind_line registers.now) }
+    ensures { IfOk result (AreCopied plan.now (from + 1) (drop from (entries_at entries.now))) }
 {
     let mut journal = Vec::with_capacity(alloc, room)?;
-    let mut refused = Vec::new(alloc);
+    let mut refused = Vec::with_capacity(alloc, room)?;
     let mut lines = registers.told_lines(alloc)?;
     pass_over(plan, entries, from, &mut lines);
+    let others = behind(entries, from);
     copy_entries(
         &mut journal,
         &mut refused,
         plan,
         from + 1,
-        &entries[from..],
+        others,
         &mut lines,
     )?;
     Ok(CopiedLines { journal, refused })
 }
 
 /// What stands before the lines of the refused calls: `refusals`, and how many they are.
-pub(crate) fn refusals_heading(alloc: Global, entries: &[Entry]) -> Result<Vec<u8>, AllocError>
-    ensures { IfOk result (λ text. text.items ≡ refusals_heading entries.now) }
+pub(crate) fn refusals_heading(alloc: Global, entries: &[&Entry]) -> Result<Vec<u8>, AllocError>
+    ensures { IfOk result (λ text. text.items ≡ refusals_heading (entries_at entries.now)) }
 {
     let mut out = Vec::new(alloc);
     out.extend_from_slice(b"refusals ")?;

@@ -1,7 +1,7 @@
 //! The output of a line that was worked: its registers are printed on threads, and the journal is copied from them.
 
 ghost use Rattle.std.specs.Prelude.{◌≡◌, ◌+◌, ◌<◌, ◌≤◌, ◌^◌, All, IfOk, codes, drop, length, map, string_bytes};
-ghost use Rattle.line_law.specs.History.{IsLegal};
+ghost use Rattle.line_law.specs.History.{IsLegal, entries_at};
 ghost use Rattle.line_report.specs.Asked.{AreFewEntries};
 ghost use Rattle.line_report.specs.Journals.{heading_text};
 ghost use Rattle.line_report.specs.Sections.{sections_text};
@@ -15,8 +15,8 @@ ghost use Rattle.train_register.specs.Registers.{IsPrintable, register_text};
 use crate::copying::{CopiedLines, copy_from, refusals_heading};
 use crate::output::Output;
 use crate::registers::PrintedRegisters;
-use crate::worked::{WorkedLine, merged_journal};
-use line_law::{Entry, Journal};
+use crate::worked::{WorkedLine, merged_entries, pointed_at};
+use line_law::Entry;
 use line_plan::Plan;
 use line_report::{put_heading, put_sections};
 use rail_text::NoMemory;
@@ -96,37 +96,34 @@ pub(crate) fn print_registers<R: Threads + Sync>(
 }
 
 /// Merges the registers of a line whose scripts were worked into its journal, and prints them meanwhile on threads.
-/// They aren't kept behind that.
-pub(crate) fn merged_and_printed<R: Threads + Sync>(
+pub(crate) fn merged_and_printed<'a, R: Threads + Sync>(
     rt: &R,
     alloc: Global,
     plan: &Plan,
     scripts: &[Script],
-    ended: Ended,
-) -> Result<(Journal, PrintedRegisters), NoMemory>
+    ended: &'a Ended,
+) -> Result<(Vec<&'a Entry>, PrintedRegisters), NoMemory>
     requires scripts { AreScriptsOf plan.now scripts.now }
-    requires worked { AreWorked plan.now scripts.now ended.registers }
+    requires worked { AreWorked plan.now scripts.now ended.now.registers }
     ensures journal { IfOk result
-        (λ r. IsJournalOf (record { plan = plan.now; scripts = scripts.now }) r.0.entries) }
-    ensures printed { IfOk result (λ r. HasTexts plan.now r.0.entries r.1) }
+        (λ r. IsJournalOf (record { plan = plan.now; scripts = scripts.now }) (entries_at r.0.items)) }
+    ensures printed { IfOk result (λ r. HasTexts plan.now (entries_at r.0.items) r.1) }
 {
     plan.meets_conditions();
-    let parts = &ended;
-    let journal = || -> Result<Journal, NoMemory>
-        requires { AreScriptsOf plan.now scripts.now × AreWorked plan.now scripts.now parts.now.registers }
-        ensures { IfOk result (λ journal. IsWorkedLine
+    let entries = || -> Result<Vec<&Entry>, NoMemory>
+        requires { AreScriptsOf plan.now scripts.now × AreWorked plan.now scripts.now ended.now.registers }
+        ensures { IfOk result (λ entries. IsWorkedLine
             (record { plan = plan.entry.now; scripts = scripts.entry.now })
-            journal.entries parts.entry.now.registers) }
-    { merged_journal(alloc, plan, scripts, parts) };
+            (entries_at entries.items) ended.entry.now.registers) }
+    { merged_entries(alloc, plan, scripts, ended) };
     let registers = || -> Result<PrintedRegisters, NoMemory>
-        requires { All (IsPrintable plan.now) parts.now.registers }
+        requires { All (IsPrintable plan.now) ended.now.registers }
         ensures { IfOk result (λ printed. printed ≡ map
             (λ register. register_text plan.entry.now register.box_no register.entries)
-            parts.entry.now.registers) }
-    { print_registers(rt, alloc, plan, parts.registers.as_slice()) };
-    let (journal, registers) = join(rt, journal, registers);
-    drop(ended);
-    Ok((journal?, registers?))
+            ended.entry.now.registers) }
+    { print_registers(rt, alloc, plan, ended.registers.as_slice()) };
+    let (entries, registers) = join(rt, entries, registers);
+    Ok((entries?, registers?))
 }
 
 // The journal's lines, copied from the registers that are printed: of the entries of its front half on one thread, of
@@ -135,14 +132,13 @@ fn copy_halves<R: Threads + Sync>(
     rt: &R,
     alloc: Global,
     plan: &Plan,
-    journal: &Journal,
+    entries: &[&Entry],
     registers: &PrintedRegisters,
 ) -> Result<(CopiedLines, CopiedLines), NoMemory>
-    requires { HasTexts plan.now journal.now.entries registers.now }
-    ensures { IfOk result (λ r. AreHalves plan.now journal.now.entries r.0 r.1) }
+    requires { HasTexts plan.now (entries_at entries.now) registers.now }
+    ensures { IfOk result (λ r. AreHalves plan.now (entries_at entries.now) r.0 r.1) }
 {
     plan.meets_conditions();
-    let entries = journal.entries.as_slice();
     let half = entries.len() / 2;
     let room = registers
         .room()
@@ -150,29 +146,29 @@ fn copy_halves<R: Threads + Sync>(
         / 2;
     let in_front = &entries[..half];
     let front = || -> Result<CopiedLines, NoMemory>
-        requires { All (IsSpelled plan.now) in_front.now
-            × AreLinesLeft plan.now in_front.now (map behind_line registers.now)
+        requires { All (IsSpelled plan.now) (entries_at in_front.now)
+            × AreLinesLeft plan.now (entries_at in_front.now) (map behind_line registers.now)
             × (length in_front.now + 1 < 2 ^ 64) }
-        ensures { IfOk result (AreCopied plan.entry.now 1 in_front.entry.now) }
+        ensures { IfOk result (AreCopied plan.entry.now 1 (entries_at in_front.entry.now)) }
     { copy_from(alloc, plan, in_front, 0, registers, room) };
     let behind = || -> Result<CopiedLines, NoMemory>
-        requires { All (IsSpelled plan.now) entries.now
-            × AreLinesLeft plan.now entries.now (map behind_line registers.now)
+        requires { All (IsSpelled plan.now) (entries_at entries.now)
+            × AreLinesLeft plan.now (entries_at entries.now) (map behind_line registers.now)
             × (half ≤ length entries.now) × (length entries.now + 1 < 2 ^ 64) }
-        ensures { IfOk result (AreCopied plan.entry.now (half + 1) (drop half entries.entry.now)) }
+        ensures { IfOk result (AreCopied plan.entry.now (half + 1) (drop half (entries_at entries.entry.now))) }
     { copy_from(alloc, plan, entries, half, registers, room) };
     let (front, behind) = join(rt, front, behind);
     Ok((front?, behind?))
 }
 
 // The most trains that each section held.
-fn print_sections(alloc: Global, plan: &Plan, journal: &Journal) -> Result<String, NoMemory>
-    requires legal { IsLegal plan.now journal.now.entries }
-    requires few { AreFewEntries journal.now.entries }
-    ensures { IfOk result (λ text. string_bytes text ≡ sections_text plan.now journal.now.entries) }
+fn print_sections(alloc: Global, plan: &Plan, entries: &[&Entry]) -> Result<String, NoMemory>
+    requires legal { IsLegal plan.now (entries_at entries.now) }
+    requires few { AreFewEntries (entries_at entries.now) }
+    ensures { IfOk result (λ text. string_bytes text ≡ sections_text plan.now (entries_at entries.now)) }
 {
     let mut text = String::new(alloc);
-    put_sections(&mut text, alloc, plan, journal)?;
+    put_sections(&mut text, alloc, plan, entries)?;
     Ok(text)
 }
 
@@ -200,12 +196,12 @@ fn print_end(alloc: Global) -> Result<Vec<u8>, AllocError>
 fn put_together(
     alloc: Global,
     plan: &Plan,
-    entries: &[Entry],
+    entries: &[&Entry],
     halves: (CopiedLines, CopiedLines),
     registers: PrintedRegisters,
     sections: String,
 ) -> Result<Output, AllocError>
-    ensures { IfOk result (λ output. output ≡ parts_text plan.now entries.now halves.0 halves.1 registers
+    ensures { IfOk result (λ output. output ≡ parts_text plan.now (entries_at entries.now) halves.0 halves.1 registers
         (string_bytes sections)) }
 {
     let (front, behind) = halves;
@@ -222,30 +218,29 @@ fn put_together(
     Ok(output)
 }
 
-/// The whole output of a line's journal, whose registers are printed already. The most trains of the sections are
-/// counted and printed on a thread, while the journal is copied from the registers.
+/// The whole output of a line, by the entries of its journal, whose registers are printed already. The most trains of
+/// the sections are counted and printed on a thread, while the journal is copied from the registers.
 pub(crate) fn print_whole<R: Threads + Sync>(
     rt: &R,
     alloc: Global,
     plan: &Plan,
-    journal: &Journal,
+    entries: &[&Entry],
     registers: PrintedRegisters,
 ) -> Result<Output, NoMemory>
-    requires { HasTexts plan.now journal.now.entries registers }
-    ensures { IfOk result (λ output. output ≡ output_text plan.now journal.now.entries) }
+    requires { HasTexts plan.now (entries_at entries.now) registers }
+    ensures { IfOk result (λ output. output ≡ output_text plan.now (entries_at entries.now)) }
 {
     let printed = &registers;
     let halves = || -> Result<(CopiedLines, CopiedLines), NoMemory>
-        requires { HasTexts plan.now journal.now.entries printed.now }
-        ensures { IfOk result (λ r. AreHalves plan.entry.now journal.entry.now.entries r.0 r.1) }
-    { copy_halves(rt, alloc, plan, journal, printed) };
+        requires { HasTexts plan.now (entries_at entries.now) printed.now }
+        ensures { IfOk result (λ r. AreHalves plan.entry.now (entries_at entries.entry.now) r.0 r.1) }
+    { copy_halves(rt, alloc, plan, entries, printed) };
     let sections = || -> Result<String, NoMemory>
-        requires { IsLegal plan.now journal.now.entries × AreFewEntries journal.now.entries }
+        requires { IsLegal plan.now (entries_at entries.now) × AreFewEntries (entries_at entries.now) }
         ensures { IfOk result (λ text. string_bytes text
-            ≡ sections_text plan.entry.now journal.entry.now.entries) }
-    { print_sections(alloc, plan, journal) };
+            ≡ sections_text plan.entry.now (entries_at entries.entry.now)) }
+    { print_sections(alloc, plan, entries) };
     let (halves, sections) = join(rt, halves, sections);
-    let entries = journal.entries.as_slice();
     Ok(put_together(alloc, plan, entries, halves?, registers, sections?)?)
 }
 
@@ -260,5 +255,6 @@ pub(crate) fn print_output<R: Threads + Sync>(
     ensures { IfOk result (λ output. output ≡ output_text plan.now line.now.journal.entries) }
 {
     let registers = print_registers(rt, alloc, plan, line.ended.registers.as_slice())?;
-    print_whole(rt, alloc, plan, &line.journal, registers)
+    let entries = pointed_at(alloc, line.journal.entries.as_slice())?;
+    print_whole(rt, alloc, plan, &entries, registers)
 }

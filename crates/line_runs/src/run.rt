@@ -15,8 +15,7 @@ use std::sync::Wait;
 use std::thread::Threads;
 use text_fetch::{Inputs, Stop, fetch_inputs};
 
-// The whole output of a plan and its scripts. Neither the scripts nor the registers are kept while the journal is
-// printed.
+// The whole output of a plan and its scripts. The scripts aren't kept while the journal is printed.
 fn run_output<R: Threads + Wait + Sync, G: Gate>(
     rt: &R,
     alloc: Global,
@@ -29,9 +28,9 @@ fn run_output<R: Threads + Wait + Sync, G: Gate>(
 {
     let Inputs { plan, scripts } = inputs;
     let ended = work_scripts(rt, alloc, &plan, &scripts, gate)?;
-    let (journal, registers) = merged_and_printed(rt, alloc, &plan, &scripts, ended)?;
+    let (entries, registers) = merged_and_printed(rt, alloc, &plan, &scripts, &ended)?;
     drop(scripts);
-    print_whole(rt, alloc, &plan, &journal, registers)
+    print_whole(rt, alloc, &plan, &entries, registers)
 }
 
 /// The output of the run of the named texts, each script worked by its own signalman on a thread of his own; or why

@@ -7,7 +7,7 @@ ghost use Rattle.text_fetch.specs.FromTexts.{Gives};
 ghost use Rattle.line_runs.specs.Made.{IsMade, IsSummaryOf, count_line, summary_text};
 ghost use Rattle.line_runs.specs.Outputs.{MakesText};
 
-use crate::worked::worked_line;
+use crate::worked::{pointed_at, worked_line};
 use line_law::Journal;
 use line_maker::{MakeError, make_line};
 use line_plan::Plan;
@@ -42,13 +42,13 @@ fn put_summary(
     ensures { OnOk result (string_bytes out.new
         ≡ string_bytes out.old ++ summary_text trains plan.now journal.now.entries) }
 {
-    let entries = journal.entries.as_slice();
+    let entries = pointed_at(alloc, journal.entries.as_slice())?;
     put_count(out, "stress", trains as usize)?;
     put_count(out, "boxes", plan.boxes.len())?;
     put_count(out, "trains", plan.trains.len())?;
     put_count(out, "calls", entries.len())?;
-    put_count(out, "refused", refused_count(entries))?;
-    put_sections(out, alloc, plan, journal)
+    put_count(out, "refused", refused_count(&entries))?;
+    put_sections(out, alloc, plan, &entries)
 }
 
 // The summary of a journal of the made line.

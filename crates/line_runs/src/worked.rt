@@ -1,6 +1,7 @@
 //! A line that is worked by the scripts of its boxes, up to its journal.
 
 ghost use Rattle.std.specs.Prelude.{◌≡◌, All, Err, IfOk, IfSome, Ok, OnErr};
+ghost use Rattle.line_law.specs.History.{entries_at};
 ghost use Rattle.line_report.specs.Asked.{AreFewEntries};
 ghost use Rattle.script_text.specs.Entries.{IsSpelled};
 ghost use Rattle.signalman_seats.specs.Lines.{AreFresh, AreMen, Closed};
@@ -11,8 +12,8 @@ ghost use Rattle.line_runs.specs.Worked.{AreWorked, IsJournalOf, IsWorkedLine, l
 
 use crate::serial::work_serially;
 use instrument_rule::Line;
-use line_journal::merge;
-use line_law::Journal;
+use line_journal::{merge, merged};
+use line_law::{Entry, Journal};
 use line_plan::Plan;
 use line_working::{Gate, work_line};
 use rail_text::NoMemory;
@@ -162,6 +163,37 @@ pub(crate) fn merged_journal(
     plan.meets_conditions();
     let journal = merge(alloc, plan, ended)?;
     Ok(journal)
+}
+
+/// The entries of that journal, where they stand in the registers.
+pub(crate) fn merged_entries<'a>(
+    alloc: Global,
+    plan: &Plan,
+    scripts: &[Script],
+    ended: &'a Ended,
+) -> Result<Vec<&'a Entry>, NoMemory>
+    requires scripts { AreScriptsOf plan.now scripts.now }
+    requires worked { AreWorked plan.now scripts.now ended.now.registers }
+    ensures { IfOk result (λ entries. IsWorkedLine (record { plan = plan.now; scripts = scripts.now })
+        (entries_at entries.items) ended.now.registers) }
+{
+    plan.meets_conditions();
+    let entries = merged(alloc, plan, ended)?;
+    Ok(entries)
+}
+
+/// Where these entries stand.
+pub(crate) fn pointed_at<'a>(
+    alloc: Global,
+    entries: &'a [Entry],
+) -> Result<Vec<&'a Entry>, NoMemory>
+    ensures { IfOk result (λ pointers. entries_at pointers.items ≡ entries.now) }
+{
+    let mut pointers = Vec::with_capacity(alloc, entries.len())?;
+    for entry in entries {
+        pointers.push(entry)?;
+    }
+    Ok(pointers)
 }
 
 /// Merges the registers of a line whose scripts were worked into its journal.

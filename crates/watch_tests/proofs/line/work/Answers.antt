@@ -1,6 +1,6 @@
 use Rattle.std.proofs.Common.{◌≡◌, ◌<◌, ℕ, zero, suc, List, [], ◌∷◌, ◌++◌, drop, get_or, length, slice_get, take, Some}
-use Rattle.std.proofs.Common.{Result, Ok, Err, replicate, refl, sym, ap, ◌∙◌, subst, arith}
-use Rattle.std.specs.Prelude.{IfOk}
+use Rattle.std.proofs.Common.{replicate, refl, sym, ap, ◌∙◌, subst, arith}
+use Rattle.std.proofs.lemmas.Result.{IfOk-weaker}
 use Rattle.std.proofs.lemmas.List.{get_or-replicate, length-replicate, take-append-le, take_all}
 use Rattle.atomic_table.specs.Seated.{TableId}
 use Rattle.line_plan.specs.Plans.{PlanFields}
@@ -64,11 +64,6 @@ are_men table_id key plan scripts looks before lent after same as_lent fresh eac
       ∙ (fresh.fresh b d (subst (λ (men : List Man). b < length men) as_lent there)).box_no));
 }
 
-both_ok : {A E : Type 0} (r : Result A E) (P Q R : A → Type 0) → IfOk r P → IfOk r Q → ((x : A) → P x → Q x → R x)
-    → IfOk r R
-both_ok (Ok x) P Q R p q f = f x p q
-both_ok (Err e) P Q R p q f = tt
-
 pub work_watched-requires-clause-ready : goal.work_watched-requires-clause-ready
 work_watched-requires-clause-ready g c κs within =
     let line = c.args.line in
@@ -110,11 +105,13 @@ returns-clause-shows g c =
     let seen = c.work_watched.ensures.watched in
     let rounds : c.work_watched.new.board.rounds ≡ seen.0 = ap (λ (b : BoardFields). b.rounds) seen.2
     ∙ ap (λ (rs : List (List Sight)). rs ++ seen.0) c.requires.none in
-    both_ok c.merge-journal.result _ _ _ c.merge-journal.ensures.legal c.merge-journal.ensures.parts
-    (λ journal legal parts.
+    IfOk-weaker c.merge-journal.result _ _
+    (λ journal merge.
     subst (λ (rs : List (List Sight)). IsBoardOf plan journal.entries rs) (sym rounds)
     (c.watched_law.ensures table_id plan after seen.0 seen.1 journal.entries c.in_ok-ended.ended.registers
     c.meets_conditions.ensures
     (subst (λ (p : PlanFields). AreMen table_id p after) c.requires.line men)
     (subst (λ (p : PlanFields). IsWatched p after seen.0 seen.1) c.requires.line seen.4)
-    (subst (λ (p : PlanFields). Closed p after c.in_ok-ended.ended.registers) c.requires.line closed) legal parts))
+    (subst (λ (p : PlanFields). Closed p after c.in_ok-ended.ended.registers) c.requires.line closed)
+    merge.legal merge.parts))
+    c.merge-journal.ensures

@@ -1,7 +1,8 @@
 use Rattle.std.proofs.Common.{ℕ, ◌-◌, ◌*◌, ◌<◌, ◌≤◌, ◌≡◌, ◌∙◌}
 use Rattle.std.proofs.Common.{List, [], Bool, true, false, replicate, length, slice_index_or}
 use Rattle.std.proofs.Common.{refl, sym, ap, subst, arith}
-use Rattle.std.proofs.lemmas.List.{length-map, length-replicate}
+use Rattle.std.specs.Borrow.{Bor}
+use Rattle.std.proofs.lemmas.List.{length-map, length-replicate, map-append}
 use Rattle.std.specs.Prelude.{None}
 use Rattle.line_plan.specs.Plans.{IsPlan, PlanFields}
 use Rattle.line_law.specs.declared.call.Entry.{Entry}
@@ -10,17 +11,18 @@ use Rattle.line_law.specs.States.{opening_pair}
 use Rattle.train_register.specs.Registers.{RegisterFields}
 use Rattle.line_journal.specs.Keepers.{AreRests, NoneOpenBelow, slots}
 use Rattle.line_journal.specs.Lists.{count_left}
-use Rattle.line_journal.specs.Order.{IsOrder, lists_of}
+use Rattle.line_law.specs.History.{entries_at}
+use Rattle.line_journal.specs.Order.{lists_of}
 use Rattle.line_journal.proofs.Answering.{below_as, farther_on, fewer_left, none_awake, placing_left}
 use Rattle.line_journal.proofs.Answering.{placing_merges, placing_pairs, same_merges, space_for}
-use Rattle.line_journal.proofs.InOrder.{in_order}
-use Rattle.line_journal.proofs.Looping.{ends, fewer, of_boxes, opens_at, order_count, order_legal, order_parts}
+use Rattle.line_journal.proofs.InOrder.{merge_is}
+use Rattle.line_journal.proofs.Looping.{ends, fewer, of_boxes, opens_at}
 use Rattle.line_journal.proofs.Looping.{pair_count, written_back}
 use Rattle.line_journal.proofs.Nearby.{all_awake, asleep_as}
 use Rattle.line_journal.proofs.Opening.{lowest_set}
 use Rattle.line_journal.proofs.Orders.{in_range}
 use Rattle.line_journal.proofs.Tallies.{kept_from}
-use Rattle.line_journal.proofs.merging.merge.Goals as goal
+use Rattle.line_journal.proofs.merging.merged.Goals as goal
 
 pub open_rests-requires : goal.open_rests-requires
 open_rests-requires c =
@@ -42,8 +44,9 @@ loop-box_no-init c =
     λ b down within. all_awake c.boxes.result b (sym (ap (λ (bs : List Bool). slice_index_or bs b true) all) ∙ down) in
     record {
       merges =
-          opens_at c.args.plan.now c.args.ended.now.registers c.in_ok-entries.entries.items c.in_ok-pairs.pairs.items
-          c.in_ok-left.left is c.requires c.in_ok-entries.ensures.items
+          opens_at c.args.plan.now c.args.ended.now.registers (entries_at c.in_ok-entries.entries.items)
+          c.in_ok-pairs.pairs.items
+          c.in_ok-left.left is c.requires (ap entries_at c.in_ok-entries.ensures.items)
           (c.in_ok-pairs.ensures ∙ ap (λ (n : ℕ). replicate (n - 1) opening_pair) c.len.ensures
           ∙ ap (λ (p : PlanFields). replicate (length p.boxes - 1) opening_pair) c.plan.view_is)
           (c.in_ok-left.ensures ∙ ap (λ (rs : List RegisterFields). lists_of rs) c.as_slice.ensures);
@@ -59,29 +62,30 @@ loop-box_no-init c =
 pub place-placed-requires-clause-pairs : goal.place-placed-requires-clause-pairs
 place-placed-requires-clause-pairs c =
     ap (λ (ps : List PairState). length ps) c.deref_mut.ensures.value
-    ∙ pair_count c.args.plan.now _ c.loop-box_no.entries.items c.loop-box_no.pairs.items c.loop-box_no.left
+    ∙ pair_count c.args.plan.now _ (entries_at c.loop-box_no.entries.items) c.loop-box_no.pairs.items c.loop-box_no.left
     c.loop-box_no.invariant.merges
 
 pub place-placed-requires-clause-boxes : goal.place-placed-requires-clause-boxes
 place-placed-requires-clause-boxes c =
     let is : IsPlan c.args.plan.now = subst IsPlan c.plan.view_is c.plan.invariant.0 in
     let kept =
-    kept_from c.args.plan.now (lists_of c.args.ended.now.registers) c.loop-box_no.entries.items
+    kept_from c.args.plan.now (lists_of c.args.ended.now.registers) (entries_at c.loop-box_no.entries.items)
     c.loop-box_no.pairs.items c.loop-box_no.left c.loop-box_no.awake.items c.deref.result.now
-    c.loop-box_no.rests.items c.loop-box_no.from c.in-Some.box_no c.place_tallies.new.entries.items
+    c.loop-box_no.rests.items c.loop-box_no.from c.in-Some.box_no (entries_at c.place_tallies.new.entries.items)
     c.place_tallies.new.left is c.loop-box_no.invariant.merges c.loop-box_no.invariant.rests
     c.loop-box_no.invariant.asleep c.loop-box_no.invariant.below c.deref.ensures.value c.in-Some.ensures
     c.in_ok-place_tallies.ensures in
-    of_boxes c.args.plan.now _ c.place_tallies.new.entries.items c.loop-box_no.pairs.items c.place_tallies.new.left is
+    of_boxes c.args.plan.now _ (entries_at c.place_tallies.new.entries.items) c.loop-box_no.pairs.items
+    c.place_tallies.new.left is
     kept.merges
 
 pub place-placed-requires-clause-rests : goal.place-placed-requires-clause-rests
 place-placed-requires-clause-rests c =
     let is : IsPlan c.args.plan.now = subst IsPlan c.plan.view_is c.plan.invariant.0 in
     let kept =
-    kept_from c.args.plan.now (lists_of c.args.ended.now.registers) c.loop-box_no.entries.items
+    kept_from c.args.plan.now (lists_of c.args.ended.now.registers) (entries_at c.loop-box_no.entries.items)
     c.loop-box_no.pairs.items c.loop-box_no.left c.loop-box_no.awake.items c.deref.result.now
-    c.loop-box_no.rests.items c.loop-box_no.from c.in-Some.box_no c.place_tallies.new.entries.items
+    c.loop-box_no.rests.items c.loop-box_no.from c.in-Some.box_no (entries_at c.place_tallies.new.entries.items)
     c.place_tallies.new.left is c.loop-box_no.invariant.merges c.loop-box_no.invariant.rests
     c.loop-box_no.invariant.asleep c.loop-box_no.invariant.below c.deref.ensures.value c.in-Some.ensures
     c.in_ok-place_tallies.ensures in
@@ -92,9 +96,9 @@ pub place-placed-requires-clause-asleep : goal.place-placed-requires-clause-asle
 place-placed-requires-clause-asleep c =
     let is : IsPlan c.args.plan.now = subst IsPlan c.plan.view_is c.plan.invariant.0 in
     let kept =
-    kept_from c.args.plan.now (lists_of c.args.ended.now.registers) c.loop-box_no.entries.items
+    kept_from c.args.plan.now (lists_of c.args.ended.now.registers) (entries_at c.loop-box_no.entries.items)
     c.loop-box_no.pairs.items c.loop-box_no.left c.loop-box_no.awake.items c.deref.result.now
-    c.loop-box_no.rests.items c.loop-box_no.from c.in-Some.box_no c.place_tallies.new.entries.items
+    c.loop-box_no.rests.items c.loop-box_no.from c.in-Some.box_no (entries_at c.place_tallies.new.entries.items)
     c.place_tallies.new.left is c.loop-box_no.invariant.merges c.loop-box_no.invariant.rests
     c.loop-box_no.invariant.asleep c.loop-box_no.invariant.below c.deref.ensures.value c.in-Some.ensures
     c.in_ok-place_tallies.ensures in
@@ -106,9 +110,9 @@ pub place-placed-requires-clause-below : goal.place-placed-requires-clause-below
 place-placed-requires-clause-below c =
     let is : IsPlan c.args.plan.now = subst IsPlan c.plan.view_is c.plan.invariant.0 in
     let kept =
-    kept_from c.args.plan.now (lists_of c.args.ended.now.registers) c.loop-box_no.entries.items
+    kept_from c.args.plan.now (lists_of c.args.ended.now.registers) (entries_at c.loop-box_no.entries.items)
     c.loop-box_no.pairs.items c.loop-box_no.left c.loop-box_no.awake.items c.deref.result.now
-    c.loop-box_no.rests.items c.loop-box_no.from c.in-Some.box_no c.place_tallies.new.entries.items
+    c.loop-box_no.rests.items c.loop-box_no.from c.in-Some.box_no (entries_at c.place_tallies.new.entries.items)
     c.place_tallies.new.left is c.loop-box_no.invariant.merges c.loop-box_no.invariant.rests
     c.loop-box_no.invariant.asleep c.loop-box_no.invariant.below c.deref.ensures.value c.in-Some.ensures
     c.in_ok-place_tallies.ensures in
@@ -119,22 +123,23 @@ pub place-placed-requires-clause-space : goal.place-placed-requires-clause-space
 place-placed-requires-clause-space c =
     let is : IsPlan c.args.plan.now = subst IsPlan c.plan.view_is c.plan.invariant.0 in
     let kept =
-    kept_from c.args.plan.now (lists_of c.args.ended.now.registers) c.loop-box_no.entries.items
+    kept_from c.args.plan.now (lists_of c.args.ended.now.registers) (entries_at c.loop-box_no.entries.items)
     c.loop-box_no.pairs.items c.loop-box_no.left c.loop-box_no.awake.items c.deref.result.now
-    c.loop-box_no.rests.items c.loop-box_no.from c.in-Some.box_no c.place_tallies.new.entries.items
+    c.loop-box_no.rests.items c.loop-box_no.from c.in-Some.box_no (entries_at c.place_tallies.new.entries.items)
     c.place_tallies.new.left is c.loop-box_no.invariant.merges c.loop-box_no.invariant.rests
     c.loop-box_no.invariant.asleep c.loop-box_no.invariant.below c.deref.ensures.value c.in-Some.ensures
     c.in_ok-place_tallies.ensures in
-    space_for c.args.plan.now _ c.place_tallies.new.entries.items c.loop-box_no.pairs.items c.deref_mut.result.now
+    space_for c.args.plan.now _ (entries_at c.place_tallies.new.entries.items) c.loop-box_no.pairs.items
+    c.deref_mut.result.now
     c.place_tallies.new.left c.in-Some.box_no is kept.merges c.deref_mut.ensures.value kept.below
 
 pub loop-box_no-preserved-in-Continue-branch-7 : goal.loop-box_no-preserved-in-Continue-branch-7
 loop-box_no-preserved-in-Continue-branch-7 c =
     let is : IsPlan c.args.plan.now = subst IsPlan c.plan.view_is c.plan.invariant.0 in
     let kept =
-    kept_from c.args.plan.now (lists_of c.args.ended.now.registers) c.loop-box_no.entries.items
+    kept_from c.args.plan.now (lists_of c.args.ended.now.registers) (entries_at c.loop-box_no.entries.items)
     c.loop-box_no.pairs.items c.loop-box_no.left c.loop-box_no.awake.items c.deref.result.now
-    c.loop-box_no.rests.items c.loop-box_no.from c.in-Some.box_no c.place_tallies.new.entries.items
+    c.loop-box_no.rests.items c.loop-box_no.from c.in-Some.box_no (entries_at c.place_tallies.new.entries.items)
     c.place_tallies.new.left is c.loop-box_no.invariant.merges c.loop-box_no.invariant.rests
     c.loop-box_no.invariant.asleep c.loop-box_no.invariant.below c.deref.ensures.value c.in-Some.ensures
     c.in_ok-place_tallies.ensures in
@@ -154,11 +159,13 @@ loop-box_no-preserved-in-Continue-branch-7 c =
     ∙ sym (ap (λ (bs : List Bool). length bs) c.deref_mut-in-Some-2.ensures.value) ∙ c.deref_mut-in-Some-2.ensures.len
     in record {
       merges =
-          placing_merges c.args.plan.now _ c.place_tallies.new.entries.items c.loop-box_no.pairs.items
+          placing_merges c.args.plan.now _ (entries_at c.place_tallies.new.entries.items) c.loop-box_no.pairs.items
           c.deref_mut.result.now c.place_tallies.new.left c.in-Some.box_no c.in-Some-placed.entry.now
-          c.place-placed.new.pairs _ c.place-placed.new.left c.push.new.self.items is kept.merges
+          c.place-placed.new.pairs _ c.place-placed.new.left (entries_at c.push.new.self.items) is kept.merges
           c.deref_mut.ensures.value kept.below c.in-Some-placed.ensures.placed
-          (written_back c.loop-box_no.pairs.len c.place-placed.new.pairs _ pairs_count) c.in_ok-push.ensures.items;
+          (written_back c.loop-box_no.pairs.len c.place-placed.new.pairs _ pairs_count)
+          (ap entries_at c.in_ok-push.ensures.items
+          ∙ map-append (λ (entry : Bor Entry). entry.now) (c.place_tallies.new.entries.items) _);
       rests =
           subst (λ (ns : List ℕ). AreRests c.args.plan.now c.place-placed.new.left ns)
           (sym (written_back c.loop-box_no.rests.len c.place-placed.new.rests _ rests_count))
@@ -180,9 +187,9 @@ pub loop-box_no-preserved : goal.loop-box_no-preserved
 loop-box_no-preserved c =
     let is : IsPlan c.args.plan.now = subst IsPlan c.plan.view_is c.plan.invariant.0 in
     let kept =
-    kept_from c.args.plan.now (lists_of c.args.ended.now.registers) c.loop-box_no.entries.items
+    kept_from c.args.plan.now (lists_of c.args.ended.now.registers) (entries_at c.loop-box_no.entries.items)
     c.loop-box_no.pairs.items c.loop-box_no.left c.loop-box_no.awake.items c.deref.result.now
-    c.loop-box_no.rests.items c.loop-box_no.from c.in-Some.box_no c.place_tallies.new.entries.items
+    c.loop-box_no.rests.items c.loop-box_no.from c.in-Some.box_no (entries_at c.place_tallies.new.entries.items)
     c.place_tallies.new.left is c.loop-box_no.invariant.merges c.loop-box_no.invariant.rests
     c.loop-box_no.invariant.asleep c.loop-box_no.invariant.below c.deref.ensures.value c.in-Some.ensures
     c.in_ok-place_tallies.ensures in
@@ -199,7 +206,7 @@ loop-box_no-preserved c =
     ∙ sym (ap (λ (bs : List Bool). length bs) c.deref_mut-in-Some-2.ensures.value) ∙ c.deref_mut-in-Some-2.ensures.len
     in record {
       merges =
-          same_merges c.args.plan.now _ c.place_tallies.new.entries.items c.loop-box_no.pairs.items _
+          same_merges c.args.plan.now _ (entries_at c.place_tallies.new.entries.items) c.loop-box_no.pairs.items _
           c.place_tallies.new.left c.place-placed.new.left kept.merges
           (written_back c.loop-box_no.pairs.len c.place-placed.new.pairs _ pairs_count
           ∙ c.in_default-placed.ensures.placed.0 ∙ c.deref_mut.ensures.value) c.in_default-placed.ensures.placed.1;
@@ -245,35 +252,15 @@ loop-box_no-smaller c =
     farther_on (count_left c.loop-box_no.left) (count_left c.place-placed.new.left) (length c.args.plan.now.boxes)
     c.loop-box_no.from c.place-placed.new.from few (omega (arith, first, next)) (omega (arith, first, within, count))
 
-pub returns-clause-order : goal.returns-clause-order
-returns-clause-order c =
+pub returns : goal.returns
+returns c =
     let is : IsPlan c.args.plan.now = subst IsPlan c.plan.view_is c.plan.invariant.0 in
     let none =
-    lowest_set c.args.plan.now _ c.loop-box_no.entries.items c.loop-box_no.pairs.items c.loop-box_no.left None is
-    c.loop-box_no.invariant.merges
+    lowest_set c.args.plan.now _ (entries_at c.loop-box_no.entries.items) c.loop-box_no.pairs.items c.loop-box_no.left
+    None is c.loop-box_no.invariant.merges
     (none_awake c.args.plan.now c.loop-box_no.pairs.items c.loop-box_no.left c.loop-box_no.awake.items
     c.deref.result.now c.loop-box_no.from c.deref.ensures.value c.loop-box_no.invariant.each
     c.loop-box_no.invariant.asleep c.loop-box_no.invariant.below c.in_default.ensures) in
-    subst (λ (es : List Entry). IsOrder c.args.plan.now c.args.ended.now.registers es) (sym c.from_vec.ensures)
-    (ends c.args.plan.now _ c.loop-box_no.entries.items c.loop-box_no.pairs.items c.loop-box_no.left is
+    merge_is c.args.plan.now c.args.ended.now.registers (entries_at c.loop-box_no.entries.items) is c.requires
+    (ends c.args.plan.now _ (entries_at c.loop-box_no.entries.items) c.loop-box_no.pairs.items c.loop-box_no.left is
     c.loop-box_no.invariant.merges none)
-
-pub returns-clause-legal : goal.returns-clause-legal
-returns-clause-legal c =
-    let is : IsPlan c.args.plan.now = subst IsPlan c.plan.view_is c.plan.invariant.0 in
-    order_legal c.args.plan.now c.args.ended.now.registers c.from_vec.result is c.requires (returns-clause-order c)
-
-pub returns-clause-parts : goal.returns-clause-parts
-returns-clause-parts c =
-    order_parts c.args.plan.now c.args.ended.now.registers c.from_vec.result c.requires (returns-clause-order c)
-
-pub returns-clause-in_order : goal.returns-clause-in_order
-returns-clause-in_order c =
-    in_order c.args.plan.now c.args.ended.now.registers c.from_vec.result (returns-clause-parts c)
-    (returns-clause-order c)
-
-pub returns-clause-count : goal.returns-clause-count
-returns-clause-count c = λ history legal parts.
-    let is : IsPlan c.args.plan.now = subst IsPlan c.plan.view_is c.plan.invariant.0 in
-    order_count c.args.plan.now c.args.ended.now.registers history c.from_vec.result is legal parts
-    (returns-clause-order c)
