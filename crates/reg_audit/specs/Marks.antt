@@ -109,6 +109,43 @@ marks_after plan deed marks =
 abbrev pub marks_at : List (ByWay SideMarks) → ℕ → ByWay SideMarks
 marks_at marks b = slice_index_or marks b opening_marks
 
+-- ---- the same, by what was done
+
+-- the marks of a side after a code was rung or heard there
+abbrev pub bell_marked : PlanFields → BellEntry → SideMarks → SideMarks
+bell_marked plan bell marks =
+    let new = unprompted marks.last_bell (Some bell) in
+    record {
+      last_bell = Some bell;
+      offered = is_of_class plan kinds.Heard new || marks.offered;
+      entering = is_bell new (rung train_entering_section) || marks.entering;
+      left = not (is_bell new (rung train_out_of_section)) && marks.left;
+      shown = marks.shown;
+    }
+
+-- the marks of the side from which a line comes after its commutator was turned
+abbrev pub turn_marked : Position → SideMarks → SideMarks
+turn_marked position marks =
+    record {
+      last_bell = marks.last_bell;
+      offered = not (same_position position shows.LineClear) && marks.offered;
+      entering = marks.entering;
+      left = marks.left;
+      shown = position;
+    }
+
+-- the marks of a side after a train went past a signal: into the section towards it, or out of the berth of the line
+-- that comes from it
+abbrev pub pass_marked : Bool → Bool → SideMarks → SideMarks
+pass_marked entered gone marks =
+    record {
+      last_bell = marks.last_bell;
+      offered = marks.offered;
+      entering = not entered && marks.entering;
+      left = gone || marks.left;
+      shown = marks.shown;
+    }
+
 -- ---- the rules, by the marks before an entry and what was done by it
 
 -- on one side

@@ -2,7 +2,7 @@
 
 ghost use Rattle.std.specs.Prelude.{◌≡◌};
 ghost use Rattle.reg_audit.specs.Bells.{answered_by, bell_on, heard, is_class_code, rung};
-ghost use Rattle.reg_audit.specs.Marks.{is_bell, is_of_class, later_bell, same_bell, unprompted};
+ghost use Rattle.reg_audit.specs.Marks.{is_bell, is_of_class, same_bell, unprompted};
 
 use crate::deed::Deed;
 use bell_codes::CodeNo;
@@ -74,16 +74,6 @@ pub fn unprompted(last: Option<BellEntry>, bell: Option<BellEntry>) -> Option<Be
         None
     } else {
         Some(bell)
-    }
-}
-
-/// The later of two bell entries, if there is one.
-pub fn later_bell(bell: Option<BellEntry>, last: Option<BellEntry>) -> Option<BellEntry>
-    ensures { result ≡ later_bell bell last }
-{
-    match bell {
-        Some(bell) => Some(bell),
-        None => last,
     }
 }
 

@@ -2,11 +2,12 @@
 //! them.
 
 ghost use Rattle.std.specs.Prelude.{◌≡◌, IfOk, replicate};
-ghost use Rattle.reg_audit.specs.Marks.{breaks_berth, breaks_entering, breaks_turned, breaks_turning, gives_clear};
-ghost use Rattle.reg_audit.specs.Marks.{is_broken, marks_after, opening_marks, shown_after, side_after};
-ghost use Rattle.reg_audit.specs.Marks.{side_breaks_offer, side_breaks_out, since_after};
+ghost use Rattle.line_law.specs.Ways.{of_way, with_way};
+ghost use Rattle.reg_audit.specs.Marks.{bell_marked, breaks_berth, breaks_entering, breaks_turned, breaks_turning};
+ghost use Rattle.reg_audit.specs.Marks.{is_broken, marks_after, opening_marks, pass_marked, side_breaks_offer};
+ghost use Rattle.reg_audit.specs.Marks.{side_breaks_out, turn_marked};
 
-use crate::bell::{BellEntry, BellKind, bell_on, is_bell, is_of_class, later_bell, unprompted};
+use crate::bell::{BellEntry, BellKind, bell_on, is_bell, is_of_class, unprompted};
 use crate::deed::Deed;
 use crate::rule::Rule;
 use bell_codes::{CALL_ATTENTION, TRAIN_ENTERING_SECTION, TRAIN_OUT_OF_SECTION};
@@ -41,56 +42,33 @@ const NO_MARKS: SideMarks = SideMarks {
     shown: Position::Normal,
 };
 
-// Whether there was one of a kind since the last mark, by whether the entry is a mark or one of the kind, and whether
-// there was one before.
-fn since_after(mark: bool, such: bool, before: bool) -> bool
-    ensures { result ≡ since_after mark such before }
-{
-    !mark && (such || before)
-}
-
-// Whether the commutator of an incoming line was turned to Line Clear.
-fn gives_clear(way: Way, deed: &Deed) -> bool
-    ensures { result ≡ gives_clear way deed.now }
-{
-    match *deed {
-        Deed::Turned {
-            way: turned,
-            position,
-        } => turned == way && position == Position::LineClear,
-        _ => false,
-    }
-}
-
-// What the commutator of an incoming line shows.
-fn shown_after(way: Way, deed: &Deed, before: Position) -> Position
-    ensures { result ≡ shown_after way deed.now before }
-{
-    match *deed {
-        Deed::Turned {
-            way: turned,
-            position,
-        } if turned == way => position,
-        _ => before,
-    }
-}
-
 impl SideMarks {
-    // Marks on a side what was done at its box.
-    fn mark(&mut self, plan: &Plan, side: Way, deed: &Deed)
-        ensures { self.new ≡ side_after plan.now side deed.now self.old }
+    // Marks a code that was rung or heard on this side.
+    fn mark_bell(&mut self, plan: &Plan, bell: BellEntry)
+        ensures { self.new ≡ bell_marked plan.now bell self.old }
     {
-        let bell = bell_on(side, deed);
-        let new = unprompted(self.last_bell, bell);
-        let class_heard = is_of_class(plan, BellKind::Heard, new);
-        let entering = is_bell(new, BellEntry::rung(TRAIN_ENTERING_SECTION));
-        let out = is_bell(new, BellEntry::rung(TRAIN_OUT_OF_SECTION));
-        let from = side.opposite();
-        self.last_bell = later_bell(bell, self.last_bell);
-        self.offered = since_after(gives_clear(from, deed), class_heard, self.offered);
-        self.entering = since_after(deed.entered() == Some(side), entering, self.entering);
-        self.left = since_after(out, deed.leaves_berth(from), self.left);
-        self.shown = shown_after(from, deed, self.shown);
+        let new = unprompted(self.last_bell, Some(bell));
+        self.last_bell = Some(bell);
+        self.offered |= is_of_class(plan, BellKind::Heard, new);
+        self.entering |= is_bell(new, BellEntry::rung(TRAIN_ENTERING_SECTION));
+        self.left &= !is_bell(new, BellEntry::rung(TRAIN_OUT_OF_SECTION));
+    }
+
+    // Marks that the commutator of the line that comes from this side was turned.
+    fn mark_turn(&mut self, position: Position)
+        ensures { self.new ≡ turn_marked position self.old }
+    {
+        self.offered &= position != Position::LineClear;
+        self.shown = position;
+    }
+
+    // Marks that a train went past a signal: into the section towards this side, or out of the berth of the line that
+    // comes from it.
+    fn mark_pass(&mut self, entered: bool, gone: bool)
+        ensures { self.new ≡ pass_marked entered gone self.old }
+    {
+        self.entering &= !entered;
+        self.left |= gone;
     }
 
     // Whether the first rule is broken by what was done on this side.
@@ -126,20 +104,37 @@ pub fn no_marks(alloc: Global, boxes: usize) -> Result<Vec<ByWay<SideMarks>>, No
     Ok(vec![in alloc; none; boxes]?)
 }
 
-/// Marks what was done at a box, in place. A bell is of one side alone, and nothing done leaves both.
+// Marks a code that was rung or heard on a side.
+fn mark_bell(plan: &Plan, side: Way, bell: BellEntry, marks: &mut ByWay<SideMarks>)
+    ensures { marks.new ≡ with_way marks.old side (bell_marked plan.now bell (of_way marks.old side)) }
+{
+    match side {
+        Way::Up => marks.up.mark_bell(plan, bell),
+        Way::Down => marks.down.mark_bell(plan, bell),
+    }
+}
+
+/// Marks what was done at a box, in place. A bell is of one side alone, and so is the commutator of a line, which comes
+/// from there.
 pub fn mark(plan: &Plan, deed: &Deed, marks: &mut ByWay<SideMarks>)
     ensures { marks.new ≡ marks_after plan.now deed.now marks.old }
 {
     match *deed {
-        Deed::Nothing => {}
-        Deed::Rang { side: Way::Up, .. } | Deed::Heard { side: Way::Up, .. } => {
-            marks.up.mark(plan, Way::Up, deed);
+        Deed::Rang { side, code } => mark_bell(plan, side, BellEntry::rung(code), marks),
+        Deed::Heard { side, code } => mark_bell(plan, side, BellEntry::heard(code), marks),
+        Deed::Turned {
+            way: Way::Up,
+            position,
+        } => marks.down.mark_turn(position),
+        Deed::Turned {
+            way: Way::Down,
+            position,
+        } => marks.up.mark_turn(position),
+        Deed::WentPast { entered, left, .. } => {
+            marks.up.mark_pass(entered == Some(Way::Up), left.down);
+            marks.down.mark_pass(entered == Some(Way::Down), left.up);
         }
-        Deed::Rang { .. } | Deed::Heard { .. } => marks.down.mark(plan, Way::Down, deed),
-        _ => {
-            marks.up.mark(plan, Way::Up, deed);
-            marks.down.mark(plan, Way::Down, deed);
-        }
+        Deed::Berthed { .. } | Deed::PartBerthed { .. } | Deed::Released | Deed::Nothing => {}
     }
 }
 
@@ -192,16 +187,19 @@ pub fn is_broken(plan: &Plan, marks: &ByWay<SideMarks>, held: u32, deed: &Deed, 
     ensures { result ≡ is_broken plan.now marks.now held deed.now rule }
 {
     match rule {
-        Rule::Offer => {
-            marks.up.breaks_offer(plan, Way::Up, deed)
-                || marks.down.breaks_offer(plan, Way::Down, deed)
-        }
+        Rule::Offer => match deed {
+            Deed::Rang { side: Way::Up, .. } => marks.up.breaks_offer(plan, Way::Up, deed),
+            Deed::Rang { .. } => marks.down.breaks_offer(plan, Way::Down, deed),
+            _ => false,
+        },
         Rule::Clear | Rule::Normal => breaks_turning(marks, held, rule, deed),
         Rule::Entering => breaks_entering(marks, deed.entered()),
         Rule::Berth => breaks_berth(marks, deed.berthed()),
-        Rule::Out => {
-            marks.up.breaks_out(Way::Up, deed) || marks.down.breaks_out(Way::Down, deed)
-        }
+        Rule::Out => match deed {
+            Deed::Rang { side: Way::Up, .. } => marks.up.breaks_out(Way::Up, deed),
+            Deed::Rang { .. } => marks.down.breaks_out(Way::Down, deed),
+            _ => false,
+        },
         Rule::Danger => deed.passes_danger(),
         Rule::Divided => deed.is_divided(),
         Rule::Release => deed.is_release(),
