@@ -2,6 +2,7 @@
 //! another order.
 
 ghost use Rattle.std.specs.Prelude.{All};
+ghost use Rattle.line_journal.specs.Lists.{HaveEnded};
 ghost use Rattle.line_law.specs.History.{IsLegal};
 ghost use Rattle.line_report.specs.Asked.{AreAsked, AreFewEntries};
 ghost use Rattle.script_text.specs.Entries.{IsSpelled};
@@ -9,8 +10,8 @@ ghost use Rattle.script_text.specs.Entries.{IsSpelled};
 use crate::chains::{chain, told_in_turn, worked_from_the_end};
 use crate::facts::holds;
 use crate::lines::{absolute, in_seconds, permissive, upwards};
-use line_journal::{exchange_law, merge, order_law, parts_law, reply_law};
-use line_law::Journal;
+use line_journal::{Merged, Walk, exchange_law, merge, merged, order_law, parts_law, reply_law};
+use line_law::{Entry, Journal};
 use line_maker::make_line;
 use line_plan::Plan;
 use line_report::{Verdict, judge, read_journal};
@@ -402,15 +403,54 @@ const A_TRAIN_THROUGH_THREE_BOXES: &str = "journal 1\n\
 60 Cedar 06:00 put 2 -> put\n\
 end\n";
 
-// The journal of the registers of a legal history.
-fn merged(alloc: Global, plan: &Plan, worked: &Journal) -> Result<Journal, NoMemory>
+// Are these the entries that a walk has ahead?
+fn are_ahead(walk: Walk<'_>, entries: &[Entry]) -> bool {
+    let mut walk = walk;
+    for entry in entries {
+        match walk.next() {
+            Some(next) if *next == *entry => {}
+            _ => return false,
+        }
+    }
+    walk.next().is_none()
+}
+
+// Are these the entries of a journal, gone along whole and in its front half?
+fn tells(alloc: Global, merged: &Merged<'_>, entries: &[Entry]) -> Result<bool, NoMemory> {
+    let half = merged.len() / 2;
+    let whole = merged.walk(alloc)?;
+    let front = merged.walk_front(alloc, half)?;
+    Ok(
+        entries.len() == merged.len()
+            && are_ahead(whole, entries)
+            && are_ahead(front, &entries[..half]),
+    )
+}
+
+// Are the registers of a line that has ended merged into this journal?
+fn ends_as(alloc: Global, plan: &Plan, ended: &Ended, wanted: &Journal) -> Result<bool, NoMemory>
+    requires { HaveEnded plan.now ended.now.registers }
+{
+    let journal = merge(alloc, plan, ended)?;
+    let merged = merged(alloc, plan, ended)?;
+    let entries = wanted.entries.as_slice();
+    Ok(journal.entries.as_slice() == entries && tells(alloc, &merged, entries)?)
+}
+
+// Are the registers of a legal history merged into this journal, and do they tell the history where its boxes are told?
+fn merges_as(
+    alloc: Global,
+    plan: &Plan,
+    worked: &Journal,
+    wanted: &Journal,
+) -> Result<bool, NoMemory>
     requires legal { IsLegal plan.now worked.now.entries }
     requires spelled { All (IsSpelled plan.now) worked.now.entries }
 {
     let ended = Ended::of_journal(alloc, plan, worked)?;
-    let merged = merge(alloc, plan, &ended);
-    drop(ended);
-    merged
+    let entries = worked.entries.as_slice();
+    let again = Merged::of_parts(alloc, plan, ended.registers.as_slice(), entries)?;
+    Ok(tells(alloc, &again, entries)? && ends_as(alloc, plan, &ended, wanted)?)
 }
 
 /// Is a history legal, and are its registers merged into this journal?
@@ -425,12 +465,7 @@ pub fn is_merged_as(
     requires spelled { All (IsSpelled plan.now) worked.now.entries }
 {
     match judge(alloc, plan, worked)? {
-        Verdict::Legal => {
-            let merged = merged(alloc, plan, worked)?;
-            let is_so = merged.entries.as_slice() == wanted.entries.as_slice();
-            drop(merged);
-            Ok(is_so)
-        }
+        Verdict::Legal => merges_as(alloc, plan, worked, wanted),
         Verdict::WrongAt { .. } => Ok(false),
     }
 }

@@ -6,9 +6,7 @@ use line_law::{
     ByWay, DAY_OF_MINUTES, DAY_OF_SECONDS, Link, Reply, box_law, history_law, is_refused,
     moments_of, outcome_law, refusal_law, replies_law, run_law, serial_law, shape_law,
 };
-use line_report::{
-    answers_law, held_law, most_trains_law, printed_journal_law, refused_count, verdict_law,
-};
+use line_report::{answers_law, held_law, most_trains_law, printed_journal_law, verdict_law};
 
 #[test]
 fn ways_moments_and_replies(rt: HostRuntime) {
@@ -34,7 +32,6 @@ fn ways_moments_and_replies(rt: HostRuntime) {
     holds(&rt, "awaits are told from others", is_not_yet);
     let is_refused = is_refused(&Reply::Silent { k: 0 }) & !is_refused(&Reply::Released);
     holds(&rt, "refusals are told from others", is_refused);
-    holds(&rt, "none is refused", refused_count(&[]) == 0);
 }
 
 #[test]

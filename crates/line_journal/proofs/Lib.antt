@@ -19,4 +19,5 @@ pub mod Firsts
 pub mod InOrder
 pub mod Answering
 pub mod Tallies
+pub mod Walks
 pub mod Levers

@@ -1,7 +1,7 @@
 -- Where no lower box is open, the entries of a box that were decided on its own tally are placed one after another.
 use Rattle.std.proofs.Common.{ℕ, zero, suc, ◌+◌, ◌++◌, ◌≡◌, ◌<◌, ◌≤◌, List, [], ◌∷◌, Some, Bool, false, drop, length}
 use Rattle.std.proofs.Common.{slice_index_or, slice_set, take, refl, sym, ap, subst, ◌∙◌, arith, eqb, ◌⊎◌, inl, inr}
-use Rattle.std.proofs.Common.{true, ◌≢◌}
+use Rattle.std.proofs.Common.{true, ◌≢◌, replicate}
 use Rattle.std.specs.Prelude.{if◌then◌else◌}
 use Rattle.std.proofs.lemmas.List.{append_assoc, append-nil, drop_more, get_or_default, get_or-set_same, length-set}
 use Rattle.std.proofs.lemmas.List.{set-get_or, set-set}
@@ -21,6 +21,7 @@ use Rattle.line_journal.specs.Keepers.{pair_woken, woken}
 use Rattle.line_journal.specs.Lists.{count_left}
 use Rattle.line_journal.specs.Merging.{AreTallies, IsKept, KeepsMerging, Merges}
 use Rattle.line_journal.specs.Order.{list_at, placed, placed_some}
+use Rattle.line_journal.specs.Walks.{AreTalliesPlaced, IsWalk, Leaves, left_behind, walked}
 use Rattle.line_journal.proofs.Answering.{awake_below, below_as}
 use Rattle.line_journal.proofs.Deciding.{fits_if, tally_fits, tally_made}
 use Rattle.line_journal.proofs.Found.{rests_next}
@@ -30,6 +31,7 @@ use Rattle.line_journal.proofs.Nearby.{asleep_as, none_opens, none_wakes}
 use Rattle.line_journal.proofs.Opening.{lowest_set}
 use Rattle.line_journal.proofs.Orders.{in_range}
 use Rattle.line_journal.proofs.Passing.{unkept_passes, unkept_tally}
+use Rattle.line_journal.proofs.Walks.{behind_more, same_left, same_taken, same_walk, walk_more, walked_more}
 
 -- such an entry is open
 tally_open : (plan : PlanFields) (pairs : List PairState) (lists : List (List Entry)) (b : ℕ) (e : Entry)
@@ -154,14 +156,78 @@ keeps_some b done lists (suc n) lt le tallies =
       none : Entry
       none = record { box_no = 0; call = record { moment = 0; act = Wind Up }; reply = Put }
 
--- as the loop of the merge comes to the first box that is awake, and these entries of it are placed
-pub kept_from : (plan : PlanFields) (all : List (List Entry)) (done : List Entry) (pairs : List PairState)
-    (lists : List (List Entry)) (awake asked : List Bool) (rests : List ℕ) (from b : ℕ) (more : List Entry)
-    (left : List (List Entry)) → IsPlan plan → Merges plan all done pairs lists → AreRests plan lists rests
-    → NoneAsleepOpen plan pairs lists awake → NoneOpenBelow plan pairs lists from → asked ≡ awake
-    → IsFirstAwake asked from (Some b) → KeepsMerging b done lists more left
-    → IsKept plan all more pairs left b awake rests
-kept_from plan all done pairs lists awake asked rests from b more left is m are asleep below same first keeps =
+-- ---- as the loop of the merge has them
+
+-- so many of a box, as they are told
+pub tallies_kept : (all lists : List (List Entry)) (boxes more : List ℕ) (b : ℕ) (left : List (List Entry))
+    → Leaves all boxes lists → b < length lists → AreTalliesPlaced b boxes lists more left
+    → KeepsMerging b (walked all boxes) lists (walked all more) left
+tallies_kept all lists boxes more b left leaves lt put =
+    let next : walked (left_behind all boxes) (replicate put.many b) ≡ take put.many (list_at lists b) =
+    ap (λ (ls : List (List Entry)). walked ls (replicate put.many b)) (sym leaves.behind)
+    ∙ same_taken lists b put.many lt put.within in
+    let done : walked all more ≡ walked all boxes ++ take put.many (list_at lists b) =
+    ap (λ (bs : List ℕ). walked all bs) put.told ∙ walked_more all boxes (replicate put.many b)
+    ∙ ap (λ (es : List Entry). walked all boxes ++ es) next in
+    subst (λ (ls : List (List Entry)). KeepsMerging b (walked all boxes) lists (walked all more) ls) (sym put.rest)
+    (subst (λ (es : List Entry). KeepsMerging b (walked all boxes) lists es (placed_some lists b put.many)) (sym done)
+    (keeps_some b (walked all boxes) lists put.many lt put.within put.tallies))
+
+pub tallies_leave : {all lists : List (List Entry)} {boxes more : List ℕ} {b : ℕ} {left : List (List Entry)}
+    → Leaves all boxes lists → b < length lists → AreTalliesPlaced b boxes lists more left → Leaves all more left
+tallies_leave {all} {lists} {boxes} {more} {b} {left} leaves lt put =
+    let walk : IsWalk (left_behind all boxes) (replicate put.many b) =
+    subst (λ (ls : List (List Entry)). IsWalk ls (replicate put.many b)) leaves.behind
+    (same_walk lists b put.many lt put.within) in
+    record {
+      walk = subst (λ (bs : List ℕ). IsWalk all bs) (sym put.told)
+          (walk_more all boxes (replicate put.many b) leaves.walk walk);
+      behind = put.rest ∙ sym (same_left lists b put.many lt)
+          ∙ ap (λ (ls : List (List Entry)). left_behind ls (replicate put.many b)) leaves.behind
+          ∙ sym (behind_more all boxes (replicate put.many b))
+          ∙ ap (λ (bs : List ℕ). left_behind all bs) (sym put.told);
+    }
+
+-- one entry more
+pub next_leaves : {all lists : List (List Entry)} {boxes more : List ℕ} (b : ℕ) {e : Entry}
+    {left : List (List Entry)} → Leaves all boxes lists → list_at lists b ≡ e ∷ drop 1 (list_at lists b)
+    → more ≡ boxes ++ b ∷ [] → left ≡ placed lists b → Leaves all more left
+next_leaves {all} {lists} {boxes} {more} b {e} {left} leaves next told rest =
+    let some : 0 < length (list_at lists b) = subst (λ (l : List Entry). 0 < length l) (sym next) (omega arith) in
+    record {
+      walk = subst (λ (bs : List ℕ). IsWalk all bs) (sym told)
+          (walk_more all boxes (b ∷ []) leaves.walk
+          (subst (λ (ls : List (List Entry)). IsWalk ls (b ∷ [])) leaves.behind (some, tt)));
+      behind = rest ∙ ap (λ (ls : List (List Entry)). placed ls b) leaves.behind
+          ∙ sym (behind_more all boxes (b ∷ [])) ∙ ap (λ (bs : List ℕ). left_behind all bs) (sym told);
+    }
+
+pub next_walked : {all lists : List (List Entry)} {boxes more : List ℕ} (b : ℕ) {e : Entry} → Leaves all boxes lists
+    → list_at lists b ≡ e ∷ drop 1 (list_at lists b) → more ≡ boxes ++ b ∷ []
+    → walked all more ≡ walked all boxes ++ e ∷ []
+next_walked {all} {lists} {boxes} {more} b {e} leaves next told =
+    ap (λ (bs : List ℕ). walked all bs) told ∙ walked_more all boxes (b ∷ [])
+    ∙ ap (λ (ls : List (List Entry)). walked all boxes ++ walked ls (b ∷ [])) (sym leaves.behind)
+    ∙ ap (λ (l : List Entry). walked all boxes ++ (take 1 l ++ [])) next
+
+-- the first box that is awake is one of those that there are
+pub awake_within : {awake asked : List Bool} (lists : List (List Entry)) {from b : ℕ} → asked ≡ awake
+    → length awake ≡ length lists → IsFirstAwake asked from (Some b) → b < length lists
+awake_within {awake} {asked} lists {from} {b} same each first =
+    let count : length asked ≡ length awake = ap (λ (bs : List Bool). length bs) same in
+    omega (arith, first.1, count, each)
+
+-- the loop comes to it, and these entries of it are placed
+pub kept_from : {plan : PlanFields} {all : List (List Entry)} {boxes : List ℕ} {pairs : List PairState}
+    {lists : List (List Entry)} {awake asked : List Bool} {rests : List ℕ} {from b : ℕ} {more : List ℕ}
+    {left : List (List Entry)} → IsPlan plan → Merges plan all (walked all boxes) pairs lists
+    → Leaves all boxes lists → AreRests plan lists rests → NoneAsleepOpen plan pairs lists awake
+    → NoneOpenBelow plan pairs lists from → asked ≡ awake → length awake ≡ length lists
+    → IsFirstAwake asked from (Some b) → AreTalliesPlaced b boxes lists more left
+    → IsKept plan all (walked all more) pairs left b awake rests
+kept_from {plan} {all} {boxes} {pairs} {lists} {awake} {asked} {rests} {from} {b} {more} {left}
+    is m leaves are asleep below same each first put =
+    let keeps = tallies_kept all lists boxes more b left leaves (awake_within lists same each first) put in
     keeps.keeps plan all pairs awake rests is (record {
       merges = m;
       below = awake_below plan pairs lists awake asked from b same asleep below first;

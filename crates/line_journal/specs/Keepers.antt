@@ -146,8 +146,8 @@ pub record IsPlacing (plan : PlanFields) (pairs : List PairState) (lists : List 
   pub words : after ≡ made plan pairs e
   pub rest : left ≡ placed lists b
 
--- the same of the entry that was placed, if there is one; else all is as it was, and the search goes on behind the box
-abbrev pub IsPlaced : PlanFields → List PairState → List (List Entry) → ℕ → Option Entry → List PairState
+-- whether it was placed: if it wasn't, all is as it was, and the search goes on behind the box
+abbrev pub IsPlaced : PlanFields → List PairState → List (List Entry) → ℕ → Bool → List PairState
     → List (List Entry) → ℕ → Type 0
-IsPlaced plan pairs lists b None after left from = (after ≡ pairs) × (left ≡ lists) × (from ≡ b + 1)
-IsPlaced plan pairs lists b (Some e) after left from = IsPlacing plan pairs lists b e after left
+IsPlaced plan pairs lists b false after left from = (after ≡ pairs) × (left ≡ lists) × (from ≡ b + 1)
+IsPlaced plan pairs lists b true after left from = (e : Entry) × IsPlacing plan pairs lists b e after left

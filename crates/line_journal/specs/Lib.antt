@@ -6,3 +6,4 @@ pub mod Merging
 pub mod FitTests
 pub mod Lists
 pub mod Keepers
+pub mod Walks

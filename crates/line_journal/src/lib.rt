@@ -8,6 +8,8 @@ mod laws;
 mod left;
 mod lines;
 mod merging;
+mod order;
 
 pub use laws::{exchange_law, order_law, parts_law, reply_law};
 pub use merging::{merge, merged};
+pub use order::{Merged, Walk};

@@ -1,22 +1,22 @@
 //! The merge of registers into the journal.
 
 ghost use Rattle.std.specs.Prelude.{◌≡◌, ◌↔◌, ◌<◌, ◌+◌, ◌-◌, ◌≤◌, ◌∷◌, if◌then◌else◌};
-ghost use Rattle.std.specs.Prelude.{◌++◌, IfOk, IsTrue, OnOk, All, true, false, drop, replicate, length, slice_set};
-ghost use Rattle.std.specs.Prelude.{option_copied};
+ghost use Rattle.std.specs.Prelude.{◌^◌, IfOk, IsTrue, All, true, false, drop, replicate, length, slice_set};
 ghost use Rattle.line_law.specs.States.{opening_pair};
 ghost use Rattle.word_laws.specs.Footprint.{way_at};
 ghost use Rattle.line_journal.specs.Keepers.{AreRests, IsFirstAwake, IsOpen, IsPlaced, NoneAsleepOpen, NoneOpenBelow};
 ghost use Rattle.line_journal.specs.Keepers.{opens_from, pair_woken, woken};
 ghost use Rattle.line_journal.specs.Lists.{AreOfBoxes, HasSpaceFor, HaveEnded};
-ghost use Rattle.line_journal.specs.Merging.{AreTallies, KeepsMerging};
-ghost use Rattle.line_law.specs.History.{entries_at};
-ghost use Rattle.line_journal.specs.Order.{IsMergeOf, list_at};
+ghost use Rattle.line_journal.specs.Merging.{AreTallies};
+ghost use Rattle.line_journal.specs.Order.{IsMergeOf, list_at, lists_of};
+ghost use Rattle.line_journal.specs.Walks.{AreTalliesPlaced, IsWalk, walked};
 ghost use Rattle.line_journal.specs.Halves.{made, pair_for};
 
 use crate::fitting::{fits, is_on_word, make};
 use crate::keepers::{firsts_of, is_passed};
 use crate::left::Left;
 use crate::lines::word_of;
+use crate::order::Merged;
 use block_words::Way;
 use line_law::{Entry, Journal, PairState};
 use line_plan::{Items, Plan};
@@ -122,15 +122,15 @@ fn pass_over(awake: &mut [bool], from: &mut usize, box_no: usize)
 }
 
 // Places the next entry of a box that is awake, if it is open; if it isn't, the box falls asleep.
-fn place<'a>(
+fn place(
     plan: &Plan,
     pairs: &mut [PairState],
-    left: &mut Left<'a>,
+    left: &mut Left<'_>,
     rests: &mut [usize],
     awake: &mut [bool],
     from: &mut usize,
     box_no: usize,
-) -> Option<&'a Entry>
+) -> bool
     requires box_no { box_no < length left.old }
     requires pairs { length pairs.old ≡ length plan.now.boxes - 1 }
     requires boxes { AreOfBoxes plan.now left.old }
@@ -144,19 +144,18 @@ fn place<'a>(
     ensures each { length awake.new ≡ length left.new }
     ensures asleep { NoneAsleepOpen plan.now pairs.new left.new awake.new }
     ensures below { NoneOpenBelow plan.now pairs.new left.new from.new }
-    ensures placed { IsPlaced plan.now pairs.old left.old box_no (option_copied result) pairs.new left.new
-        from.new }
+    ensures placed { IsPlaced plan.now pairs.old left.old box_no result pairs.new left.new from.new }
 {
     let Some(entry) = left.of_box(box_no).first() else {
         pass_over(awake, from, box_no);
-        return None;
+        return false;
     };
     if !answer(plan, pairs, left, rests, awake, from, box_no, entry) {
         pass_over(awake, from, box_no);
-        return None;
+        return false;
     }
     left.place_next(box_no);
-    Some(entry)
+    true
 }
 
 // How many of these entries, from the first on, were decided on their box's own tally.
@@ -172,30 +171,15 @@ fn tallies_in(entries: &[Entry]) -> usize
     entries.len()
 }
 
-// Puts these entries, where they stand, behind others.
-fn put_each<'a>(entries: &mut Vec<&'a Entry>, more: &'a [Entry]) -> Result<(), NoMemory>
-    ensures { OnOk result (entries_at entries.new.items ≡ entries_at entries.old.items ++ more.now) }
-{
-    for entry in more {
-        entries.push(entry)?;
-    }
-    Ok(())
-}
-
 // Places the next entries of a box as long as they were decided on its own tally: where no lower box is open, one after
 // another is the next.
-fn place_tallies<'a>(
-    left: &mut Left<'a>,
-    entries: &mut Vec<&'a Entry>,
-    box_no: usize,
-) -> Result<(), NoMemory>
-    requires { box_no < length left.old }
-    ensures { IfOk result (λ done. KeepsMerging box_no (entries_at entries.old.items) left.old
-        (entries_at entries.new.items) left.new) }
+fn place_tallies(left: &mut Left<'_>, boxes: &mut Vec<u8>, box_no: usize) -> Result<(), NoMemory>
+    requires box_no { box_no < length left.old }
+    requires few { box_no < 2 ^ 8 }
+    ensures { IfOk result (λ done. AreTalliesPlaced box_no boxes.old.items left.old boxes.new.items left.new) }
 {
-    let next = left.of_box(box_no);
-    let many = tallies_in(next);
-    put_each(entries, &next[..many])?;
+    let many = tallies_in(left.of_box(box_no));
+    boxes.resize(boxes.len() + many, box_no as u8)?;
     left.place_some(box_no, many);
     Ok(())
 }
@@ -235,40 +219,52 @@ fn open_rests(alloc: Global, plan: &Plan, left: &Left<'_>) -> Result<Vec<usize>,
     Ok(rests)
 }
 
+// The boxes of the journal's entries, in its order.
+fn merged_boxes(alloc: Global, plan: &Plan, ended: &Ended) -> Result<Vec<u8>, NoMemory>
+    requires { HaveEnded plan.now ended.now.registers }
+    ensures walk { IfOk result (λ boxes. IsWalk (lists_of ended.now.registers) boxes.items) }
+    ensures merge { IfOk result (λ boxes.
+        IsMergeOf plan.now ended.now.registers (walked (lists_of ended.now.registers) boxes.items)) }
+{
+    plan.meets_conditions();
+    let mut pairs = open_pairs(alloc, plan.boxes.len() - 1)?;
+    let mut left = Left::new(alloc, ended.registers.as_slice())?;
+    let mut rests = open_rests(alloc, plan, &left)?;
+    let mut awake = all_awake(alloc, left.boxes())?;
+    let mut boxes = Vec::with_capacity(alloc, left.count())?;
+    let mut from = 0;
+    while let Some(box_no) = next_awake(&awake, from) {
+        place_tallies(&mut left, &mut boxes, box_no)?;
+        if place(
+            plan, &mut pairs, &mut left, &mut rests, &mut awake, &mut from, box_no,
+        ) {
+            boxes.push(box_no as u8)?;
+        }
+    }
+    Ok(boxes)
+}
+
 /// Merges the registers of a line that has ended into its journal, or tells that memory ran out: the entries of the
 /// journal, where they stand in the registers. The registers are the parts of one legal history of the line. At each
 /// point the next entry is that of the lowest-numbered box whose next entry has the reply that the law gives there, and
 /// is kept back by no remaining entry of another box. That never gets stuck; the journal is a legal history of the
 /// line, with these registers as its parts, and so in the order of its own parts.
-pub fn merged<'a>(alloc: Global, plan: &Plan, ended: &'a Ended) -> Result<Vec<&'a Entry>, NoMemory>
+pub fn merged<'a>(alloc: Global, plan: &Plan, ended: &'a Ended) -> Result<Merged<'a>, NoMemory>
     requires { HaveEnded plan.now ended.now.registers }
-    ensures { IfOk result (λ entries. IsMergeOf plan.now ended.now.registers (entries_at entries.items)) }
+    ensures { IfOk result (IsMergeOf plan.now ended.now.registers) }
 {
-    let mut pairs = open_pairs(alloc, plan.boxes.len() - 1)?;
-    let mut left = Left::new(alloc, ended.registers.as_slice())?;
-    let mut rests = open_rests(alloc, plan, &left)?;
-    let mut awake = all_awake(alloc, left.boxes())?;
-    let mut entries = Vec::with_capacity(alloc, left.count())?;
-    let mut from = 0;
-    while let Some(box_no) = next_awake(&awake, from) {
-        place_tallies(&mut left, &mut entries, box_no)?;
-        let placed = place(
-            plan, &mut pairs, &mut left, &mut rests, &mut awake, &mut from, box_no,
-        );
-        if let Some(entry) = placed {
-            entries.push(entry)?;
-        }
-    }
-    Ok(entries)
+    let boxes = merged_boxes(alloc, plan, ended)?;
+    Ok(Merged::new(ended.registers.as_slice(), boxes))
 }
 
 // The same entries by themselves.
-fn copied(alloc: Global, entries: &[&Entry]) -> Result<Vec<Entry>, NoMemory>
-    ensures { IfOk result (λ copied. copied.items ≡ entries_at entries.now) }
+fn copied(alloc: Global, merged: &Merged<'_>) -> Result<Vec<Entry>, NoMemory>
+    ensures { IfOk result (λ copied. copied.items ≡ merged.now) }
 {
-    let mut copied = Vec::with_capacity(alloc, entries.len())?;
-    for entry in entries {
-        copied.push(**entry)?;
+    let mut copied = Vec::with_capacity(alloc, merged.len())?;
+    let mut walk = merged.walk(alloc)?;
+    while let Some(entry) = walk.next() {
+        copied.push(*entry)?;
     }
     Ok(copied)
 }
@@ -278,8 +274,8 @@ pub fn merge(alloc: Global, plan: &Plan, ended: &Ended) -> Result<Journal, NoMem
     requires { HaveEnded plan.now ended.now.registers }
     ensures { IfOk result (λ journal. IsMergeOf plan.now ended.now.registers journal.entries) }
 {
-    let entries = merged(alloc, plan, ended)?;
+    let merged = merged(alloc, plan, ended)?;
     Ok(Journal {
-        entries: Items::from_vec(copied(alloc, &entries)?),
+        entries: Items::from_vec(copied(alloc, &merged)?),
     })
 }

@@ -1,10 +1,10 @@
 -- The trains of each pair of neighbours, counted entry by entry.
-use Rattle.std.proofs.Common.{◌≡◌, ◌≢◌, ◌⊎◌, ℕ, ◌+◌, ◌-◌, ◌<◌, ◌≤◌, ◌^◌, Bool, true, false, inl, inr, List}
+use Rattle.std.proofs.Common.{◌≡◌, ◌≢◌, ◌⊎◌, ℕ, ◌+◌, ◌-◌, ◌<◌, ◌≤◌, ◌^◌, Bool, true, false, inl, inr, List, [], ◌∷◌}
 use Rattle.std.proofs.Common.{◌++◌, length, take, drop, get_or, replicate, refl, sym, ap, subst, ◌∙◌, arith}
 use Rattle.std.proofs.lemmas.Bool.{cases_lt}
 use Rattle.std.proofs.lemmas.Bool.Decides.{eqb_tells, nat_tests}
-use Rattle.std.specs.Borrow.{Bor}
-use Rattle.std.proofs.lemmas.List.{get_or-map, get_or-set_other, get_or-set_same, get_or_past, length-replicate}
+use Rattle.std.proofs.lemmas.List.{drop_more, length-drop}
+use Rattle.std.proofs.lemmas.List.{get_or-set_other, get_or-set_same, get_or_past, length-replicate}
 use Rattle.std.proofs.lemmas.List.{length-set}
 use Rattle.std.proofs.lemmas.List.{take_at}
 use Rattle.block_words.specs.declared.Way.{Way}
@@ -13,7 +13,7 @@ use Rattle.line_plan.specs.Plans.{IsPlan, PlanFields}
 use Rattle.line_plan.specs.Sections.{IsSection, advance_of}
 use Rattle.line_law.specs.declared.call.Entry.{Entry}
 use Rattle.line_law.specs.declared.ways.ByWay.{ByWay}
-use Rattle.line_law.specs.History.{IsLegal, entries_at}
+use Rattle.line_law.specs.History.{IsLegal}
 use Rattle.line_law.specs.Ways.{of_way}
 use Rattle.line_law.proofs.Opens.{all_one}
 use Rattle.line_report.specs.Between.{AreMost, CountsBeside, CountsOn, MayGain, pairs_after, pair_after, no_trains}
@@ -111,7 +111,7 @@ pairs_first plan es n trains is legal pairs none =
     }
 
 -- each pair has room for a train more
-pub pairs_room : (plan : PlanFields) (es : List Entry) (i : ℕ) (trains : List (ByWay HeldTrains)) → i + 1 < 2 ^ 32
+pairs_room : (plan : PlanFields) (es : List Entry) (i : ℕ) (trains : List (ByWay HeldTrains)) → i + 1 < 2 ^ 32
     → AreCounted plan es i trains → (p : ℕ) → MayGain (trains_at trains p)
 pairs_room plan es i trains few h p = elim (cases_lt p (length trains)) [
   | inl within ↦
@@ -191,7 +191,7 @@ pairs_on plan es i d old new lt counts h = go (counts_trains (get_or es i d).rep
       )
 
 -- one entry more of a list, whose pairs are then written back
-pub pairs_at : (plan : PlanFields) (es : List Entry) (i : ℕ) (d : Entry) (len : ℕ) (old new : List (ByWay HeldTrains))
+pairs_at : (plan : PlanFields) (es : List Entry) (i : ℕ) (d : Entry) (len : ℕ) (old new : List (ByWay HeldTrains))
     → i < length es → CountsOn plan (get_or es i d) old new → len ≡ length old → AreCounted plan es i old
     → AreCounted plan es (i + 1) (take len (new ++ drop (length new) old))
 pairs_at plan es i d len old new lt counts is h =
@@ -201,7 +201,7 @@ pairs_at plan es i d len old new lt counts is h =
     subst (λ (trains : List (ByWay HeldTrains)). AreCounted plan es (i + 1) trains) (sym written) on.1
 
 -- behind the last entry
-pub pairs_end : (plan : PlanFields) (es : List Entry) (i : ℕ) (trains : List (ByWay HeldTrains)) → length es ≤ i
+pairs_end : (plan : PlanFields) (es : List Entry) (i : ℕ) (trains : List (ByWay HeldTrains)) → length es ≤ i
     → AreCounted plan es i trains → AreMost plan es trains
 pairs_end plan es i trains le h = record {
   each = h.each;
@@ -210,11 +210,43 @@ pairs_end plan es i trains le h = record {
       (h.counted p way lt);
 }
 
--- the trains are counted on by the entry where one points
-pub counts_at : (plan : PlanFields) (es : List (Bor Entry)) (i : ℕ) (d : Bor Entry)
-    (read old new : List (ByWay HeldTrains)) → i < length es → read ≡ old → CountsOn plan (get_or es i d).now read new
-    → CountsOn plan (get_or (entries_at es) i no_entry) old new
-counts_at plan es i d read old new within same counts =
-    subst (λ (e : Entry). CountsOn plan e old new)
-    (sym (get_or-map (λ (entry : Bor Entry). entry.now) es i d no_entry within))
-    (subst (λ (trains : List (ByWay HeldTrains)). CountsOn plan (get_or es i d).now trains new) same counts)
+-- ---- along the entries
+
+-- where so many entries are behind, the next one is the first ahead
+next_of : (es : List Entry) (i : ℕ) (e : Entry) (rest : List Entry) → e ∷ rest ≡ drop i es
+    → (i < length es) × (get_or es i no_entry ≡ e) × (rest ≡ drop (i + 1) es)
+next_of es i e rest ahead =
+    let some = ap (λ (xs : List Entry). length xs) ahead in
+    let long = length-drop i es in
+    let lt : i < length es = omega (arith, some, long) in
+    let both : e ∷ rest ≡ get_or es i no_entry ∷ drop (i + 1) es = ahead ∙ drop_more es i no_entry lt in
+    (lt, cc both, cc both)
+
+-- the trains are counted on by it
+pub counts_next : (plan : PlanFields) (es : List Entry) (i len : ℕ) (e : Entry) (rest : List Entry)
+    (read old new : List (ByWay HeldTrains)) → e ∷ rest ≡ drop i es → read ≡ old → CountsOn plan e read new
+    → len ≡ length old → AreCounted plan es i old
+    → AreCounted plan es (i + 1) (take len (new ++ drop (length new) old)) × (rest ≡ drop (i + 1) es)
+counts_next plan es i len e rest read old new ahead same counts is h =
+    let next = next_of es i e rest ahead in
+    let here : CountsOn plan (get_or es i no_entry) old new =
+    subst (λ (x : Entry). CountsOn plan x old new) (sym next.1)
+    (subst (λ (trains : List (ByWay HeldTrains)). CountsOn plan e trains new) same counts) in
+    (pairs_at plan es i no_entry len old new next.0 here is h, next.2)
+
+-- with an entry ahead, each pair has room for a train more
+pub room_ahead : (plan : PlanFields) (es : List Entry) (i : ℕ) (e : Entry) (rest : List Entry)
+    (read trains : List (ByWay HeldTrains)) → e ∷ rest ≡ drop i es → length es < 2 ^ 32 → read ≡ trains
+    → AreCounted plan es i trains → (p : ℕ) → MayGain (trains_at read p)
+room_ahead plan es i e rest read trains ahead few same h p =
+    let next = next_of es i e rest ahead in
+    subst (λ (ts : List (ByWay HeldTrains)). MayGain (trains_at ts p)) (sym same)
+    (pairs_room plan es i trains (omega (arith, next.0, few)) h p)
+
+-- with none ahead, these are the most of the journal
+pub counts_end : (plan : PlanFields) (es : List Entry) (i : ℕ) (trains : List (ByWay HeldTrains)) → [] ≡ drop i es
+    → AreCounted plan es i trains → AreMost plan es trains
+counts_end plan es i trains ahead h =
+    let none = ap (λ (xs : List Entry). length xs) ahead in
+    let long = length-drop i es in
+    pairs_end plan es i trains (omega (arith, none, long)) h

@@ -9,7 +9,6 @@ mod journal_reader;
 mod judging;
 mod laws;
 mod reading;
-mod refusals;
 mod sections;
 
 pub use hearing::{Hearing, judge_text};
@@ -21,5 +20,4 @@ pub use laws::{
     verdict_law,
 };
 pub use reading::{journals_law, read_journal};
-pub use refusals::refused_count;
 pub use sections::{HeldTrains, count_on, most_trains, no_trains, put_sections};

@@ -1,10 +1,11 @@
 //! The most trains that each section of a line held.
 
 ghost use Rattle.std.specs.Prelude.{◌≡◌, ◌+◌, ◌++◌, ◌∷◌, ◌<◌, ◌≤◌, ◌^◌, ℕ, IfOk, OnOk, length, replicate};
-ghost use Rattle.std.specs.Prelude.{IsOk, OnErr, string_bytes};
+ghost use Rattle.std.specs.Prelude.{IsOk, List, OnErr, string_bytes};
 ghost use Rattle.line_plan.specs.Plans.{box_name};
 ghost use Rattle.line_plan.specs.Sections.{IsSection, advance_of, limit_of};
-ghost use Rattle.line_law.specs.History.{IsLegal, entries_at};
+ghost use Rattle.line_law.specs.declared.call.Entry.{Entry};
+ghost use Rattle.line_law.specs.History.{IsLegal};
 ghost use Rattle.line_law.specs.Sections.{IsClean};
 ghost use Rattle.line_report.specs.Asked.{AreFewEntries};
 ghost use Rattle.line_report.specs.Between.{AreMost, CountsBeside, CountsOn, MayGain, no_trains, pair_after};
@@ -268,24 +269,6 @@ pub fn no_trains(alloc: Global, pairs: usize) -> Result<Vec<ByWay<HeldTrains>>, 
     Ok(vec![in alloc; none; pairs]?)
 }
 
-// The most trains that the sections of each pair held, counted entry by entry.
-fn most_by_pairs(
-    alloc: Global,
-    plan: &Plan,
-    entries: &[&Entry],
-) -> Result<Vec<ByWay<HeldTrains>>, NoMemory>
-    requires legal { IsLegal plan.now (entries_at entries.now) }
-    requires few { AreFewEntries (entries_at entries.now) }
-    ensures { IfOk result (λ trains. AreMost plan.now (entries_at entries.now) trains.items) }
-{
-    plan.meets_conditions();
-    let mut trains = no_trains(alloc, plan.boxes.len() - 1)?;
-    for entry in entries {
-        count_on(&mut trains, plan, entry);
-    }
-    Ok(trains)
-}
-
 // A section as it is named: its way, its rear box and its box in advance.
 fn put_named(out: &mut String, plan: &Plan, section: Section) -> Result<(), AllocError>
     requires { IsSection plan.now section }
@@ -339,25 +322,23 @@ fn put_pairs(out: &mut String, plan: &Plan, trains: &[ByWay<HeldTrains>]) -> Res
 }
 
 /// Puts the lines of all sections behind a text: for each pair of neighbours in order that of the down line, and then
-/// that of the up line, each with the most trains that the section held after any of the entries of a legal journal, or
-/// before them all. The entries are read where they stand; there are fewer than 2^32. Where memory runs out the text is
-/// as it was.
+/// that of the up line, each with the most trains that were counted of the section. Where memory runs out the text is as
+/// it was.
 #[tactic(auto, using(crate::proofs::PairTexts::all_pairs))]
 pub fn put_sections(
     out: &mut String,
     alloc: Global,
     plan: &Plan,
-    entries: &[&Entry],
+    trains: &[ByWay<HeldTrains>],
 ) -> Result<(), NoMemory>
-    requires legal { IsLegal plan.now (entries_at entries.now) }
-    requires few { AreFewEntries (entries_at entries.now) }
-    ensures put { OnOk result
-        (string_bytes out.new ≡ string_bytes out.old ++ sections_text plan.now (entries_at entries.now)) }
+    requires { length trains.now + 1 ≡ length plan.now.boxes }
+    ensures put { OnOk result (string_bytes out.new ≡ string_bytes out.old ++ pairs_text plan.now 0 trains.now) }
+    ensures most { (es : List Entry) → AreMost plan.now es trains.now
+        → OnOk result (string_bytes out.new ≡ string_bytes out.old ++ sections_text plan.now es) }
     ensures kept { OnErr result (string_bytes out.new ≡ string_bytes out.old) }
 {
-    let trains = most_by_pairs(alloc, plan, entries)?;
     let mut lines = String::new(alloc);
-    put_pairs(&mut lines, plan, &trains)?;
+    put_pairs(&mut lines, plan, trains)?;
     put_text(out, lines)?;
     Ok(())
 }

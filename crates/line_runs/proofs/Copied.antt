@@ -3,16 +3,13 @@ use Rattle.std.proofs.Common.{◌≡◌, ◌≢◌, ℕ, zero, suc, ◌+◌, ◌
 use Rattle.std.proofs.Common.{length, map, drop, get_or, slice_set, Option, Some, refl, sym, ap, subst, ◌∙◌}
 use Rattle.std.proofs.Common.{append_assoc}
 use Rattle.std.proofs.Common.{arith, codes, decimal, ◌⊎◌, inl, inr}
-use Rattle.std.proofs.Common.{◌-◌, take, take_all}
-use Rattle.std.proofs.lemmas.List.{drop-map, length-drop}
-use Rattle.std.proofs.Math.ListN.{get_or-map as get_or-map-any}
-use Rattle.std.specs.Borrow.{Bor}
+use Rattle.std.proofs.lemmas.List.{drop-drop, length-drop}
 use Rattle.std.specs.Option.{unwrap_or}
 use Rattle.std.specs.Prelude.{All}
-use Rattle.std.proofs.lemmas.List.Elements.{All-get_or}
+use Rattle.std.proofs.lemmas.List.Elements.{All-head, All-tail}
 use Rattle.std.proofs.lemmas.Bool.{eq-eqb}
 use Rattle.std.proofs.lemmas.Bool.Decides.{eqb_tells}
-use Rattle.std.proofs.lemmas.List.{append-nil, drop_more, get_or-map, get_or-set_other, get_or-set_same, length-append}
+use Rattle.std.proofs.lemmas.List.{append-nil, get_or-map, get_or-set_other, get_or-set_same, length-append}
 use Rattle.std.proofs.lemmas.List.{length-map, length-set}
 use Rattle.std.proofs.lemmas.List.Elements.{filter-append}
 use Rattle.std.proofs.lemmas.List.Filters.{length-filter_both}
@@ -23,16 +20,12 @@ use Rattle.rail_text.proofs.PrintedWords.{decimal_is_word, list_all-both, name_i
 use Rattle.rail_text.proofs.PrintedWords.{word_lacks_space}
 use Rattle.line_plan.specs.Plans.{IsPlan, PlanFields, box_name, names_of}
 use Rattle.line_law.specs.declared.call.Entry.{Entry}
-use Rattle.line_law.specs.History.{entries_at, part_of}
+use Rattle.line_law.specs.History.{part_of}
 use Rattle.script_text.specs.Entries.{IsSpelled, told_text}
 use Rattle.script_text.proofs.Named.{valid_at}
 use Rattle.train_register.specs.Registers.{AreParts, RegisterFields, no_register, register_at, register_text}
 use Rattle.train_register.specs.Registers.{told_line, told_lines}
 use Rattle.line_report.specs.Asked.{AreFewEntries}
-use Rattle.line_report.specs.Journals.{entries_text, entry_text}
-use Rattle.line_report.specs.Refusals.{refused_entries, refused_entry}
-use Rattle.line_report.proofs.Entries.{more_entries}
-use Rattle.line_runs.proofs.Refused.{more_refused}
 use Rattle.line_report.proofs.EntryLines.{line_lacks_end}
 use Rattle.line_runs.specs.Copying.{AreLinesLeft, AreToldLines, behind_line, told_in}
 
@@ -151,7 +144,7 @@ own_lines plan e es lines spelled left =
     subst (λ (own : List Entry). AreToldLines plan own (get_or lines e.box_no [])) (part_same e es)
     (left.told e.box_no spelled.box)
 
-pub told_next : (plan : PlanFields) (e : Entry) (es : List Entry) (lines : List (List ℕ)) → IsPlan plan
+told_next : (plan : PlanFields) (e : Entry) (es : List Entry) (lines : List (List ℕ)) → IsPlan plan
     → IsSpelled plan e → AreLinesLeft plan (e ∷ es) lines → told_in (get_or lines e.box_no []) ≡ told_text plan e
 told_next plan e es lines is spelled left =
     let own = own_lines plan e es lines spelled left in
@@ -160,7 +153,7 @@ told_next plan e es lines is spelled left =
     ap (λ (t : List ℕ). told_in t) (own.2.1 ∙ append_assoc (told_line plan own.0 e) later own.2.0)
     ∙ told_of_line plan own.0 e (later ++ own.2.0) is few spelled
 
-pub left_next : (plan : PlanFields) (e : Entry) (es : List Entry) (lines : List (List ℕ)) → IsPlan plan
+left_next : (plan : PlanFields) (e : Entry) (es : List Entry) (lines : List (List ℕ)) → IsPlan plan
     → IsSpelled plan e → AreLinesLeft plan (e ∷ es) lines
     → AreLinesLeft plan es (slice_set lines e.box_no (behind_line (get_or lines e.box_no [])))
 left_next plan e es lines is spelled left = record {
@@ -232,7 +225,7 @@ left_in_front plan es fs lines left = record { each = left.each; told = in_front
         ),
       )
 
--- ---- the loop
+-- ---- the next entry
 
 -- what is read of a place that is there doesn't depend on what stands for one that isn't
 read_any : (lines : List (List ℕ)) (k : ℕ) (d e : List ℕ) → k < length lines → get_or lines k d ≡ get_or lines k e
@@ -240,102 +233,65 @@ read_any [] k d e lt = absurd (omega arith)
 read_any (line ∷ lines) zero d e lt = refl
 read_any (line ∷ lines) (suc k) d e lt = read_any lines k d e (omega arith)
 
-pub told_here : (plan : PlanFields) (es : List Entry) (i : ℕ) (d : Entry) (lines : List (List ℕ))
-    (other told : List ℕ) → IsPlan plan → i < length es → IsSpelled plan (get_or es i d)
-    → AreLinesLeft plan (drop i es) lines → told ≡ told_in (get_or lines (get_or es i d).box_no other)
-    → told ≡ told_text plan (get_or es i d)
-told_here plan es i d lines other told is lt spelled left told_is =
-    let e : Entry = get_or es i d in
-    let here : AreLinesLeft plan (e ∷ drop (i + 1) es) lines =
-    subst (λ (xs : List Entry). AreLinesLeft plan xs lines) (drop_more es i d lt) left in
-    let read : get_or lines e.box_no other ≡ get_or lines e.box_no [] =
-    read_any lines e.box_no other [] (omega (arith, spelled.box, left.each)) in
-    told_is ∙ (ap (λ (t : List ℕ). told_in t) read ∙ told_next plan e (drop (i + 1) es) lines is spelled here)
+-- the first entry ahead can be spelled, and so can the others
+pub spelled_ahead : {plan : PlanFields} {ahead rest : List Entry} {e : Entry} → All (IsSpelled plan) ahead
+    → ahead ≡ e ∷ rest → IsSpelled plan e × All (IsSpelled plan) rest
+spelled_ahead {plan} {ahead} {rest} {e} spelled next =
+    let here : All (IsSpelled plan) (e ∷ rest) = subst (λ (es : List Entry). All (IsSpelled plan) es) next spelled in
+    (All-head (IsSpelled plan) e rest here, All-tail (IsSpelled plan) e rest here)
 
-pub left_more : (plan : PlanFields) (es : List Entry) (i : ℕ) (d : Entry) (lines : List (List ℕ))
-    (other rest : List ℕ) → IsPlan plan → i < length es → IsSpelled plan (get_or es i d)
-    → AreLinesLeft plan (drop i es) lines
-    → rest ≡ behind_line (get_or lines (get_or es i d).box_no other)
-    → AreLinesLeft plan (drop (i + 1) es) (slice_set lines (get_or es i d).box_no rest)
-left_more plan es i d lines other rest is lt spelled left behind =
-    let e : Entry = get_or es i d in
-    let here : AreLinesLeft plan (e ∷ drop (i + 1) es) lines =
-    subst (λ (xs : List Entry). AreLinesLeft plan xs lines) (drop_more es i d lt) left in
-    let read : get_or lines e.box_no other ≡ get_or lines e.box_no [] =
-    read_any lines e.box_no other [] (omega (arith, spelled.box, left.each)) in
-    subst (λ (t : List ℕ). AreLinesLeft plan (drop (i + 1) es) (slice_set lines e.box_no t))
-    (sym (behind ∙ ap (λ (t : List ℕ). behind_line t) read))
-    (left_next plan e (drop (i + 1) es) lines is spelled here)
+-- their numbers are no greater
+pub fewer_ahead : (n : ℕ) {ahead rest : List Entry} {e : Entry} {most : ℕ} → ahead ≡ e ∷ rest → n + length ahead < most
+    → n + 1 + length rest < most
+fewer_ahead n {ahead} {rest} {e} {most} next few =
+    let long = ap (λ (es : List Entry). length es) next in
+    omega (arith, long, few)
 
--- ---- the same, of entries where these point
+-- those behind it
+pub rest_ahead : (n : ℕ) (all : List Entry) {ahead rest : List Entry} {e : Entry} → ahead ≡ drop n all
+    → ahead ≡ e ∷ rest → rest ≡ drop (n + 1) all
+rest_ahead n all {ahead} {rest} {e} was next =
+    ap (λ (es : List Entry). drop 1 es) (sym next ∙ was) ∙ drop-drop 1 n all
 
-pub spelled_at : (plan : PlanFields) (es : List (Bor Entry)) (i : ℕ) (d : Bor Entry) → i < length es
-    → All (IsSpelled plan) (entries_at es) → IsSpelled plan (get_or es i d).now
-spelled_at plan es i d lt spelled =
-    subst (IsSpelled plan) (get_or-map-any (λ (e : Bor Entry). e.now) es i d)
-    (All-get_or (IsSpelled plan) (entries_at es) i d.now
-    (omega (arith, lt, length-map es (λ (e : Bor Entry). e.now))) spelled)
+-- some are ahead of the first that there are
+pub some_ahead : (n many : ℕ) (all : List Entry) {ahead : List Entry} → ahead ≡ drop n all → ahead ≡ [] → n < many
+    → many ≤ length all → ⊥
+some_ahead n many all {ahead} was none within fits =
+    let long = length-drop n all in
+    let same = ap (λ (es : List Entry). length es) (sym was ∙ none) in
+    omega (arith, long, same, within, fits)
 
 -- the register of its box is one of those that are left
-pub box_within : (plan : PlanFields) (es : List (Bor Entry)) (i : ℕ) (d : Bor Entry) (lines : List (List ℕ))
-    → i < length es → All (IsSpelled plan) (entries_at es) → AreLinesLeft plan (drop i (entries_at es)) lines
-    → (get_or es i d).now.box_no < length lines
-box_within plan es i d lines lt spelled left =
-    omega (arith, (spelled_at plan es i d lt spelled).box, left.each)
+pub box_ahead : {plan : PlanFields} {ahead rest : List Entry} {e : Entry} {lines : List (List ℕ)}
+    → All (IsSpelled plan) ahead → AreLinesLeft plan ahead lines → ahead ≡ e ∷ rest → e.box_no < length lines
+box_ahead {plan} {ahead} {rest} {e} {lines} spelled left next =
+    omega (arith, (spelled_ahead spelled next).0.box, left.each)
 
-pub told_at : (plan : PlanFields) (es : List (Bor Entry)) (i : ℕ) (d : Bor Entry) (lines : List (List ℕ))
-    (other told : List ℕ) → IsPlan plan → i < length es → All (IsSpelled plan) (entries_at es)
-    → AreLinesLeft plan (drop i (entries_at es)) lines
-    → told ≡ told_in (get_or lines (get_or es i d).now.box_no other) → told ≡ told_text plan (get_or es i d).now
-told_at plan es i d lines other told is lt spelled left told_is =
-    let here : get_or (entries_at es) i d.now ≡ (get_or es i d).now =
-    get_or-map-any (λ (e : Bor Entry). e.now) es i d in
-    let within : i < length (entries_at es) = omega (arith, lt, length-map es (λ (e : Bor Entry). e.now)) in
-    subst (λ (e : Entry). told ≡ told_text plan e) here
-    (told_here plan (entries_at es) i d.now lines other told is within
-    (All-get_or (IsSpelled plan) (entries_at es) i d.now within spelled) left
-    (subst (λ (e : Entry). told ≡ told_in (get_or lines e.box_no other)) (sym here) told_is))
+pub told_ahead : {plan : PlanFields} {ahead rest : List Entry} {e : Entry} {lines : List (List ℕ)} (other : List ℕ)
+    {told : List ℕ} → IsPlan plan → All (IsSpelled plan) ahead → AreLinesLeft plan ahead lines → ahead ≡ e ∷ rest
+    → told ≡ told_in (get_or lines e.box_no other) → told ≡ told_text plan e
+told_ahead {plan} {ahead} {rest} {e} {lines} other {told} is spelled left next told_is =
+    let here : AreLinesLeft plan (e ∷ rest) lines = subst (λ (es : List Entry). AreLinesLeft plan es lines) next left in
+    let can = (spelled_ahead spelled next).0 in
+    let read : get_or lines e.box_no other ≡ get_or lines e.box_no [] =
+    read_any lines e.box_no other [] (omega (arith, can.box, left.each)) in
+    told_is ∙ (ap (λ (t : List ℕ). told_in t) read ∙ told_next plan e rest lines is can here)
 
-pub left_at : (plan : PlanFields) (es : List (Bor Entry)) (i : ℕ) (d : Bor Entry) (lines : List (List ℕ))
-    (other rest : List ℕ) → IsPlan plan → i < length es → All (IsSpelled plan) (entries_at es)
-    → AreLinesLeft plan (drop i (entries_at es)) lines
-    → rest ≡ behind_line (get_or lines (get_or es i d).now.box_no other)
-    → AreLinesLeft plan (drop (i + 1) (entries_at es)) (slice_set lines (get_or es i d).now.box_no rest)
-left_at plan es i d lines other rest is lt spelled left behind =
-    let here : get_or (entries_at es) i d.now ≡ (get_or es i d).now =
-    get_or-map-any (λ (e : Bor Entry). e.now) es i d in
-    let within : i < length (entries_at es) = omega (arith, lt, length-map es (λ (e : Bor Entry). e.now)) in
-    subst (λ (e : Entry). AreLinesLeft plan (drop (i + 1) (entries_at es)) (slice_set lines e.box_no rest)) here
-    (left_more plan (entries_at es) i d.now lines other rest is within
-    (All-get_or (IsSpelled plan) (entries_at es) i d.now within spelled) left
-    (subst (λ (e : Entry). rest ≡ behind_line (get_or lines e.box_no other)) (sym here) behind))
+pub left_ahead : {plan : PlanFields} {ahead rest : List Entry} {e : Entry} {lines : List (List ℕ)} (other : List ℕ)
+    {behind : List ℕ} → IsPlan plan → All (IsSpelled plan) ahead → AreLinesLeft plan ahead lines
+    → ahead ≡ e ∷ rest → behind ≡ behind_line (get_or lines e.box_no other)
+    → AreLinesLeft plan rest (slice_set lines e.box_no behind)
+left_ahead {plan} {ahead} {rest} {e} {lines} other {behind} is spelled left next behind_is =
+    let here : AreLinesLeft plan (e ∷ rest) lines = subst (λ (es : List Entry). AreLinesLeft plan es lines) next left in
+    let can = (spelled_ahead spelled next).0 in
+    let read : get_or lines e.box_no other ≡ get_or lines e.box_no [] =
+    read_any lines e.box_no other [] (omega (arith, can.box, left.each)) in
+    subst (λ (t : List ℕ). AreLinesLeft plan rest (slice_set lines e.box_no t))
+    (sym (behind_is ∙ ap (λ (t : List ℕ). behind_line t) read)) (left_next plan e rest lines is can here)
 
-pub entries_more_at : (plan : PlanFields) (number : ℕ) (es : List (Bor Entry)) (i : ℕ) (d : Bor Entry)
-    (old out new : List ℕ) → i < length es → out ≡ old ++ entries_text plan number (take i (entries_at es))
-    → new ≡ out ++ entry_text plan (number + i) (get_or es i d).now
-    → new ≡ old ++ entries_text plan number (take (i + 1) (entries_at es))
-entries_more_at plan number es i d old out new lt before more =
-    let here : get_or (entries_at es) i d.now ≡ (get_or es i d).now =
-    get_or-map-any (λ (e : Bor Entry). e.now) es i d in
-    more_entries plan number (entries_at es) i d.now old out new
-    (omega (arith, lt, length-map es (λ (e : Bor Entry). e.now))) before
-    (subst (λ (e : Entry). new ≡ out ++ entry_text plan (number + i) e) (sym here) more)
-
-pub refused_more_at : (plan : PlanFields) (number : ℕ) (es : List (Bor Entry)) (i : ℕ) (d : Bor Entry)
-    (old out new : List ℕ) → i < length es → out ≡ old ++ refused_entries plan number (take i (entries_at es))
-    → new ≡ out ++ refused_entry plan (number + i) (get_or es i d).now
-    → new ≡ old ++ refused_entries plan number (take (i + 1) (entries_at es))
-refused_more_at plan number es i d old out new lt before more =
-    let here : get_or (entries_at es) i d.now ≡ (get_or es i d).now =
-    get_or-map-any (λ (e : Bor Entry). e.now) es i d in
-    more_refused plan number (entries_at es) i d.now old out new
-    (omega (arith, lt, length-map es (λ (e : Bor Entry). e.now))) before
-    (subst (λ (e : Entry). new ≡ out ++ refused_entry plan (number + i) e) (sym here) more)
-
--- those behind the first so many
-pub behind_is : (many : ℕ) (es : List (Bor Entry))
-    → entries_at (take (length es - many) (drop many es)) ≡ drop many (entries_at es)
-behind_is many es =
-    ap (λ (rest : List (Bor Entry)). entries_at rest)
-    (take_all (length es - many) (drop many es) (let e = length-drop many es in omega (arith, e)))
-    ∙ sym (drop-map (λ (e : Bor Entry). e.now) many es)
+-- its line is the first of those of the entries ahead
+pub line_ahead : (told line rest : List ℕ) {new all whole : List ℕ} → new ≡ told ++ line → told ++ all ≡ whole
+    → all ≡ line ++ rest → new ++ rest ≡ whole
+line_ahead told line rest {new} {all} {whole} put before first =
+    ap (λ (t : List ℕ). t ++ rest) put ∙ append_assoc told line rest ∙ ap (λ (t : List ℕ). told ++ t) (sym first)
+    ∙ before

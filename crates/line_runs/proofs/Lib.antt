@@ -8,4 +8,5 @@ pub mod LineWatched
 pub mod Refused
 pub mod Printed
 pub mod Copied
+pub mod Counted
 pub mod PutInParts

@@ -8,11 +8,11 @@ use Rattle.line_plan.specs.Plans.{PlanFields}
 use Rattle.line_law.specs.declared.call.Entry.{Entry}
 use Rattle.line_report.specs.Journals.{entries_text, heading_text, journal_text}
 use Rattle.line_report.specs.Refusals.{refusals_text, refused_count, refused_entries}
-use Rattle.line_report.specs.Sections.{sections_text}
 use Rattle.line_report.proofs.Entries.{entries_text-append}
 use Rattle.train_register.specs.Registers.{AreParts, RegisterFields, register_text, registers_text}
 use Rattle.train_register.proofs.Parts.{parts_text as registers_whole}
 use Rattle.line_runs.specs.Copying.{AreCopied, AreHalves, CopiedFields, refusals_heading}
+use Rattle.line_runs.specs.Counting.{AreCountsTold}
 use Rattle.line_runs.specs.Outputs.{AreInOrder, output_text, parts_text}
 use Rattle.line_runs.proofs.Refused.{refused_entries-append}
 
@@ -74,19 +74,19 @@ journal_is plan es =
 
 -- the refused calls are their number and their lines
 refusals_are : (plan : PlanFields) (es : List Entry)
-    → refusals_heading es ++ refused_entries plan 1 es ≡ refusals_text plan es
+    → refusals_heading (refused_count es) ++ refused_entries plan 1 es ≡ refusals_text plan es
 unfolding refusals_text
 refusals_are plan es =
     append_assoc (codes "refusals " ++ decimal (refused_count es)) (10 ∷ []) (refused_entries plan 1 es)
 
 -- the output is the journal, the texts of the registers, and what came of the run
 pub output_whole : (plan : PlanFields) (es : List Entry) (registers : List RegisterFields) (front behind : CopiedFields)
-    (texts : List (List ℕ)) (sections : List ℕ) → AreParts plan es registers
+    (texts : List (List ℕ)) (heading sections : List ℕ) → AreParts plan es registers
     → texts ≡ map (λ register. register_text plan register.box_no register.entries) registers
-    → AreHalves plan es front behind → sections ≡ sections_text plan es
-    → parts_text plan es front behind texts sections ≡ output_text plan es
+    → AreHalves plan es front behind → AreCountsTold plan es heading sections
+    → parts_text plan front behind texts heading sections ≡ output_text plan es
 unfolding output_text
-output_whole plan es registers front behind texts sections parts are halves told =
+output_whole plan es registers front behind texts heading sections parts are halves told =
     let registered : flat_map (λ text. text) texts ≡ registers_text plan es =
     ap (flat_map (λ text. text)) are
     ∙ (flat_texts (λ register. register_text plan register.box_no register.entries) registers
@@ -94,18 +94,19 @@ output_whole plan es registers front behind texts sections parts are halves told
     let head : List ℕ = heading_text plan in
     let entries : List ℕ = entries_text plan 1 es in
     let refused : List ℕ = refused_entries plan 1 es in
-    let before : List ℕ = head ++ entries ++ codes "end\n" ++ registers_text plan es ++ refusals_heading es in
-    ap (λ (t : List ℕ). t ++ codes "end\n" ++ flat_map (λ text. text) texts ++ refusals_heading es ++ front.refused
+    let before : List ℕ = head ++ entries ++ codes "end\n" ++ registers_text plan es ++ heading in
+    ap (λ (t : List ℕ). t ++ codes "end\n" ++ flat_map (λ text. text) texts ++ heading ++ front.refused
     ++ behind.refused ++ sections)
     (append_assoc head front.journal behind.journal ∙ ap (λ (t : List ℕ). head ++ t) halves.journal)
-    ∙ (ap (λ (t : List ℕ). head ++ entries ++ codes "end\n" ++ t ++ refusals_heading es ++ front.refused
+    ∙ (ap (λ (t : List ℕ). head ++ entries ++ codes "end\n" ++ t ++ heading ++ front.refused
     ++ behind.refused ++ sections) registered
     ∙ (ap (λ (t : List ℕ). t ++ sections)
     (append_assoc before front.refused behind.refused ∙ ap (λ (t : List ℕ). before ++ t) halves.refused)
-    ∙ (ap (λ (t : List ℕ). before ++ refused ++ t) told
-    ∙ (regroup head entries (codes "end\n") (registers_text plan es) (refusals_heading es) refused
-    (sections_text plan es)
-    ∙ (ap (λ (t : List ℕ). t ++ (registers_text plan es ++ ((refusals_heading es ++ refused) ++ sections_text plan es)))
+    ∙ (regroup head entries (codes "end\n") (registers_text plan es) heading refused sections
+    ∙ (ap (λ (t : List ℕ). t ++ (registers_text plan es ++ ((heading ++ refused) ++ sections)))
     (journal_is plan es)
-    ∙ ap (λ (t : List ℕ). journal_text plan es ++ (registers_text plan es ++ (t ++ sections_text plan es)))
-    (refusals_are plan es))))))
+    ∙ (ap (λ (t : List ℕ). journal_text plan es ++ (registers_text plan es ++ ((t ++ refused) ++ sections))) told.before
+    ∙ (ap (λ (t : List ℕ). journal_text plan es ++ (registers_text plan es ++ (t ++ sections)))
+    (refusals_are plan es)
+    ∙ ap (λ (t : List ℕ). journal_text plan es ++ (registers_text plan es ++ (refusals_text plan es ++ t)))
+    told.behind))))))

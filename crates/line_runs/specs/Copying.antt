@@ -7,7 +7,7 @@ use Rattle.line_law.specs.declared.call.Entry.{Entry}
 use Rattle.line_law.specs.History.{part_of}
 use Rattle.train_register.specs.Registers.{told_lines}
 use Rattle.line_report.specs.Journals.{entries_text}
-use Rattle.line_report.specs.Refusals.{refused_count, refused_entries}
+use Rattle.line_report.specs.Refusals.{refused_entries}
 
 -- what stands before the first line end of a text, and what behind it
 abbrev pub first_line : List ℕ → List ℕ
@@ -49,6 +49,6 @@ pub record AreHalves (plan : PlanFields) (es : List Entry) (front behind : Copie
   pub journal : front.journal ++ behind.journal ≡ entries_text plan 1 es
   pub refused : front.refused ++ behind.refused ≡ refused_entries plan 1 es
 
--- what stands before the lines of the refused calls: how many they are
-abbrev pub refusals_heading : List Entry → List ℕ
-refusals_heading es = codes "refusals " ++ decimal (refused_count es) ++ 10 ∷ []
+-- what stands before the lines of so many refused calls
+abbrev pub refusals_heading : ℕ → List ℕ
+refusals_heading n = codes "refusals " ++ decimal n ++ 10 ∷ []

@@ -6,3 +6,4 @@ pub mod Outputs
 pub mod Made
 pub mod Watched
 pub mod Copying
+pub mod Counting

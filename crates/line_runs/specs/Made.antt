@@ -20,14 +20,17 @@ pub record IsMade (n : ℕ) (run : Run) : Type 0 where
 abbrev pub count_line : List ℕ → ℕ → List ℕ
 count_line word n = word ++ 32 ∷ decimal n ++ 10 ∷ []
 
--- how many trains were asked for, how many boxes and trains the plan has, how many calls were made, how many of them
--- were refused, and the most trains that each section held
-unfoldable pub summary_text : ℕ → PlanFields → List Entry → List ℕ
-summary_text n plan es =
+-- how many trains were asked for, how many boxes and trains the plan has, how many calls were made, and how many of
+-- them were refused
+unfoldable pub counts_text : ℕ → PlanFields → ℕ → ℕ → List ℕ
+counts_text n plan calls refused =
     count_line (codes "stress") n ++ count_line (codes "boxes") (length plan.boxes)
     ++ count_line (codes "trains") (length plan.trains)
-    ++ count_line (codes "calls") (length es) ++ count_line (codes "refused") (refused_count es)
-    ++ sections_text plan es
+    ++ count_line (codes "calls") calls ++ count_line (codes "refused") refused
+
+-- these, and the most trains that each section held
+unfoldable pub summary_text : ℕ → PlanFields → List Entry → List ℕ
+summary_text n plan es = counts_text n plan (length es) (refused_count es) ++ sections_text plan es
 
 -- the text of the made line of n trains spells a plan, and a text is the summary of a journal of that line, worked by
 -- its own scripts

@@ -10,7 +10,7 @@ use Rattle.train_register.specs.Registers.{registers_text}
 use Rattle.text_fetch.specs.FromTexts.{FromTexts, Untold, Gives, Refuses, StopsAt}
 use Rattle.text_fetch.specs.Runs.{Run}
 use Rattle.text_fetch.specs.declared.stop.Stop.{Stop}
-use Rattle.line_runs.specs.Copying.{CopiedFields, refusals_heading}
+use Rattle.line_runs.specs.Copying.{CopiedFields}
 use Rattle.line_runs.specs.Worked.{IsJournalOf}
 
 -- what came of a run: the refused calls, and the most trains that each section held
@@ -22,11 +22,11 @@ unfoldable pub output_text : PlanFields → List Entry → List ℕ
 output_text plan es = journal_text plan es ++ (registers_text plan es ++ result_text plan es)
 
 -- the output in parts: by what is copied of the front half of the journal's entries and of the others, the registers
--- as they are printed, and what tells of the sections
-abbrev pub parts_text : PlanFields → List Entry → CopiedFields → CopiedFields → List (List ℕ) → List ℕ → List ℕ
-parts_text plan es front behind registers sections =
+-- as they are printed, and what stands before and behind the lines of the refused calls
+abbrev pub parts_text : PlanFields → CopiedFields → CopiedFields → List (List ℕ) → List ℕ → List ℕ → List ℕ
+parts_text plan front behind registers heading sections =
     heading_text plan ++ front.journal ++ behind.journal ++ codes "end\n" ++ flat_map (λ text. text) registers
-    ++ refusals_heading es ++ front.refused ++ behind.refused ++ sections
+    ++ heading ++ front.refused ++ behind.refused ++ sections
 
 -- a text is the whole output of a journal of this run
 abbrev pub IsOutputOf : Run → List ℕ → Type 0

@@ -4,18 +4,16 @@
 ghost use Rattle.std.specs.Prelude.{◌≡◌, ◌+◌, ◌<◌, ◌≤◌, ◌^◌, ◌++◌, [], ◌∷◌, All, IfOk, OnOk};
 ghost use Rattle.std.specs.Prelude.{codes, decimal, drop, length, map};
 ghost use Rattle.line_plan.specs.Plans.{box_name};
-ghost use Rattle.line_law.specs.History.{entries_at};
 ghost use Rattle.line_report.specs.Journals.{entries_text, entry_text};
 ghost use Rattle.line_report.specs.Refusals.{refused_entries, refused_entry};
-ghost use Rattle.line_runs.specs.Copying.{AreCopied, AreLinesLeft, behind_line, behind_word, first_line};
-ghost use Rattle.line_runs.specs.Copying.{refusals_heading, told_in};
+ghost use Rattle.line_runs.specs.Copying.{AreCopied, AreLinesLeft, behind_line, behind_word, first_line, told_in};
 ghost use Rattle.script_text.specs.Entries.{IsSpelled, told_text};
 
 use crate::registers::PrintedRegisters;
 use itoa::Buffer;
+use line_journal::Walk;
 use line_law::{Entry, is_refused};
 use line_plan::Plan;
-use line_report::refused_count;
 use memchr::memchr;
 use rail_text::NoMemory;
 use std::alloc::{AllocError, Global};
@@ -88,8 +86,8 @@ impl<'a> ToldLines<'a> {
     }
 }
 
-// Puts a number behind a text, in decimal.
-fn put_number(out: &mut Vec<u8>, number: usize) -> Result<(), AllocError>
+/// Puts a number behind a text, in decimal.
+pub(crate) fn put_number(out: &mut Vec<u8>, number: usize) -> Result<(), AllocError>
     ensures { OnOk result (out.new.items ≡ out.old.items ++ decimal number) }
 {
     let mut buffer = Buffer::new();
@@ -141,51 +139,48 @@ fn put_entry(
     Ok(())
 }
 
-// Passes over the lines of the first entries, so many of them.
-fn pass_over(plan: &Plan, entries: &[&Entry], many: usize, lines: &mut [ToldLines<'_>])
-    requires many { many ≤ length entries.now }
-    requires spelled { All (IsSpelled plan.now) (entries_at entries.now) }
-    requires left { AreLinesLeft plan.now (entries_at entries.now) lines.old }
-    ensures { AreLinesLeft plan.now (drop many (entries_at entries.now)) lines.new }
+// Passes over the next entries, so many of them, and their lines.
+fn pass_over(plan: &Plan, walk: &mut Walk<'_>, many: usize, lines: &mut [ToldLines<'_>])
+    requires many { many ≤ length walk.old }
+    requires spelled { All (IsSpelled plan.now) walk.old }
+    requires left { AreLinesLeft plan.now walk.old lines.old }
+    ensures walk { walk.new ≡ drop many walk.old }
+    ensures left { AreLinesLeft plan.now walk.new lines.new }
 {
     plan.meets_conditions();
-    for place in 0..many {
-        lines[entries[place].box_no as usize].pass();
+    for _ in 0..many {
+        if let Some(entry) = walk.next() {
+            lines[entry.box_no as usize].pass();
+        }
     }
 }
 
-// Puts the lines of these entries behind the journal, the first with this number, and the refused ones behind these.
-// What is told of each is the next that the register of its box has.
+// Puts the lines of the entries that are ahead behind the journal, the first with this number, and the refused ones
+// behind these. What is told of each is the next that the register of its box has.
 fn copy_entries(
     journal: &mut Vec<u8>,
     refused: &mut Vec<u8>,
     plan: &Plan,
     number: usize,
-    entries: &[&Entry],
+    walk: &mut Walk<'_>,
     lines: &mut [ToldLines<'_>],
 ) -> Result<(), AllocError>
-    requires numbers { number + length entries.now < 2 ^ 64 }
-    requires spelled { All (IsSpelled plan.now) (entries_at entries.now) }
-    requires left { AreLinesLeft plan.now (entries_at entries.now) lines.old }
+    requires numbers { number + length walk.old < 2 ^ 64 }
+    requires spelled { All (IsSpelled plan.now) walk.old }
+    requires left { AreLinesLeft plan.now walk.old lines.old }
     ensures journal { OnOk result
-        (journal.new.items ≡ journal.old.items ++ entries_text plan.now number (entries_at entries.now)) }
+        (journal.new.items ≡ journal.old.items ++ entries_text plan.now number walk.old) }
     ensures refused { OnOk result
-        (refused.new.items ≡ refused.old.items ++ refused_entries plan.now number (entries_at entries.now)) }
+        (refused.new.items ≡ refused.old.items ++ refused_entries plan.now number walk.old) }
 {
     plan.meets_conditions();
-    for (place, entry) in entries.iter().enumerate() {
+    let mut next = number;
+    while let Some(entry) = walk.next() {
         let told = lines[entry.box_no as usize].next_told();
-        put_entry(journal, refused, plan, number + place, entry, told)?;
+        put_entry(journal, refused, plan, next, entry, told)?;
+        next += 1;
     }
     Ok(())
-}
-
-// The entries behind the first so many.
-fn behind<'a, 'b>(entries: &'b [&'a Entry], many: usize) -> &'b [&'a Entry]
-    requires { many ≤ length entries.now }
-    ensures { entries_at result.now ≡ drop many (entries_at entries.now) }
-{
-    &entries[many..]
 }
 
 /// What is copied of some entries: their lines in the journal, and those of them whose replies are refused. Contracts
@@ -204,45 +199,27 @@ impl Model for CopiedLines {
     ghost view = { λ copied. record { journal = copied.journal.items; refused = copied.refused.items } };
 }
 
-/// Copies the journal's lines of entries, but for the first so many, from the printed registers. There is room for so
-/// many bytes of the lines at once, and of those of the refused calls: what isn't filled takes no memory.
+/// Copies the journal's lines of the entries that are ahead, but for the first so many, from the printed registers.
+/// There is room for so many bytes of the lines at once, and of those of the refused calls: what isn't filled takes no
+/// memory.
 pub(crate) fn copy_from(
     alloc: Global,
     plan: &Plan,
-    entries: &[&Entry],
+    walk: &mut Walk<'_>,
     from: usize,
     registers: &PrintedRegisters,
     room: usize,
 ) -> Result<CopiedLines, NoMemory>
-    requires from { from ≤ length entries.now }
-    requires numbers { length entries.now + 1 < 2 ^ 64 }
-    requires spelled { All (IsSpelled plan.now) (entries_at entries.now) }
-    requires left { AreLinesLeft plan.now (entries_at entries.now) (map behind_line registers.now) }
-    ensures { IfOk result (AreCopied plan.now (from + 1) (drop from (entries_at entries.now))) }
+    requires from { from ≤ length walk.old }
+    requires numbers { length walk.old + 1 < 2 ^ 64 }
+    requires spelled { All (IsSpelled plan.now) walk.old }
+    requires left { AreLinesLeft plan.now walk.old (map behind_line registers.now) }
+    ensures { IfOk result (AreCopied plan.now (from + 1) (drop from walk.old)) }
 {
     let mut journal = Vec::with_capacity(alloc, room)?;
     let mut refused = Vec::with_capacity(alloc, room)?;
     let mut lines = registers.told_lines(alloc)?;
-    pass_over(plan, entries, from, &mut lines);
-    let others = behind(entries, from);
-    copy_entries(
-        &mut journal,
-        &mut refused,
-        plan,
-        from + 1,
-        others,
-        &mut lines,
-    )?;
+    pass_over(plan, walk, from, &mut lines);
+    copy_entries(&mut journal, &mut refused, plan, from + 1, walk, &mut lines)?;
     Ok(CopiedLines { journal, refused })
-}
-
-/// What stands before the lines of the refused calls: `refusals`, and how many they are.
-pub(crate) fn refusals_heading(alloc: Global, entries: &[&Entry]) -> Result<Vec<u8>, AllocError>
-    ensures { IfOk result (λ text. text.items ≡ refusals_heading (entries_at entries.now)) }
-{
-    let mut out = Vec::new(alloc);
-    out.extend_from_slice(b"refusals ")?;
-    put_number(&mut out, refused_count(entries))?;
-    out.push(b'\n')?;
-    Ok(out)
 }

@@ -3,6 +3,7 @@
 #![tactic(auto)]
 
 mod copying;
+mod counting;
 mod look;
 mod output;
 mod printing;

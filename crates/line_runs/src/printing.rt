@@ -1,24 +1,24 @@
 //! The output of a line that was worked: its registers are printed on threads, and the journal is copied from them.
 
-ghost use Rattle.std.specs.Prelude.{◌≡◌, ◌+◌, ◌<◌, ◌≤◌, ◌^◌, All, IfOk, codes, drop, length, map, string_bytes};
-ghost use Rattle.line_law.specs.History.{IsLegal, entries_at};
+ghost use Rattle.std.specs.Prelude.{◌≡◌, ◌+◌, ◌≤◌, All, IfOk, codes, drop, length, map, take};
+ghost use Rattle.line_law.specs.History.{IsLegal};
 ghost use Rattle.line_report.specs.Asked.{AreFewEntries};
 ghost use Rattle.line_report.specs.Journals.{heading_text};
-ghost use Rattle.line_report.specs.Sections.{sections_text};
-ghost use Rattle.line_runs.specs.Copying.{AreCopied, AreHalves, AreLinesLeft, behind_line};
+ghost use Rattle.line_runs.specs.Copying.{AreCopied, AreHalves};
+ghost use Rattle.line_runs.specs.Counting.{AreCountsTold};
 ghost use Rattle.line_runs.specs.Outputs.{output_text, parts_text};
 ghost use Rattle.line_runs.specs.Worked.{AreWorked, CanBePrinted, HasTexts, IsJournalOf, IsWorkedLine};
-ghost use Rattle.script_text.specs.Entries.{IsSpelled};
 ghost use Rattle.text_fetch.specs.Runs.{AreScriptsOf};
 ghost use Rattle.train_register.specs.Registers.{IsPrintable, register_text};
 
-use crate::copying::{CopiedLines, copy_from, refusals_heading};
+use crate::copying::{CopiedLines, copy_from};
+use crate::counting::print_counts;
 use crate::output::Output;
 use crate::registers::PrintedRegisters;
-use crate::worked::{WorkedLine, merged_entries, pointed_at};
-use line_law::Entry;
+use crate::worked::{WorkedLine, merged_entries};
+use line_journal::Merged;
 use line_plan::Plan;
-use line_report::{put_heading, put_sections};
+use line_report::put_heading;
 use rail_text::NoMemory;
 use script_text::Script;
 use std::alloc::{AllocError, Global};
@@ -102,19 +102,19 @@ pub(crate) fn merged_and_printed<'a, R: Threads + Sync>(
     plan: &Plan,
     scripts: &[Script],
     ended: &'a Ended,
-) -> Result<(Vec<&'a Entry>, PrintedRegisters), NoMemory>
+) -> Result<(Merged<'a>, PrintedRegisters), NoMemory>
     requires scripts { AreScriptsOf plan.now scripts.now }
     requires worked { AreWorked plan.now scripts.now ended.now.registers }
     ensures journal { IfOk result
-        (λ r. IsJournalOf (record { plan = plan.now; scripts = scripts.now }) (entries_at r.0.items)) }
-    ensures printed { IfOk result (λ r. HasTexts plan.now (entries_at r.0.items) r.1) }
+        (λ r. IsJournalOf (record { plan = plan.now; scripts = scripts.now }) r.0) }
+    ensures printed { IfOk result (λ r. HasTexts plan.now r.0 r.1) }
 {
     plan.meets_conditions();
-    let entries = || -> Result<Vec<&Entry>, NoMemory>
+    let merged = || -> Result<Merged<'_>, NoMemory>
         requires { AreScriptsOf plan.now scripts.now × AreWorked plan.now scripts.now ended.now.registers }
-        ensures { IfOk result (λ entries. IsWorkedLine
+        ensures { IfOk result (λ merged. IsWorkedLine
             (record { plan = plan.entry.now; scripts = scripts.entry.now })
-            (entries_at entries.items) ended.entry.now.registers) }
+            merged ended.entry.now.registers) }
     { merged_entries(alloc, plan, scripts, ended) };
     let registers = || -> Result<PrintedRegisters, NoMemory>
         requires { All (IsPrintable plan.now) ended.now.registers }
@@ -122,8 +122,44 @@ pub(crate) fn merged_and_printed<'a, R: Threads + Sync>(
             (λ register. register_text plan.entry.now register.box_no register.entries)
             ended.entry.now.registers) }
     { print_registers(rt, alloc, plan, ended.registers.as_slice()) };
-    let (entries, registers) = join(rt, entries, registers);
-    Ok((entries?, registers?))
+    let (merged, registers) = join(rt, merged, registers);
+    Ok((merged?, registers?))
+}
+
+// The journal's lines of its front half, copied from the registers that are printed. There is room for so many bytes.
+fn copy_front(
+    alloc: Global,
+    plan: &Plan,
+    merged: &Merged<'_>,
+    half: usize,
+    registers: &PrintedRegisters,
+    room: usize,
+) -> Result<CopiedLines, NoMemory>
+    requires texts { HasTexts plan.now merged.now registers.now }
+    requires half { half ≤ length merged.now }
+    ensures { IfOk result (AreCopied plan.now 1 (take half merged.now)) }
+{
+    plan.meets_conditions();
+    let mut walk = merged.walk_front(alloc, half)?;
+    copy_from(alloc, plan, &mut walk, 0, registers, room)
+}
+
+// The same of the entries behind its front half.
+fn copy_behind(
+    alloc: Global,
+    plan: &Plan,
+    merged: &Merged<'_>,
+    half: usize,
+    registers: &PrintedRegisters,
+    room: usize,
+) -> Result<CopiedLines, NoMemory>
+    requires texts { HasTexts plan.now merged.now registers.now }
+    requires half { half ≤ length merged.now }
+    ensures { IfOk result (AreCopied plan.now (half + 1) (drop half merged.now)) }
+{
+    plan.meets_conditions();
+    let mut walk = merged.walk(alloc)?;
+    copy_from(alloc, plan, &mut walk, half, registers, room)
 }
 
 // The journal's lines, copied from the registers that are printed: of the entries of its front half on one thread, of
@@ -132,44 +168,27 @@ fn copy_halves<R: Threads + Sync>(
     rt: &R,
     alloc: Global,
     plan: &Plan,
-    entries: &[&Entry],
+    merged: &Merged<'_>,
     registers: &PrintedRegisters,
 ) -> Result<(CopiedLines, CopiedLines), NoMemory>
-    requires { HasTexts plan.now (entries_at entries.now) registers.now }
-    ensures { IfOk result (λ r. AreHalves plan.now (entries_at entries.now) r.0 r.1) }
+    requires { HasTexts plan.now merged.now registers.now }
+    ensures { IfOk result (λ r. AreHalves plan.now merged.now r.0 r.1) }
 {
-    plan.meets_conditions();
-    let half = entries.len() / 2;
+    let half = merged.len() / 2;
     let room = registers
         .room()
-        .saturating_add(entries.len().saturating_mul(LONGER))
+        .saturating_add(merged.len().saturating_mul(LONGER))
         / 2;
-    let in_front = &entries[..half];
     let front = || -> Result<CopiedLines, NoMemory>
-        requires { All (IsSpelled plan.now) (entries_at in_front.now)
-            × AreLinesLeft plan.now (entries_at in_front.now) (map behind_line registers.now)
-            × (length in_front.now + 1 < 2 ^ 64) }
-        ensures { IfOk result (AreCopied plan.entry.now 1 (entries_at in_front.entry.now)) }
-    { copy_from(alloc, plan, in_front, 0, registers, room) };
+        requires { HasTexts plan.now merged.now registers.now × (half ≤ length merged.now) }
+        ensures { IfOk result (AreCopied plan.entry.now 1 (take half merged.entry.now)) }
+    { copy_front(alloc, plan, merged, half, registers, room) };
     let behind = || -> Result<CopiedLines, NoMemory>
-        requires { All (IsSpelled plan.now) (entries_at entries.now)
-            × AreLinesLeft plan.now (entries_at entries.now) (map behind_line registers.now)
-            × (half ≤ length entries.now) × (length entries.now + 1 < 2 ^ 64) }
-        ensures { IfOk result (AreCopied plan.entry.now (half + 1) (drop half (entries_at entries.entry.now))) }
-    { copy_from(alloc, plan, entries, half, registers, room) };
+        requires { HasTexts plan.now merged.now registers.now × (half ≤ length merged.now) }
+        ensures { IfOk result (AreCopied plan.entry.now (half + 1) (drop half merged.entry.now)) }
+    { copy_behind(alloc, plan, merged, half, registers, room) };
     let (front, behind) = join(rt, front, behind);
     Ok((front?, behind?))
-}
-
-// The most trains that each section held.
-fn print_sections(alloc: Global, plan: &Plan, entries: &[&Entry]) -> Result<String, NoMemory>
-    requires legal { IsLegal plan.now (entries_at entries.now) }
-    requires few { AreFewEntries (entries_at entries.now) }
-    ensures { IfOk result (λ text. string_bytes text ≡ sections_text plan.now (entries_at entries.now)) }
-{
-    let mut text = String::new(alloc);
-    put_sections(&mut text, alloc, plan, entries)?;
-    Ok(text)
 }
 
 // The journal's first line.
@@ -190,58 +209,56 @@ fn print_end(alloc: Global) -> Result<Vec<u8>, AllocError>
     Ok(text)
 }
 
-// The output of a line of these entries, by what was copied of both halves, the registers, and what tells of the
-// sections.
-#[tactic(auto, using(crate::proofs::Printed::output_whole))]
+// The output of a line, by what was copied of both halves of its journal, the registers, and what stands before and
+// behind the lines of the refused calls.
 fn put_together(
     alloc: Global,
     plan: &Plan,
-    entries: &[&Entry],
     halves: (CopiedLines, CopiedLines),
     registers: PrintedRegisters,
-    sections: String,
+    counts: (Vec<u8>, Vec<u8>),
 ) -> Result<Output, AllocError>
-    ensures { IfOk result (λ output. output ≡ parts_text plan.now (entries_at entries.now) halves.0 halves.1 registers
-        (string_bytes sections)) }
+    ensures { IfOk result (λ output. output
+        ≡ parts_text plan.now halves.0 halves.1 registers counts.0.items counts.1.items) }
 {
     let (front, behind) = halves;
+    let (heading, sections) = counts;
     let mut output = Output::none(alloc);
     output.push(print_heading(alloc, plan)?)?;
     output.push(front.journal)?;
     output.push(behind.journal)?;
     output.push(print_end(alloc)?)?;
     output.append(registers.into_texts())?;
-    output.push(refusals_heading(alloc, entries)?)?;
+    output.push(heading)?;
     output.push(front.refused)?;
     output.push(behind.refused)?;
-    output.push(sections.into_bytes())?;
+    output.push(sections)?;
     Ok(output)
 }
 
-/// The whole output of a line, by the entries of its journal, whose registers are printed already. The most trains of
-/// the sections are counted and printed on a thread, while the journal is copied from the registers.
+/// The whole output of a line, by its journal, where its registers are printed already. The refused calls and the most
+/// trains of the sections are counted and printed on a thread, while the journal is copied from the registers.
 pub(crate) fn print_whole<R: Threads + Sync>(
     rt: &R,
     alloc: Global,
     plan: &Plan,
-    entries: &[&Entry],
+    merged: &Merged<'_>,
     registers: PrintedRegisters,
 ) -> Result<Output, NoMemory>
-    requires { HasTexts plan.now (entries_at entries.now) registers }
-    ensures { IfOk result (λ output. output ≡ output_text plan.now (entries_at entries.now)) }
+    requires { HasTexts plan.now merged.now registers }
+    ensures { IfOk result (λ output. output ≡ output_text plan.now merged.now) }
 {
     let printed = &registers;
     let halves = || -> Result<(CopiedLines, CopiedLines), NoMemory>
-        requires { HasTexts plan.now (entries_at entries.now) printed.now }
-        ensures { IfOk result (λ r. AreHalves plan.entry.now (entries_at entries.entry.now) r.0 r.1) }
-    { copy_halves(rt, alloc, plan, entries, printed) };
-    let sections = || -> Result<String, NoMemory>
-        requires { IsLegal plan.now (entries_at entries.now) × AreFewEntries (entries_at entries.now) }
-        ensures { IfOk result (λ text. string_bytes text
-            ≡ sections_text plan.entry.now (entries_at entries.entry.now)) }
-    { print_sections(alloc, plan, entries) };
-    let (halves, sections) = join(rt, halves, sections);
-    Ok(put_together(alloc, plan, entries, halves?, registers, sections?)?)
+        requires { HasTexts plan.now merged.now printed.now }
+        ensures { IfOk result (λ r. AreHalves plan.entry.now merged.entry.now r.0 r.1) }
+    { copy_halves(rt, alloc, plan, merged, printed) };
+    let counts = || -> Result<(Vec<u8>, Vec<u8>), NoMemory>
+        requires { IsLegal plan.now merged.now × AreFewEntries merged.now }
+        ensures { IfOk result (λ r. AreCountsTold plan.entry.now merged.entry.now r.0.items r.1.items) }
+    { print_counts(alloc, plan, merged) };
+    let (halves, counts) = join(rt, halves, counts);
+    Ok(put_together(alloc, plan, halves?, registers, counts?)?)
 }
 
 /// The whole output of a line that was worked, its registers printed on threads.
@@ -255,6 +272,6 @@ pub(crate) fn print_output<R: Threads + Sync>(
     ensures { IfOk result (λ output. output ≡ output_text plan.now line.now.journal.entries) }
 {
     let registers = print_registers(rt, alloc, plan, line.ended.registers.as_slice())?;
-    let entries = pointed_at(alloc, line.journal.entries.as_slice())?;
-    print_whole(rt, alloc, plan, &entries, registers)
+    let merged = line.merged(alloc, plan)?;
+    print_whole(rt, alloc, plan, &merged, registers)
 }

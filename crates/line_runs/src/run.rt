@@ -28,9 +28,9 @@ fn run_output<R: Threads + Wait + Sync, G: Gate>(
 {
     let Inputs { plan, scripts } = inputs;
     let ended = work_scripts(rt, alloc, &plan, &scripts, gate)?;
-    let (entries, registers) = merged_and_printed(rt, alloc, &plan, &scripts, &ended)?;
+    let (merged, registers) = merged_and_printed(rt, alloc, &plan, &scripts, &ended)?;
     drop(scripts);
-    print_whole(rt, alloc, &plan, &entries, registers)
+    print_whole(rt, alloc, &plan, &merged, registers)
 }
 
 /// The output of the run of the named texts, each script worked by its own signalman on a thread of his own; or why

@@ -1,17 +1,20 @@
 //! The summary of the made line, built whole.
 
-ghost use Rattle.std.specs.Prelude.{◌≡◌, ◌≤◌, ◌++◌, IfOk, IsErrOf, OnOk, length, string_bytes};
+ghost use Rattle.std.specs.Prelude.{◌≡◌, ◌≤◌, ◌++◌, All, IfOk, IsErrOf, OnOk, length, string_bytes};
 ghost use Rattle.line_law.specs.History.{IsLegal};
 ghost use Rattle.line_report.specs.Asked.{AreFewEntries};
+ghost use Rattle.script_text.specs.Entries.{IsSpelled};
 ghost use Rattle.text_fetch.specs.FromTexts.{Gives};
-ghost use Rattle.line_runs.specs.Made.{IsMade, IsSummaryOf, count_line, summary_text};
+ghost use Rattle.train_register.specs.Registers.{AreParts};
+ghost use Rattle.line_runs.specs.Made.{IsMade, IsSummaryOf, count_line, counts_text, summary_text};
 ghost use Rattle.line_runs.specs.Outputs.{MakesText};
 
-use crate::worked::{pointed_at, worked_line};
-use line_law::Journal;
+use crate::counting::count_along;
+use crate::worked::{WorkedLine, worked_line};
+use line_journal::Merged;
 use line_maker::{MakeError, make_line};
 use line_plan::Plan;
-use line_report::{put_sections, refused_count};
+use line_report::put_sections;
 use line_working::Gate;
 use rail_text::NoMemory;
 use std::alloc::{AllocError, Global};
@@ -28,42 +31,58 @@ fn put_count(out: &mut String, word: &str, count: usize) -> Result<(), AllocErro
     write!(out, " {count}\n")
 }
 
+// Puts the summary's lines with one number each behind a text: so many calls were made, and so many of them refused.
+#[tactic(auto, unfolding(crate::specs::Made::counts_text))]
+fn put_counts(
+    out: &mut String,
+    trains: u32,
+    plan: &Plan,
+    calls: usize,
+    refused: usize,
+) -> Result<(), AllocError>
+    ensures { OnOk result (string_bytes out.new
+        ≡ string_bytes out.old ++ counts_text trains plan.now calls refused) }
+{
+    put_count(out, "stress", trains as usize)?;
+    put_count(out, "boxes", plan.boxes.len())?;
+    put_count(out, "trains", plan.trains.len())?;
+    put_count(out, "calls", calls)?;
+    put_count(out, "refused", refused)
+}
+
 // Puts the summary of a journal of the made line behind a text.
-#[tactic(auto, unfolding(crate::specs::Made::summary_text))]
 fn put_summary(
     out: &mut String,
     alloc: Global,
     trains: u32,
     plan: &Plan,
-    journal: &Journal,
+    merged: &Merged<'_>,
 ) -> Result<(), NoMemory>
-    requires legal { IsLegal plan.now journal.now.entries }
-    requires few { AreFewEntries journal.now.entries }
-    ensures { OnOk result (string_bytes out.new
-        ≡ string_bytes out.old ++ summary_text trains plan.now journal.now.entries) }
+    requires legal { IsLegal plan.now merged.now }
+    requires few { AreFewEntries merged.now }
+    ensures { OnOk result (string_bytes out.new ≡ string_bytes out.old ++ summary_text trains plan.now merged.now) }
 {
-    let entries = pointed_at(alloc, journal.entries.as_slice())?;
-    put_count(out, "stress", trains as usize)?;
-    put_count(out, "boxes", plan.boxes.len())?;
-    put_count(out, "trains", plan.trains.len())?;
-    put_count(out, "calls", entries.len())?;
-    put_count(out, "refused", refused_count(&entries))?;
-    put_sections(out, alloc, plan, &entries)
+    let counts = count_along(alloc, plan, merged)?;
+    put_counts(out, trains, plan, merged.len(), counts.refused)?;
+    put_sections(out, alloc, plan, &counts.trains)
 }
 
 // The summary of a journal of the made line.
-fn journal_summary(
+fn line_summary(
     alloc: Global,
     trains: u32,
     plan: &Plan,
-    journal: &Journal,
+    line: &WorkedLine,
 ) -> Result<Vec<u8>, NoMemory>
-    requires legal { IsLegal plan.now journal.now.entries }
-    requires few { AreFewEntries journal.now.entries }
-    ensures { IfOk result (λ text. text.items ≡ summary_text trains plan.now journal.now.entries) }
+    requires legal { IsLegal plan.now line.now.journal.entries }
+    requires few { AreFewEntries line.now.journal.entries }
+    requires parts { AreParts plan.now line.now.journal.entries line.now.ended.registers }
+    requires spelled { All (IsSpelled plan.now) line.now.journal.entries }
+    ensures { IfOk result (λ text. text.items ≡ summary_text trains plan.now line.now.journal.entries) }
 {
+    let merged = line.merged(alloc, plan)?;
     let mut out = String::new(alloc);
-    put_summary(&mut out, alloc, trains, plan, journal)?;
+    put_summary(&mut out, alloc, trains, plan, &merged)?;
     Ok(out.into_bytes())
 }
 
@@ -93,7 +112,7 @@ fn made_summary<R: Threads + Wait + Sync, G: Gate>(
     ensures { IfOk result (λ text. IsSummaryOf trains text.items) }
 {
     let line = worked_line(rt, alloc, &inputs.plan, &inputs.scripts, gate)?;
-    let text = journal_summary(alloc, trains, &inputs.plan, &line.journal);
+    let text = line_summary(alloc, trains, &inputs.plan, &line);
     drop(line);
     text
 }

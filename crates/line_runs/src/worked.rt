@@ -1,7 +1,6 @@
 //! A line that is worked by the scripts of its boxes, up to its journal.
 
 ghost use Rattle.std.specs.Prelude.{◌≡◌, All, Err, IfOk, IfSome, Ok, OnErr};
-ghost use Rattle.line_law.specs.History.{entries_at};
 ghost use Rattle.line_report.specs.Asked.{AreFewEntries};
 ghost use Rattle.script_text.specs.Entries.{IsSpelled};
 ghost use Rattle.signalman_seats.specs.Lines.{AreFresh, AreMen, Closed};
@@ -12,8 +11,8 @@ ghost use Rattle.line_runs.specs.Worked.{AreWorked, IsJournalOf, IsWorkedLine, l
 
 use crate::serial::work_serially;
 use instrument_rule::Line;
-use line_journal::{merge, merged};
-use line_law::{Entry, Journal};
+use line_journal::{Merged, merge, merged};
+use line_law::Journal;
 use line_plan::Plan;
 use line_working::{Gate, work_line};
 use rail_text::NoMemory;
@@ -31,6 +30,18 @@ pub struct WorkedLine {
     pub journal: Journal,
     /// The same, box by box.
     pub ended: Ended,
+}
+
+impl WorkedLine {
+    /// The entries of its journal, where they stand in the registers.
+    pub(crate) fn merged(&self, alloc: Global, plan: &Plan) -> Result<Merged<'_>, NoMemory>
+        requires parts { AreParts plan.now self.now.journal.entries self.now.ended.registers }
+        requires spelled { All (IsSpelled plan.now) self.now.journal.entries }
+        ensures { IfOk result (λ merged. merged ≡ self.now.journal.entries) }
+    {
+        let registers = self.ended.registers.as_slice();
+        Merged::of_parts(alloc, plan, registers, self.journal.entries.as_slice())
+    }
 }
 
 /// How many calls each script has.
@@ -165,35 +176,21 @@ pub(crate) fn merged_journal(
     Ok(journal)
 }
 
-/// The entries of that journal, where they stand in the registers.
+/// The same journal, its entries where they stand in the registers.
 pub(crate) fn merged_entries<'a>(
     alloc: Global,
     plan: &Plan,
     scripts: &[Script],
     ended: &'a Ended,
-) -> Result<Vec<&'a Entry>, NoMemory>
+) -> Result<Merged<'a>, NoMemory>
     requires scripts { AreScriptsOf plan.now scripts.now }
     requires worked { AreWorked plan.now scripts.now ended.now.registers }
-    ensures { IfOk result (λ entries. IsWorkedLine (record { plan = plan.now; scripts = scripts.now })
-        (entries_at entries.items) ended.now.registers) }
+    ensures { IfOk result (λ merged. IsWorkedLine (record { plan = plan.now; scripts = scripts.now })
+        merged ended.now.registers) }
 {
     plan.meets_conditions();
-    let entries = merged(alloc, plan, ended)?;
-    Ok(entries)
-}
-
-/// Where these entries stand.
-pub(crate) fn pointed_at<'a>(
-    alloc: Global,
-    entries: &'a [Entry],
-) -> Result<Vec<&'a Entry>, NoMemory>
-    ensures { IfOk result (λ pointers. entries_at pointers.items ≡ entries.now) }
-{
-    let mut pointers = Vec::with_capacity(alloc, entries.len())?;
-    for entry in entries {
-        pointers.push(entry)?;
-    }
-    Ok(pointers)
+    let merged = merged(alloc, plan, ended)?;
+    Ok(merged)
 }
 
 /// Merges the registers of a line whose scripts were worked into its journal.

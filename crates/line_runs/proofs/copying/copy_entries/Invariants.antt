@@ -1,14 +1,21 @@
-use Rattle.std.proofs.Common.{◌≡◌, ◌++◌, drop, take}
-use Rattle.line_law.specs.History.{entries_at}
+use Rattle.std.proofs.Common.{◌≡◌, ◌++◌, ◌+◌, ◌<◌, ◌^◌, length}
+use Rattle.std.specs.Prelude.{All}
 use Rattle.line_report.specs.Journals.{entries_text}
 use Rattle.line_report.specs.Refusals.{refused_entries}
+use Rattle.script_text.specs.Entries.{IsSpelled}
 use Rattle.line_runs.specs.Copying.{AreLinesLeft}
 use Rattle.line_runs.proofs.copying.copy_entries.Given as goal
 
-abbrev pub invariant-loop-place : goal.invariant-loop-place
-invariant-loop-place l = record {
-  journal : l.journal.items ≡ l.fn.journal.items ++ entries_text l.plan l.number (take l.place (entries_at l.entries));
-  refused : l.refused.items
-      ≡ l.fn.refused.items ++ refused_entries l.plan l.number (take l.place (entries_at l.entries));
-  left : AreLinesLeft l.plan (drop l.place (entries_at l.entries)) l.lines;
+abbrev pub invariant-loop-next : goal.invariant-loop-next
+invariant-loop-next l = record {
+  journal : l.journal.items ++ entries_text l.plan l.next l.walk
+      ≡ l.fn.journal.items ++ entries_text l.plan l.number l.fn.walk;
+  refused : l.refused.items ++ refused_entries l.plan l.next l.walk
+      ≡ l.fn.refused.items ++ refused_entries l.plan l.number l.fn.walk;
+  numbers : l.next + length l.walk < 2 ^ 64;
+  spelled : All (IsSpelled l.plan) l.walk;
+  left : AreLinesLeft l.plan l.walk l.lines;
 }
+
+abbrev pub decreases-loop-next : goal.decreases-loop-next
+decreases-loop-next l = length l.walk

@@ -1,17 +1,21 @@
-use Rattle.std.proofs.Common.{◌<◌, length, arith}
-use Rattle.line_runs.proofs.Copied.{box_within, left_at}
+use Rattle.std.proofs.Common.{List, ℕ, subst, sym}
+use Rattle.line_runs.specs.Copying.{AreLinesLeft}
+use Rattle.line_runs.proofs.Copied.{left_ahead, rest_ahead, some_ahead, spelled_ahead}
+use Rattle.line_runs.proofs.copying.pass_over.Goals.{in-Some, in_default}
 use Rattle.line_runs.proofs.copying.pass_over.Goals as goal
 
-pub loop-place-preserved : goal.loop-place-preserved
-loop-place-preserved c =
-    let lt : c.loop-place.place < length c.args.entries.now =
-    omega (arith, c.loop-place-test.true, c.requires.many) in
-    left_at c.args.plan.now c.args.entries.now c.loop-place.place _ c.loop-place.lines _ _ c.meets_conditions.ensures lt
-    c.requires.spelled c.loop-place.invariant c.pass.ensures
-
-pub bounds-lines-entries : goal.bounds-lines-entries
-bounds-lines-entries c =
-    let lt : c.loop-place.place < length c.args.entries.now =
-    omega (arith, c.loop-place-test.true, c.requires.many) in
-    box_within c.args.plan.now c.args.entries.now c.loop-place.place _ c.loop-place.lines lt c.requires.spelled
-    c.loop-place.invariant
+pub loop-preserved : goal.loop-preserved
+loop-preserved c = elim c.match-next.branch [
+  | in-Some w ↦
+      record {
+        ahead = rest_ahead c.loop.counter c.args.walk.now c.loop.invariant.ahead w.in-Some.ensures;
+        spelled = (spelled_ahead c.loop.invariant.spelled w.in-Some.ensures).1;
+        left =
+            subst (λ (lines : List (List ℕ)). AreLinesLeft c.args.plan.now c.next.new.self lines) (sym w.lines-is)
+            (left_ahead _ c.meets_conditions.ensures c.loop.invariant.spelled c.loop.invariant.left w.in-Some.ensures
+            w.pass.ensures);
+      }
+  | in_default w ↦
+      absurd (some_ahead c.loop.counter c.args.many c.args.walk.now c.loop.invariant.ahead w.in_default.ensures.0
+      c.loop-test.true c.requires.many)
+]

@@ -1,7 +1,12 @@
-use Rattle.std.proofs.Common.{drop}
-use Rattle.line_law.specs.History.{entries_at}
+use Rattle.std.proofs.Common.{◌≡◌, drop}
+use Rattle.std.specs.Prelude.{All}
+use Rattle.script_text.specs.Entries.{IsSpelled}
 use Rattle.line_runs.specs.Copying.{AreLinesLeft}
 use Rattle.line_runs.proofs.copying.pass_over.Given as goal
 
-abbrev pub invariant-loop-place : goal.invariant-loop-place
-invariant-loop-place l = AreLinesLeft l.plan (drop l.place (entries_at l.entries)) l.lines
+abbrev pub invariant-loop : goal.invariant-loop
+invariant-loop l = record {
+  ahead : l.walk ≡ drop l.counter l.fn.walk;
+  spelled : All (IsSpelled l.plan) l.walk;
+  left : AreLinesLeft l.plan l.walk l.lines;
+}

@@ -31,8 +31,6 @@ returns c =
       c.in_ok-print_heading.ensures,
       c.in_ok-print_end.ensures,
       texts,
-      c.in_ok-refusals_heading.ensures,
-      c.into_bytes.ensures.value,
       front,
       refused,
       behind,
