@@ -6,11 +6,8 @@ use Rattle.std.proofs.lemmas.Bool.{cases_lt}
 use Rattle.std.proofs.lemmas.List.{length-set}
 use Rattle.line_plan.specs.Plans.{IsPlan, PlanFields}
 use Rattle.line_law.specs.declared.call.Entry.{Entry}
-use Rattle.line_law.specs.declared.link.Link.{Link}
 use Rattle.line_law.specs.declared.state.PairState.{PairState}
-use Rattle.line_law.specs.Law.{box_plan_of, link_of}
-use Rattle.line_law.specs.Links.{pair_no}
-use Rattle.line_journal.specs.Halves.{made, pair_for}
+use Rattle.line_journal.specs.Halves.{made}
 use Rattle.line_journal.specs.Keepers.{IsFirstAwake, IsLowestOpen, IsOpen, IsPlacing, NoneAsleepOpen}
 use Rattle.line_journal.specs.Keepers.{NoneOpenBelow}
 use Rattle.line_journal.specs.Lists.{HasSpaceFor}
@@ -19,12 +16,6 @@ use Rattle.line_journal.specs.Order.{list_at}
 use Rattle.line_journal.proofs.Looping.{grown_by, has_space, made_length}
 use Rattle.line_journal.proofs.Opening.{lowest_set}
 use Rattle.line_journal.proofs.Orders.{in_range}
-
--- the pair of the line of an entry's call is that of its word
-pub line_pair : (plan : PlanFields) (e : Entry) (b : ℕ) (line : Link) → e.box_no ≡ b
-    → line ≡ link_of (box_plan_of plan e.box_no) e.call.act → pair_no b line ≡ pair_for plan e
-line_pair plan e b line own is =
-    ap (λ (k : ℕ). pair_no k line) (sym own) ∙ ap (λ (l : Link). pair_no e.box_no l) is
 
 -- a list whose first item there is begins with it
 pub first_next : (list : List Entry) (e : Entry) → Some e ≡ slice_get list 0 → list ≡ e ∷ drop 1 list

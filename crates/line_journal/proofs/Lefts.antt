@@ -4,8 +4,10 @@ use Rattle.std.proofs.Common.{length, drop, get_or, set, replicate, refl, sym, a
 use Rattle.std.proofs.lemmas.List.{drop-drop, length-map, get_or-set_same, get_or-set_other}
 use Rattle.std.proofs.lemmas.List.{length-set, length-replicate, length-drop}
 use Rattle.std.proofs.lemmas.Bool.Decides.{eqb_tells}
+use Rattle.line_plan.specs.Plans.{PlanFields}
 use Rattle.line_law.specs.declared.call.Entry.{Entry}
-use Rattle.train_register.specs.Registers.{RegisterFields, register_at}
+use Rattle.line_law.specs.History.{part_of}
+use Rattle.train_register.specs.Registers.{AreParts, RegisterFields, register_at}
 use Rattle.line_journal.specs.Lists.{AreCounts, left_of}
 use Rattle.line_journal.specs.Order.{list_at, lists_of, placed_some}
 
@@ -42,6 +44,11 @@ pub lists_at : (registers : List RegisterFields) (b : ℕ) → list_at (lists_of
 lists_at [] b = refl
 lists_at (register ∷ registers) zero = refl
 lists_at (register ∷ registers) (suc b) = lists_at registers b
+
+-- of registers that are the parts of a history
+pub lists_part : (plan : PlanFields) (es : List Entry) (registers : List RegisterFields) → AreParts plan es registers
+    → (b : ℕ) → b < length plan.boxes → list_at (lists_of registers) b ≡ part_of b es
+lists_part plan es registers parts b at = lists_at registers b ∙ parts.entries b at
 
 -- nothing is placed yet
 pub left_first : (lists : List (List Entry)) (n : ℕ) → left_of lists (replicate n 0) ≡ lists

@@ -11,11 +11,10 @@ pub mod Deciding
 pub mod Lefts
 pub mod Looping
 pub mod Deciders
-pub mod Found
+pub mod RestsIn
 pub mod Opening
 pub mod Nearby
 pub mod Passing
-pub mod Firsts
 pub mod InOrder
 pub mod Answering
 pub mod Tallies

@@ -44,7 +44,7 @@ use Rattle.line_journal.specs.Halves.{Fits, Stands, found_at, made, pair_for}
 use Rattle.line_journal.specs.FitTests.{HasSpace, fits_here}
 use Rattle.line_journal.proofs.Deciding.{fits_if, if_fits}
 use Rattle.line_journal.proofs.Exchange.{part_other}
-use Rattle.line_journal.proofs.Lefts.{lists_at}
+use Rattle.line_journal.proofs.Lefts.{lists_at, lists_part}
 use Rattle.line_journal.proofs.Legal.{all_stand, fits_in, pairs_after}
 use Rattle.line_journal.proofs.LineSettled.{told_before}
 use Rattle.line_journal.proofs.Orders.{all_done, begins, each_own, each_part, in_range}
@@ -103,12 +103,6 @@ in_line plan lists b are =
 
 -- ---- a box whose next entry fits, and is free
 
-pub set_if : (plan : PlanFields) (pairs : List PairState) (lists : List (List Entry)) (b : ℕ) (e : Entry)
-    (rest : List Entry) → list_at lists b ≡ e ∷ rest → IsTrue (fits_here plan pairs e) → IsFree plan lists b e
-    → IsBoxFree plan pairs lists b
-set_if plan pairs lists b e rest next fits free =
-    record { entry = e; rest = rest; next = next; fits = fits_if plan pairs e fits; free = free }
-
 pub if_set : (plan : PlanFields) (pairs : List PairState) (lists : List (List Entry)) (b : ℕ) (e : Entry)
     (rest : List Entry) → list_at lists b ≡ e ∷ rest → IsBoxFree plan pairs lists b
     → IsTrue (fits_here plan pairs e) × IsFree plan lists b e
@@ -117,10 +111,6 @@ if_set plan pairs lists b e rest next set =
       subst (λ (x : Entry). IsTrue (fits_here plan pairs x)) same (if_fits plan pairs set.entry set.fits),
       subst (λ (x : Entry). IsFree plan lists b x) same set.free,
     )
-
-pub not_set : (plan : PlanFields) (pairs : List PairState) (lists : List (List Entry)) (b : ℕ) → list_at lists b ≡ []
-    → IsBoxFree plan pairs lists b → ⊥
-not_set plan pairs lists b none set = let h : set.entry ∷ set.rest ≡ [] = sym set.next ∙ none in cc h
 
 -- ---- the next entry
 
@@ -295,7 +285,7 @@ parts_by : (plan : PlanFields) (es : List Entry) (registers : List RegisterField
     → nat_lt b (length plan.boxes) ≡ is → IsPlan plan → IsLegal plan es → AreParts plan es registers
     → list_at (lists_of registers) b ≡ part_of b es
 parts_by plan es registers b true e is legal parts =
-    lists_at registers b ∙ parts.entries b (ltb-true b (length plan.boxes) e)
+    lists_part plan es registers parts b (ltb-true b (length plan.boxes) e)
 parts_by plan es registers b false e is legal parts =
     let above = ltb-false b (length plan.boxes) e in
     let n = length-map registers (λ register. register.entries) in

@@ -4,7 +4,7 @@ use Rattle.std.proofs.Common.{slice_index_or, slice_set, take, refl, sym, ap, su
 use Rattle.std.proofs.Common.{true, ◌≢◌, replicate}
 use Rattle.std.specs.Prelude.{if◌then◌else◌}
 use Rattle.std.proofs.lemmas.List.{append_assoc, append-nil, drop_more, get_or_default, get_or-set_same, length-set}
-use Rattle.std.proofs.lemmas.List.{set-get_or, set-set}
+use Rattle.std.proofs.lemmas.List.{length-drop, set-get_or, set-set}
 use Rattle.std.proofs.lemmas.List.{take_more}
 use Rattle.std.proofs.lemmas.Bool.Decides.{eqb_tells}
 use Rattle.line_plan.specs.Plans.{IsPlan, PlanFields}
@@ -19,12 +19,12 @@ use Rattle.line_journal.specs.Halves.{made, pair_for}
 use Rattle.line_journal.specs.Keepers.{AreRests, IsFirstAwake, IsOpen, NoneAsleepOpen, NoneOpenBelow, opens_from}
 use Rattle.line_journal.specs.Keepers.{pair_woken, woken}
 use Rattle.line_journal.specs.Lists.{count_left}
-use Rattle.line_journal.specs.Merging.{AreTallies, IsKept, KeepsMerging, Merges}
+use Rattle.line_journal.specs.Merging.{AreTallies, IsKept, IsNextOnWord, IsOnWordAt, KeepsMerging, Merges}
 use Rattle.line_journal.specs.Order.{list_at, placed, placed_some}
 use Rattle.line_journal.specs.Walks.{AreTalliesPlaced, IsWalk, Leaves, left_behind, walked}
 use Rattle.line_journal.proofs.Answering.{awake_below, below_as}
 use Rattle.line_journal.proofs.Deciding.{fits_if, tally_fits, tally_made}
-use Rattle.line_journal.proofs.Found.{rests_next}
+use Rattle.line_journal.proofs.RestsIn.{rests_next}
 use Rattle.line_journal.proofs.Lefts.{drop_next}
 use Rattle.line_journal.proofs.Looping.{fewer, grows, of_boxes, own_box}
 use Rattle.line_journal.proofs.Nearby.{asleep_as, none_opens, none_wakes}
@@ -55,7 +55,7 @@ tally_from plan e tally = ap (λ (w : Bool). if w then pair_for plan e else e.bo
 
 -- all is kept as it is placed
 kept_tally : (plan : PlanFields) (all : List (List Entry)) (done : List Entry) (pairs : List PairState)
-    (lists : List (List Entry)) (b : ℕ) (awake : List Bool) (rests : List ℕ) (e : Entry) → IsPlan plan
+    (lists : List (List Entry)) (b : ℕ) (awake : List Bool) (rests : List (List ℕ)) (e : Entry) → IsPlan plan
     → IsKept plan all done pairs lists b awake rests → list_at lists b ≡ e ∷ drop 1 (list_at lists b)
     → is_word (kind_told e.reply) ≡ false → IsKept plan all (done ++ e ∷ []) pairs (placed lists b) b awake rests
 kept_tally plan all done pairs lists b awake rests e is kept next tally =
@@ -121,11 +121,21 @@ next_at left b i list d within rest =
     ap (λ (l : List Entry). drop 1 l) (rest ∙ at) in
     rest ∙ at ∙ ap (λ (l : List Entry). slice_index_or list i d ∷ l) (sym later)
 
-pub rest_after : (left after : List (List Entry)) (b i : ℕ) (list : List Entry) → b < length left
-    → list_at left b ≡ drop i list → after ≡ placed left b → list_at after b ≡ drop (i + 1) list
-rest_after left after b i list within rest a =
-    ap (λ (ls : List (List Entry)). list_at ls b) a ∙ get_or-set_same left b _ [] within
-    ∙ ap (λ (l : List Entry). drop 1 l) rest ∙ sym (drop_next i list)
+-- once they are placed, the next entry of the box was decided on a word
+pub word_next : (lists : List (List Entry)) {left : List (List Entry)} {b n : ℕ} {entries : List Entry}
+    → b < length lists → entries ≡ list_at lists b → IsOnWordAt entries n → left ≡ placed_some lists b n
+    → IsNextOnWord left b
+word_next lists {left} {b} {n} {entries} within own word rest =
+    λ e later next.
+    let here : drop n entries ≡ e ∷ later =
+    ap (λ (l : List Entry). drop n l) own ∙ sym (get_or-set_same lists b (drop n (list_at lists b)) [] within)
+    ∙ ap (λ (ls : List (List Entry)). list_at ls b) (sym rest) ∙ next in
+    let count = length-drop n entries in
+    let some : length (drop n entries) ≡ length (e ∷ later) = ap (λ (l : List Entry). length l) here in
+    let less : n < length entries = omega (arith, count, some) in
+    let first : slice_index_or entries n e ≡ e =
+    ap (λ (l : List Entry). slice_index_or l 0 e) (sym (drop_more entries n e less) ∙ here) in
+    ap (λ (x : Entry). is_word (kind_told x.reply)) (sym first) ∙ word e less
 
 -- the next entries of a box that were decided on its own tally, so many
 pub keeps_some : (b : ℕ) (done : List Entry) (lists : List (List Entry)) (n : ℕ) → b < length lists
@@ -219,7 +229,7 @@ awake_within {awake} {asked} lists {from} {b} same each first =
 
 -- the loop comes to it, and these entries of it are placed
 pub kept_from : {plan : PlanFields} {all : List (List Entry)} {boxes : List ℕ} {pairs : List PairState}
-    {lists : List (List Entry)} {awake asked : List Bool} {rests : List ℕ} {from b : ℕ} {more : List ℕ}
+    {lists : List (List Entry)} {awake asked : List Bool} {rests : List (List ℕ)} {from b : ℕ} {more : List ℕ}
     {left : List (List Entry)} → IsPlan plan → Merges plan all (walked all boxes) pairs lists
     → Leaves all boxes lists → AreRests plan lists rests → NoneAsleepOpen plan pairs lists awake
     → NoneOpenBelow plan pairs lists from → asked ≡ awake → length awake ≡ length lists

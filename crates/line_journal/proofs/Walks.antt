@@ -15,7 +15,7 @@ use Rattle.train_register.specs.Registers.{AreParts, RegisterFields}
 use Rattle.line_journal.specs.Order.{list_at, lists_of, placed, placed_some}
 use Rattle.line_journal.specs.Walks.{IsWalk, left_behind, walked}
 use Rattle.line_journal.proofs.Exchange.{part_other, part_own}
-use Rattle.line_journal.proofs.Lefts.{lists_at}
+use Rattle.line_journal.proofs.Lefts.{lists_part}
 
 -- the boxes of these entries
 abbrev boxes_of : List Entry → List ℕ
@@ -82,7 +82,7 @@ front_walked lists (b ∷ bs) (suc n) w =
 -- ---- along the parts of a history
 
 -- the first entry is the first of its box
-own_part : (e : Entry) (es : List Entry) → part_of e.box_no (e ∷ es) ≡ e ∷ part_of e.box_no es
+pub own_part : (e : Entry) (es : List Entry) → part_of e.box_no (e ∷ es) ≡ e ∷ part_of e.box_no es
 own_part e es = part_own e es e.box_no (eq-eqb e.box_no e.box_no refl)
 
 -- what is left of the parts behind it
@@ -115,10 +115,6 @@ parts_walk lists (e ∷ es) n each parts within =
           ∙ ap (λ (xs : List Entry). e ∷ xs) later.0,
       (subst (λ (l : List Entry). 0 < length l) (sym own) (omega arith), later.1),
     )
-
-lists_part : (plan : PlanFields) (es : List Entry) (registers : List RegisterFields) → AreParts plan es registers
-    → (b : ℕ) → b < length plan.boxes → list_at (lists_of registers) b ≡ part_of b es
-lists_part plan es registers parts b at = lists_at registers b ∙ parts.entries b at
 
 -- a walk along the boxes of a history's entries, in its parts, is the history
 pub parts_walked : (plan : PlanFields) (es : List Entry) (registers : List RegisterFields) → AreParts plan es registers

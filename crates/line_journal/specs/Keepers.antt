@@ -1,6 +1,6 @@
 -- Of one box's remaining entries the first of a kind on a word decides for all of them whether they keep an entry back.
-use Rattle.std.specs.Prelude.{ℕ, ◌+◌, ◌-◌, ◌*◌, ◌==◌, ◌≡◌, ◌<◌, ◌≤◌, ◌⊎◌, Bool, true, false, slice_set}
-use Rattle.std.specs.Prelude.{List, ◌∷◌, Option, Some, None, length, drop, take, slice_index_or, nat_lt, if◌then◌else◌}
+use Rattle.std.specs.Prelude.{ℕ, ◌+◌, ◌*◌, ◌==◌, ◌≡◌, ◌<◌, ◌≤◌, ◌⊎◌, Bool, true, false, nat_lt, if◌then◌else◌}
+use Rattle.std.specs.Prelude.{All, List, [], ◌∷◌, ◌++◌, Option, Some, None, length, drop, slice_index_or, slice_set}
 use Rattle.std.specs.List.{find}
 use Rattle.line_plan.specs.Plans.{PlanFields}
 use Rattle.line_law.specs.declared.call.Entry.{Entry}
@@ -13,7 +13,7 @@ use Rattle.word_laws.specs.Footprint.{way_at}
 use Rattle.word_laws.specs.TellsWord.{kind_told}
 use Rattle.line_law.specs.Replies.{way_number}
 use Rattle.line_law.specs.declared.state.PairState.{PairState}
-use Rattle.line_journal.specs.Order.{Each, keeps_back, list_at, placed}
+use Rattle.line_journal.specs.Order.{keeps_back, list_at, placed}
 use Rattle.line_journal.specs.Halves.{Fits, made, pair_for}
 use Rattle.line_journal.specs.FitTests.{is_word}
 
@@ -65,29 +65,47 @@ LetsPass plan e (Some x) = keeps_back plan e x ≡ false
 abbrev pub slots : ℕ
 slots = 12
 
--- none of these entries has the number, but for as many at the end
-abbrev pub Skips : PlanFields → ℕ → List Entry → ℕ → Type 0
-Skips plan slot list rest = Each (λ x. (keeper_slot plan x == slot) ≡ false) (take (length list - rest) list)
+-- how many entries are left from each of these on that has the number; on top, at the end, stands that of the first
+abbrev pub rests_in : PlanFields → ℕ → List Entry → List ℕ
+rests_in plan slot [] = []
+rests_in plan slot (x ∷ list) =
+    if keeper_slot plan x == slot then rests_in plan slot list ++ length (x ∷ list) ∷ [] else rests_in plan slot list
 
--- for each box and each number, how many of its remaining entries are left from some place on before which none has the
--- number
-pub record AreRests (plan : PlanFields) (lists : List (List Entry)) (rests : List ℕ) : Type 0 where
+-- these are those numbers, and on top of them some of entries that are placed
+pub record AreRestsOf (plan : PlanFields) (slot : ℕ) (list : List Entry) (rests : List ℕ) : Type 0 where
+  pub over : List ℕ
+  pub are : rests ≡ rests_in plan slot list ++ over
+  pub above : All (λ n. length list < n) over
+
+-- so for the remaining entries of each box, and each number of replies that may keep others back
+pub record AreRests (plan : PlanFields) (lists : List (List Entry)) (rests : List (List ℕ)) : Type 0 where
   pub each : length rests ≡ slots * length lists
-  pub skips : (b slot : ℕ) → b < length lists → slot < slots
-      → Skips plan slot (list_at lists b) (slice_index_or rests (slots * b + slot) 0)
+  pub are : (b slot : ℕ) → b < length lists → 2 ≤ slot → slot < slots
+      → AreRestsOf plan slot (list_at lists b) (slice_index_or rests (slots * b + slot) [])
 
 -- the same of the boxes below this number
-pub record AreRestsBelow (plan : PlanFields) (lists : List (List Entry)) (n : ℕ) (rests : List ℕ) : Type 0 where
+pub record AreRestsBelow (plan : PlanFields) (lists : List (List Entry)) (n : ℕ) (rests : List (List ℕ)) : Type 0 where
   pub each : length rests ≡ slots * n
-  pub skips : (b slot : ℕ) → b < n → slot < slots
-      → Skips plan slot (list_at lists b) (slice_index_or rests (slots * b + slot) 0)
+  pub are : (b slot : ℕ) → b < n → 2 ≤ slot → slot < slots
+      → AreRestsOf plan slot (list_at lists b) (slice_index_or rests (slots * b + slot) [])
 
--- the same of one list, as far as it is seen from its end on; of replies that keep none back nothing is told
-pub record AreFirsts (plan : PlanFields) (list : List Entry) (at : ℕ) (firsts : List ℕ) : Type 0 where
+-- the same of one list, from a place on
+pub record AreRestsFrom (plan : PlanFields) (list : List Entry) (at : ℕ) (rests : List (List ℕ)) : Type 0 where
   pub within : at ≤ length list
-  pub each : length firsts ≡ slots
-  pub low : (slot : ℕ) → slot < 2 → slice_index_or firsts slot 0 ≡ length list
-  pub skips : (slot : ℕ) → slot < slots → Skips plan slot (drop at list) (slice_index_or firsts slot 0)
+  pub each : length rests ≡ slots
+  pub are : (slot : ℕ) → 2 ≤ slot → slot < slots
+      → slice_index_or rests slot [] ≡ rests_in plan slot (drop at list)
+
+-- some of these numbers are gone from the top, all more than the most
+pub record AreCut (most : ℕ) (old new : List ℕ) : Type 0 where
+  pub over : List ℕ
+  pub were : old ≡ new ++ over
+  pub above : All (λ n. most < n) over
+
+-- the number on top, which isn't more than the most; 0 if there is none
+abbrev pub IsTop : ℕ → List ℕ → ℕ → Type 0
+IsTop most numbers top =
+    ((numbers ≡ []) × (top ≡ 0)) ⊎ ((below : List ℕ) × (numbers ≡ below ++ top ∷ []) × (top ≤ most))
 
 -- the first keepers of both neighbours let an entry of box b pass
 abbrev pub IsPassed : PlanFields → List (List Entry) → ℕ → Entry → Type 0

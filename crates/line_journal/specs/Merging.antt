@@ -1,5 +1,5 @@
 -- What the merge keeps: what is done so far, and what remains.
-use Rattle.std.specs.Prelude.{ℕ, ◌≡◌, ◌≤◌, ◌<◌, List, ◌++◌, Bool, false, length, slice_index_or}
+use Rattle.std.specs.Prelude.{ℕ, ◌≡◌, ◌≤◌, ◌<◌, List, ◌∷◌, ◌++◌, Bool, true, false, length, slice_index_or}
 use Rattle.line_plan.specs.Plans.{IsPlan, PlanFields}
 use Rattle.line_law.specs.declared.call.Entry.{Entry}
 use Rattle.line_law.specs.History.{IsLegal, part_of, state_of}
@@ -40,7 +40,7 @@ pub record Merges (plan : PlanFields) (all : List (List Entry)) (done : List Ent
 
 -- what the merge keeps where it looks at box b: no lower box is open, nor one that is asleep
 pub record IsKept (plan : PlanFields) (all : List (List Entry)) (done : List Entry) (pairs : List PairState)
-    (lists : List (List Entry)) (b : ℕ) (awake : List Bool) (rests : List ℕ) : Type 0 where
+    (lists : List (List Entry)) (b : ℕ) (awake : List Bool) (rests : List (List ℕ)) : Type 0 where
   pub merges : Merges plan all done pairs lists
   pub below : NoneOpenBelow plan pairs lists b
   pub asleep : NoneAsleepOpen plan pairs lists awake
@@ -50,11 +50,20 @@ pub record IsKept (plan : PlanFields) (all : List (List Entry)) (done : List Ent
 abbrev pub AreTallies : List Entry → ℕ → Type 0
 AreTallies es n = (k : ℕ) (d : Entry) → k < n → is_word (kind_told (slice_index_or es k d).reply) ≡ false
 
+-- the entry behind so many, if there is one, was decided on a word
+abbrev pub IsOnWordAt : List Entry → ℕ → Type 0
+IsOnWordAt es n = (d : Entry) → n < length es → is_word (kind_told (slice_index_or es n d).reply) ≡ true
+
+-- the next entry of box b, if there is one, was decided on a word
+abbrev pub IsNextOnWord : List (List Entry) → ℕ → Type 0
+IsNextOnWord lists b =
+    (e : Entry) (rest : List Entry) → list_at lists b ≡ e ∷ rest → is_word (kind_told e.reply) ≡ true
+
 -- more is done, and these lists are left: all that is kept as the merge looks at box b. The pairs stay as they are
 pub record KeepsMerging (b : ℕ) (done : List Entry) (lists : List (List Entry)) (more : List Entry)
     (left : List (List Entry)) : Type 0 where
   pub count : length left ≡ length lists
   pub fewer : count_left left ≤ count_left lists
   pub keeps : (plan : PlanFields) (all : List (List Entry)) (pairs : List PairState) (awake : List Bool)
-      (rests : List ℕ) → IsPlan plan → IsKept plan all done pairs lists b awake rests
+      (rests : List (List ℕ)) → IsPlan plan → IsKept plan all done pairs lists b awake rests
       → IsKept plan all more pairs left b awake rests

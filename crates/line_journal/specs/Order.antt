@@ -120,7 +120,8 @@ abbrev pub IsOrder : PlanFields → List RegisterFields → List Entry → Type 
 IsOrder plan registers es = IsOrderFrom plan (opening_state plan) (lists_of registers) es
 
 -- What comes of the merge: the journal is the order of the entries of a line's registers, and a legal history with
--- these registers as its parts; so it stands in the order of its own parts, and has as many entries as any such history.
+-- these registers as its parts; so it stands in the order of its own parts, and has as many entries as any such
+-- history.
 pub record IsMergeOf (plan : PlanFields) (registers : List RegisterFields) (journal : List Entry) : Type 0 where
   pub order : IsOrder plan registers journal
   pub legal : IsLegal plan journal

@@ -1,7 +1,7 @@
 -- The journal as the order of its boxes: for each entry the box whose next one it is.
 use Rattle.std.specs.Prelude.{ℕ, ◌≡◌, ◌<◌, ◌≤◌, List, [], ◌∷◌, ◌++◌, Option, Some, None, length, replicate, take}
 use Rattle.line_law.specs.declared.call.Entry.{Entry}
-use Rattle.line_journal.specs.Merging.{AreTallies}
+use Rattle.line_journal.specs.Merging.{AreTallies, IsNextOnWord}
 use Rattle.line_journal.specs.Order.{list_at, placed, placed_some}
 
 -- the entries of these boxes, one after another: each is the next one of its box
@@ -29,7 +29,7 @@ abbrev pub IsNextOf : List Entry → Option Entry → List Entry → Type 0
 IsNextOf ahead None rest = (ahead ≡ []) × (rest ≡ [])
 IsNextOf ahead (Some e) rest = ahead ≡ e ∷ rest
 
--- so many next entries of a box were decided on its own tally, and are placed
+-- so many next entries of a box were decided on its own tally, and are placed; one that is left was decided on a word
 pub record AreTalliesPlaced (b : ℕ) (boxes : List ℕ) (lists : List (List Entry)) (more : List ℕ)
     (left : List (List Entry)) : Type 0 where
   pub many : ℕ
@@ -37,3 +37,4 @@ pub record AreTalliesPlaced (b : ℕ) (boxes : List ℕ) (lists : List (List Ent
   pub tallies : AreTallies (list_at lists b) many
   pub told : more ≡ boxes ++ replicate many b
   pub rest : left ≡ placed_some lists b many
+  pub word : IsNextOnWord left b

@@ -9,6 +9,7 @@ mod left;
 mod lines;
 mod merging;
 mod order;
+mod rests;
 
 pub use laws::{exchange_law, order_law, parts_law, reply_law};
 pub use merging::{merge, merged};

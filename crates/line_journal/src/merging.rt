@@ -4,19 +4,22 @@ ghost use Rattle.std.specs.Prelude.{◌≡◌, ◌↔◌, ◌<◌, ◌+◌, ◌-
 ghost use Rattle.std.specs.Prelude.{◌^◌, IfOk, IsTrue, All, true, false, drop, replicate, length, slice_set};
 ghost use Rattle.line_law.specs.States.{opening_pair};
 ghost use Rattle.word_laws.specs.Footprint.{way_at};
+ghost use Rattle.word_laws.specs.TellsWord.{kind_told};
+ghost use Rattle.line_journal.specs.FitTests.{is_word};
 ghost use Rattle.line_journal.specs.Keepers.{AreRests, IsFirstAwake, IsOpen, IsPlaced, NoneAsleepOpen, NoneOpenBelow};
 ghost use Rattle.line_journal.specs.Keepers.{opens_from, pair_woken, woken};
 ghost use Rattle.line_journal.specs.Lists.{AreOfBoxes, HasSpaceFor, HaveEnded};
-ghost use Rattle.line_journal.specs.Merging.{AreTallies};
+ghost use Rattle.line_journal.specs.Merging.{AreTallies, IsNextOnWord, IsOnWordAt};
 ghost use Rattle.line_journal.specs.Order.{IsMergeOf, list_at, lists_of};
 ghost use Rattle.line_journal.specs.Walks.{AreTalliesPlaced, IsWalk, walked};
 ghost use Rattle.line_journal.specs.Halves.{made, pair_for};
 
 use crate::fitting::{fits, is_on_word, make};
-use crate::keepers::{firsts_of, is_passed};
+use crate::keepers::{is_passed, rests_of};
 use crate::left::Left;
 use crate::lines::word_of;
 use crate::order::Merged;
+use crate::rests::Rests;
 use block_words::Way;
 use line_law::{Entry, Journal, PairState};
 use line_plan::{Items, Plan};
@@ -42,7 +45,7 @@ fn is_open(
     plan: &Plan,
     pairs: &[PairState],
     left: &Left<'_>,
-    rests: &mut [usize],
+    rests: &mut [Rests],
     box_no: usize,
     pair: usize,
     way: Way,
@@ -71,13 +74,13 @@ fn wake(awake: &mut [bool], pair: usize)
     awake[pair + 1] = true;
 }
 
-// Whether the next entry of a box is open. If it is, makes of its word what it says, wakes the boxes that it may open,
-// and tells from which box on the next open one is to be sought.
+// Whether the next entry of a box, which was decided on a word, is open. If it is, makes of its word what it says,
+// wakes the boxes that it may open, and tells from which box on the next open one is to be sought.
 fn answer(
     plan: &Plan,
     pairs: &mut [PairState],
     left: &Left<'_>,
-    rests: &mut [usize],
+    rests: &mut [Rests],
     awake: &mut [bool],
     from: &mut usize,
     box_no: usize,
@@ -86,6 +89,7 @@ fn answer(
     requires box_no { box_no < length left.now }
     requires own { entry.now.box_no ≡ box_no }
     requires next { list_at left.now box_no ≡ entry.now ∷ drop 1 (list_at left.now box_no) }
+    requires word { is_word (kind_told entry.now.reply) ≡ true }
     requires pairs { length pairs.old ≡ length plan.now.boxes - 1 }
     requires boxes { AreOfBoxes plan.now left.now }
     requires rests { AreRests plan.now left.now rests.old }
@@ -97,10 +101,6 @@ fn answer(
     ensures awake { awake.new ≡ if result then woken plan.now entry.now awake.old else awake.old }
     ensures from { IsTrue result → from.new ≡ opens_from plan.now entry.now }
 {
-    if !is_on_word(entry) {
-        *from = box_no;
-        return true;
-    }
     let (pair, way) = word_of(plan, entry);
     if !is_open(plan, pairs, left, rests, box_no, pair, way, entry) {
         return false;
@@ -121,12 +121,13 @@ fn pass_over(awake: &mut [bool], from: &mut usize, box_no: usize)
     *from = box_no + 1;
 }
 
-// Places the next entry of a box that is awake, if it is open; if it isn't, the box falls asleep.
+// Places the next entry of a box that is awake, which was decided on a word, if it is open; if it isn't, the box falls
+// asleep.
 fn place(
     plan: &Plan,
     pairs: &mut [PairState],
     left: &mut Left<'_>,
-    rests: &mut [usize],
+    rests: &mut [Rests],
     awake: &mut [bool],
     from: &mut usize,
     box_no: usize,
@@ -137,6 +138,7 @@ fn place(
     requires rests { AreRests plan.now left.old rests.old }
     requires count { length left.old ≡ length plan.now.boxes }
     requires each { length awake.old ≡ length left.old }
+    requires word { IsNextOnWord left.old box_no }
     requires asleep { NoneAsleepOpen plan.now pairs.old left.old awake.old }
     requires below { NoneOpenBelow plan.now pairs.old left.old box_no }
     requires space { IsOpen plan.now pairs.old left.old box_no → HasSpaceFor plan.now pairs.old left.old box_no }
@@ -162,6 +164,7 @@ fn place(
 fn tallies_in(entries: &[Entry]) -> usize
     ensures within { result ≤ length entries.now }
     ensures each { AreTallies entries.now result }
+    ensures word { IsOnWordAt entries.now result }
 {
     for (at, entry) in entries.iter().enumerate() {
         if is_on_word(entry) {
@@ -206,15 +209,15 @@ fn all_awake(alloc: Global, count: usize) -> Result<Vec<bool>, NoMemory>
     Ok(awake)
 }
 
-// For each box and each number of keepers, how many entries the box has from the first on that has the number.
-fn open_rests(alloc: Global, plan: &Plan, left: &Left<'_>) -> Result<Vec<usize>, NoMemory>
+// For each box and each number of keepers, how many entries the box has from each on that has the number.
+fn open_rests(alloc: Global, plan: &Plan, left: &Left<'_>) -> Result<Vec<Rests>, NoMemory>
     requires { AreOfBoxes plan.now left.now }
     ensures { IfOk result (λ rests. AreRests plan.now left.now rests.items) }
 {
     let mut rests = Vec::new(alloc);
     for box_no in 0..left.boxes() {
-        let firsts = firsts_of(plan, left.of_box(box_no));
-        rests.extend_from_slice(&firsts)?;
+        let mut behind = rests_of(alloc, plan, left.of_box(box_no))?;
+        rests.append(&mut behind)?;
     }
     Ok(rests)
 }

@@ -18,6 +18,7 @@ use train_register::Register;
 #[derive(Drop)]
 pub struct Merged<'a> {
     registers: &'a [Register],
+    // a byte each, since a plan has at most 64 boxes
     boxes: Vec<u8>,
 }
 

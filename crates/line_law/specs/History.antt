@@ -1,6 +1,5 @@
 -- Legal histories, the state in which they end, and their parts.
 use Rattle.std.specs.Prelude.{◌≡◌, ℕ, ◌+◌, ◌==◌, List, [], ◌∷◌, filter, map}
-use Rattle.std.specs.Borrow.{Bor}
 use Rattle.line_plan.specs.Plans.{PlanFields}
 use Rattle.line_law.specs.declared.call.Call.{Call}
 use Rattle.line_law.specs.declared.call.Entry.{Entry}
@@ -66,7 +65,3 @@ pub record Performs (plan : PlanFields) (old : PlainState) (e : Entry) (new : Pl
 abbrev pub IsRun : PlanFields → PlainState → List Entry → PlainState → Type 0
 IsRun plan old [] new = old ≡ new
 IsRun plan old (e ∷ es) new = (middle : PlainState) × Performs plan old e middle × IsRun plan middle es new
-
--- the entries where these point
-abbrev pub entries_at : List (Bor Entry) → List Entry
-entries_at entries = map (λ entry. entry.now) entries

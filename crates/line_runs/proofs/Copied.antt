@@ -27,6 +27,8 @@ use Rattle.train_register.specs.Registers.{AreParts, RegisterFields, no_register
 use Rattle.train_register.specs.Registers.{told_line, told_lines}
 use Rattle.line_report.specs.Asked.{AreFewEntries}
 use Rattle.line_report.proofs.EntryLines.{line_lacks_end}
+use Rattle.line_journal.proofs.Exchange.{part_other}
+use Rattle.line_journal.proofs.Walks.{own_part}
 use Rattle.line_runs.specs.Copying.{AreLinesLeft, AreToldLines, behind_line, told_in}
 
 -- a text is cut at the first such byte
@@ -131,17 +133,11 @@ all_left plan es registers is few parts = record {
 
 -- ---- an entry more
 
-part_same : (e : Entry) (es : List Entry) → part_of e.box_no (e ∷ es) ≡ e ∷ part_of e.box_no es
-part_same e es = let is : eqb e.box_no e.box_no ≡ true = eq-eqb e.box_no e.box_no refl in rw is refl
-
-part_other : (b : ℕ) (e : Entry) (es : List Entry) → eqb e.box_no b ≡ false → part_of b (e ∷ es) ≡ part_of b es
-part_other b e es other = rw other refl
-
 -- the lines of its box's register are its own, and those of the entries behind it
 own_lines : (plan : PlanFields) (e : Entry) (es : List Entry) (lines : List (List ℕ)) → IsSpelled plan e
     → AreLinesLeft plan (e ∷ es) lines → AreToldLines plan (e ∷ part_of e.box_no es) (get_or lines e.box_no [])
 own_lines plan e es lines spelled left =
-    subst (λ (own : List Entry). AreToldLines plan own (get_or lines e.box_no [])) (part_same e es)
+    subst (λ (own : List Entry). AreToldLines plan own (get_or lines e.box_no [])) (own_part e es)
     (left.told e.box_no spelled.box)
 
 told_next : (plan : PlanFields) (e : Entry) (es : List Entry) (lines : List (List ℕ)) → IsPlan plan
@@ -185,7 +181,7 @@ left_next plan e es lines is spelled left = record {
   by_box b at (inl same) = subst (λ (k : ℕ). AreToldLines plan (part_of k es) (get_or new k [])) same.1 here
   by_box b at (inr other) =
       let own = left.told b at in
-      let part : part_of b (e ∷ es) ≡ part_of b es = part_other b e es other.0 in
+      let part : part_of b (e ∷ es) ≡ part_of b es = part_other e es b other.0 in
       subst (λ (t : List ℕ). AreToldLines plan (part_of b es) t)
       (sym
       (get_or-set_other lines e.box_no b (behind_line (get_or lines e.box_no [])) [] (λ is_box. other.1 (sym is_box))))

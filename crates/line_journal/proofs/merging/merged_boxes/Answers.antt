@@ -79,7 +79,7 @@ place-requires-clause-rests c =
     kept_from c.meets_conditions.ensures c.loop-box_no.invariant.merges c.loop-box_no.invariant.leaves
     c.loop-box_no.invariant.rests c.loop-box_no.invariant.asleep c.loop-box_no.invariant.below c.deref.ensures.value
     c.loop-box_no.invariant.each c.in-Some.ensures c.in_ok-place_tallies.ensures in
-    subst (λ (ns : List ℕ). AreRests c.args.plan.now c.place_tallies.new.left ns)
+    subst (λ (ns : List (List ℕ)). AreRests c.args.plan.now c.place_tallies.new.left ns)
     (sym c.deref_mut-in-Some.ensures.value) kept.are_rests
 
 pub place-requires-clause-asleep : goal.place-requires-clause-asleep
@@ -137,7 +137,8 @@ loop-box_no-preserved-in-Continue-branch-7 c =
     c.place.new.pairs c.place.new.left placing ∙ c.deref_mut.ensures.len in
     let rests_count : length c.place.new.rests ≡ c.loop-box_no.rests.len =
     c.place.ensures.rests.each ∙ ap (λ (n : ℕ). slots * n) same ∙ sym c.loop-box_no.invariant.rests.each
-    ∙ sym (ap (λ (ns : List ℕ). length ns) c.deref_mut-in-Some.ensures.value) ∙ c.deref_mut-in-Some.ensures.len in
+    ∙ sym (ap (λ (ns : List (List ℕ)). length ns) c.deref_mut-in-Some.ensures.value)
+    ∙ c.deref_mut-in-Some.ensures.len in
     let awake_count : length c.place.new.awake ≡ c.loop-box_no.awake.len =
     c.place.ensures.each ∙ same ∙ sym c.loop-box_no.invariant.each
     ∙ sym (ap (λ (bs : List Bool). length bs) c.deref_mut-in-Some-2.ensures.value) ∙ c.deref_mut-in-Some-2.ensures.len
@@ -150,7 +151,7 @@ loop-box_no-preserved-in-Continue-branch-7 c =
           (next_walked c.in-Some.box_no leaves placing.next c.in_ok-push.ensures.items);
       leaves = next_leaves c.in-Some.box_no leaves placing.next c.in_ok-push.ensures.items placing.rest;
       rests =
-          subst (λ (ns : List ℕ). AreRests c.args.plan.now c.place.new.left ns)
+          subst (λ (ns : List (List ℕ)). AreRests c.args.plan.now c.place.new.left ns)
           (sym (written_back c.loop-box_no.rests.len c.place.new.rests _ rests_count))
           c.place.ensures.rests;
       count = same ∙ c.loop-box_no.invariant.count;
@@ -190,7 +191,8 @@ loop-box_no-preserved c =
     ap (λ (ps : List PairState). length ps) words ∙ c.deref_mut.ensures.len in
     let rests_count : length c.place.new.rests ≡ c.loop-box_no.rests.len =
     c.place.ensures.rests.each ∙ ap (λ (n : ℕ). slots * n) same ∙ sym c.loop-box_no.invariant.rests.each
-    ∙ sym (ap (λ (ns : List ℕ). length ns) c.deref_mut-in-Some.ensures.value) ∙ c.deref_mut-in-Some.ensures.len in
+    ∙ sym (ap (λ (ns : List (List ℕ)). length ns) c.deref_mut-in-Some.ensures.value)
+    ∙ c.deref_mut-in-Some.ensures.len in
     let awake_count : length c.place.new.awake ≡ c.loop-box_no.awake.len =
     c.place.ensures.each ∙ same ∙ sym c.loop-box_no.invariant.each
     ∙ sym (ap (λ (bs : List Bool). length bs) c.deref_mut-in-Some-2.ensures.value) ∙ c.deref_mut-in-Some-2.ensures.len
@@ -202,7 +204,7 @@ loop-box_no-preserved c =
           rest;
       leaves = record { walk = leaves.walk; behind = rest ∙ leaves.behind };
       rests =
-          subst (λ (ns : List ℕ). AreRests c.args.plan.now c.place.new.left ns)
+          subst (λ (ns : List (List ℕ)). AreRests c.args.plan.now c.place.new.left ns)
           (sym (written_back c.loop-box_no.rests.len c.place.new.rests _ rests_count))
           c.place.ensures.rests;
       count = same ∙ c.loop-box_no.invariant.count;

@@ -5,7 +5,7 @@ use Rattle.line_journal.specs.Halves.{made}
 use Rattle.line_journal.specs.Keepers.{AreRests, IsOpen, NoneOpenBelow, opens_from, woken}
 use Rattle.line_journal.specs.Order.{list_at, placed}
 use Rattle.line_journal.proofs.Answering.{below_as, first_next, none_shut}
-use Rattle.line_journal.proofs.Found.{rests_next}
+use Rattle.line_journal.proofs.RestsIn.{rests_next}
 use Rattle.line_journal.proofs.Looping.{own_box}
 use Rattle.line_journal.proofs.Nearby.{asleep_as, none_opens, none_wakes}
 use Rattle.line_journal.proofs.Opening.{below_next}
@@ -18,6 +18,12 @@ returns-in_default-clause-below c =
     (below_next (λ b. IsOpen c.args.plan.now c.args.pairs.now c.args.left.now b) c.args.box_no c.requires.below
     (none_shut c.args.plan.now c.args.pairs.now c.args.left.now c.args.box_no
     (c.in_default.ensures.value ∙ ap (λ (list : List Entry). slice_get list 0) c.of_box.ensures)))
+
+pub answer-requires-clause-word : goal.answer-requires-clause-word
+answer-requires-clause-word c =
+    c.requires.word c.in-Some.entry.now (drop 1 (list_at c.args.left.now c.args.box_no))
+    (first_next (list_at c.args.left.now c.args.box_no) c.in-Some.entry.now
+    (c.in-Some.ensures.value ∙ ap (λ (list : List Entry). slice_get list 0) c.of_box.ensures))
 
 pub returns-clause-rests : goal.returns-clause-rests
 returns-clause-rests c =
