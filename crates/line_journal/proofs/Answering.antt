@@ -13,7 +13,7 @@ use Rattle.line_journal.specs.Keepers.{NoneOpenBelow}
 use Rattle.line_journal.specs.Lists.{HasSpaceFor}
 use Rattle.line_journal.specs.Merging.{Merges}
 use Rattle.line_journal.specs.Order.{list_at}
-use Rattle.line_journal.proofs.Looping.{grown_by, has_space, made_length}
+use Rattle.line_journal.proofs.Looping.{grown_by, has_space}
 use Rattle.line_journal.proofs.Opening.{lowest_set}
 use Rattle.line_journal.proofs.Orders.{in_range}
 
@@ -77,12 +77,6 @@ space_for plan all done pairs read lists b is m same below was =
     (has_space plan all done pairs lists b is m (lowest_set plan all done pairs lists (Some b) is m
     (subst (λ (ps : List PairState). IsOpen plan ps lists b) same was, below)))
 
-pub placing_pairs : (plan : PlanFields) (pairs : List PairState) (lists : List (List Entry)) (b : ℕ) (e : Entry)
-    (after : List PairState) (left : List (List Entry)) → IsPlacing plan pairs lists b e after left
-    → length after ≡ length pairs
-placing_pairs plan pairs lists b e after left p =
-    ap (λ (ps : List PairState). length ps) p.words ∙ made_length plan pairs e
-
 pub placing_left : (plan : PlanFields) (pairs : List PairState) (lists : List (List Entry)) (b : ℕ) (e : Entry)
     (after : List PairState) (left : List (List Entry)) → IsPlacing plan pairs lists b e after left
     → length left ≡ length lists
@@ -91,15 +85,15 @@ placing_left plan pairs lists b e after left p =
 
 -- one more entry is done
 pub placing_merges : (plan : PlanFields) (all : List (List Entry)) (done : List Entry) (pairs read : List PairState)
-    (lists : List (List Entry)) (b : ℕ) (e : Entry) (after back : List PairState) (left : List (List Entry))
+    (lists : List (List Entry)) (b : ℕ) (e : Entry) (after : List PairState) (left : List (List Entry))
     (more : List Entry) → IsPlan plan → Merges plan all done pairs lists → read ≡ pairs
-    → NoneOpenBelow plan pairs lists b → IsPlacing plan read lists b e after left → back ≡ after
-    → more ≡ done ++ e ∷ [] → Merges plan all more back left
-placing_merges plan all done pairs read lists b e after back left more is m same below p written x =
-    grown_by plan all done pairs lists b e more back left is m
+    → NoneOpenBelow plan pairs lists b → IsPlacing plan read lists b e after left → more ≡ done ++ e ∷ []
+    → Merges plan all more after left
+placing_merges plan all done pairs read lists b e after left more is m same below p x =
+    grown_by plan all done pairs lists b e more after left is m
     (lowest_set plan all done pairs lists (Some b) is m
     (subst (λ (ps : List PairState). IsOpen plan ps lists b) same p.opens, below))
-    p.next x (written ∙ p.words ∙ ap (λ (ps : List PairState). made plan ps e) same) p.rest
+    p.next x (p.words ∙ ap (λ (ps : List PairState). made plan ps e) same) p.rest
 
 -- or none, where all is as it was
 pub same_merges : (plan : PlanFields) (all : List (List Entry)) (done : List Entry) (pairs back : List PairState)

@@ -18,5 +18,6 @@ pub mod Passing
 pub mod InOrder
 pub mod Answering
 pub mod Tallies
+pub mod Steps
 pub mod Walks
 pub mod Levers

@@ -6,7 +6,7 @@ use Rattle.std.specs.Prelude.{nat_lt}
 use Rattle.std.proofs.lemmas.Bool.{ltb-false, ltb-true}
 use Rattle.std.proofs.lemmas.Bool.Decides.{eqb_tells}
 use Rattle.std.proofs.Math.Seq.{take-append_seam}
-use Rattle.std.proofs.lemmas.List.{length-map, length-set}
+use Rattle.std.proofs.lemmas.List.{length-map}
 use Rattle.std.proofs.lemmas.List.Elements.{All-cons, All-nil, All-weaker}
 use Rattle.std.proofs.lemmas.List.Sums.{sum_by-set}
 use Rattle.line_plan.specs.Plans.{IsPlan, PlanFields}
@@ -360,6 +360,3 @@ grown_by plan all done pairs lists b e more written left is m lowest next x w l 
 
 pub written_back : {A : Type 0} → (n : ℕ) (new rest : List A) → length new ≡ n → take n (new ++ rest) ≡ new
 written_back {A} n new rest e = subst (λ (k : ℕ). take k (new ++ rest) ≡ new) e (take-append_seam new rest)
-
-pub made_length : (plan : PlanFields) (pairs : List PairState) (e : Entry) → length (made plan pairs e) ≡ length pairs
-made_length plan pairs e = length-set pairs (pair_for plan e) _

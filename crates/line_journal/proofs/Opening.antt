@@ -23,7 +23,7 @@ not_by : (b : Bool) → IsTrue (not b) → b ≡ false
 not_by true h = cc
 not_by false h = refl
 
-by_not : (b : Bool) → b ≡ false → IsTrue (not b)
+pub by_not : (b : Bool) → b ≡ false → IsTrue (not b)
 by_not true e = cc
 by_not false e = refl
 

@@ -10,13 +10,20 @@ use Rattle.line_plan.specs.Plans.{PlanFields}
 use Rattle.line_law.specs.declared.call.Entry.{Entry}
 use Rattle.line_law.specs.declared.call.Reply.{Reply}
 use Rattle.line_law.specs.declared.call.Reply.TheVariants.{Rung, Heard, Turned, Entered, Berthed, Cleared}
-use Rattle.line_law.proofs.Found.{found_All}
+use Rattle.line_law.specs.declared.call.Reply.TheVariants.{BellBusy, Silent, BellNotYet, PulledUnder}
+use Rattle.line_law.specs.declared.call.Reply.TheVariants.{HeldByInstrument, Seen, BlockNotYet, SectionFull}
+use Rattle.line_law.specs.declared.call.Reply.TheVariants.{NoTrainAt, TrainNotYet}
+use Rattle.line_law.proofs.Found.{found_All, found_test}
+use Rattle.word_laws.specs.Footprint.{way_at}
+use Rattle.line_journal.specs.declared.rests.Keeper.{Keeper}
 use Rattle.line_journal.specs.Halves.{pair_for}
 use Rattle.word_laws.specs.TellsWord.{kind_told}
 use Rattle.line_journal.specs.FitTests.{is_word}
-use Rattle.line_journal.specs.Keepers.{IsPassed, LetsPass, first_keeper, keeper_slot, kept_by, kept_slot, other_box}
+use Rattle.line_journal.specs.Keepers.{IsFirst, IsPassed, LetsPass, first_keeper, keeper_count, keeper_no}
+use Rattle.line_journal.specs.Keepers.{keeper_slot, kept_at, kept_by, kept_slot, other_box}
 use Rattle.line_journal.specs.Lists.{AreOfBoxes, IsOfBox}
 use Rattle.line_journal.specs.Order.{keeps_back, kept_back, list_at, on_one_word}
+use Rattle.line_journal.proofs.Deciders.{slot_parts}
 use Rattle.line_journal.proofs.Nearby.{apart_free, pair_near}
 
 unkept : (r q : Reply) → kept_by r ≡ 0 → kept_back r q ≡ false
@@ -46,6 +53,48 @@ pub unkept_passes : (plan : PlanFields) (lists : List (List Entry)) (b : ℕ) (e
     → IsPassed plan lists b e
 unkept_passes plan lists b e none =
     λ c near. passes plan e (first_keeper plan e (list_at lists c)) (λ x. never_kept plan e x none)
+
+-- where an entry is of the kind that may keep a reply back, its count tells whether it does
+by_count : (r q : Reply) → kept_by r ≡ keeper_no q → kept_back r q ≡ kept_at r (keeper_count q)
+by_count (Rung k) (Silent n) e = refl
+by_count (Rung k) (BellNotYet shown n) e = refl
+by_count (Rung k) q e = absurd (cc e)
+by_count (Heard code k) (BellBusy held n) e = refl
+by_count (Heard code k) q e = absurd (cc e)
+by_count (Turned v) (PulledUnder n) e = refl
+by_count (Turned v) (HeldByInstrument way shown spent n) e = refl
+by_count (Turned v) (Seen n) e = refl
+by_count (Turned v) (BlockNotYet shown n) e = refl
+by_count (Turned v) q e = absurd (cc e)
+by_count (Entered train k) (NoTrainAt j) e = refl
+by_count (Entered train k) (TrainNotYet j) e = refl
+by_count (Entered train k) q e = absurd (cc e)
+by_count (Berthed train j) (SectionFull k) e = refl
+by_count (Berthed train j) q e = absurd (cc e)
+by_count (Cleared train j) (SectionFull k) e = refl
+by_count (Cleared train j) q e = absurd (cc e)
+by_count r q e = refl
+
+same_slot : (m n : ℕ) → (m == n) ≡ true → m ≡ n
+same_slot m n is =
+    ⊎_elim (λ same. same.1) (λ other. let not = other.0 in absurd (cc (is, not))) (eqb_tells m n)
+
+-- so where the count of the first that may keep an entry back doesn't, the entry is let pass
+pub passes_count : {plan : PlanFields} {list : List Entry} {keeper : Keeper} (e : Entry)
+    → IsFirst plan (kept_slot plan e) list keeper → kept_at e.reply keeper.count ≡ false
+    → LetsPass plan e (first_keeper plan e list)
+passes_count {plan} {list} {keeper} e first free =
+    let x : Entry = first.entry in
+    let own : keeper_slot plan x ≡ kept_slot plan e =
+    same_slot (keeper_slot plan x) (kept_slot plan e)
+    (found_test (λ y. keeper_slot plan y == kept_slot plan e) list x first.found) in
+    let kinds : keeper_no x.reply ≡ kept_by e.reply =
+    (slot_parts (keeper_no x.reply) (kept_by e.reply) (way_at plan x.box_no x.call) (way_at plan e.box_no e.call)
+    own).0 in
+    let none : kept_back e.reply x.reply ≡ false =
+    by_count e.reply x.reply (sym kinds) ∙ ap (λ (n : ℕ). kept_at e.reply n) first.count ∙ free in
+    subst (λ (o : Option Entry). LetsPass plan e o) (sym first.found)
+    (ap (λ (b : Bool). on_one_word plan e x && b) none ∙ and_false (on_one_word plan e x))
 
 -- ---- the neighbour that shares a word
 

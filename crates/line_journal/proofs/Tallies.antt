@@ -14,15 +14,16 @@ use Rattle.line_law.specs.declared.call.Entry.{Entry}
 use Rattle.line_law.specs.declared.call.Reply.TheVariants.{Put}
 use Rattle.line_law.specs.declared.state.PairState.{PairState}
 use Rattle.word_laws.specs.TellsWord.{kind_told}
+use Rattle.line_journal.specs.declared.rests.Keeper.{Keeper}
 use Rattle.line_journal.specs.FitTests.{is_word}
 use Rattle.line_journal.specs.Halves.{made, pair_for}
-use Rattle.line_journal.specs.Keepers.{AreRests, IsFirstAwake, IsOpen, NoneAsleepOpen, NoneOpenBelow, opens_from}
+use Rattle.line_journal.specs.Keepers.{IsOpen, opens_from}
 use Rattle.line_journal.specs.Keepers.{pair_woken, woken}
 use Rattle.line_journal.specs.Lists.{count_left}
 use Rattle.line_journal.specs.Merging.{AreTallies, IsKept, IsNextOnWord, IsOnWordAt, KeepsMerging, Merges}
 use Rattle.line_journal.specs.Order.{list_at, placed, placed_some}
 use Rattle.line_journal.specs.Walks.{AreTalliesPlaced, IsWalk, Leaves, left_behind, walked}
-use Rattle.line_journal.proofs.Answering.{awake_below, below_as}
+use Rattle.line_journal.proofs.Answering.{below_as}
 use Rattle.line_journal.proofs.Deciding.{fits_if, tally_fits, tally_made}
 use Rattle.line_journal.proofs.RestsIn.{rests_next}
 use Rattle.line_journal.proofs.Lefts.{drop_next}
@@ -55,7 +56,7 @@ tally_from plan e tally = ap (λ (w : Bool). if w then pair_for plan e else e.bo
 
 -- all is kept as it is placed
 kept_tally : (plan : PlanFields) (all : List (List Entry)) (done : List Entry) (pairs : List PairState)
-    (lists : List (List Entry)) (b : ℕ) (awake : List Bool) (rests : List (List ℕ)) (e : Entry) → IsPlan plan
+    (lists : List (List Entry)) (b : ℕ) (awake : List Bool) (rests : List (List Keeper)) (e : Entry) → IsPlan plan
     → IsKept plan all done pairs lists b awake rests → list_at lists b ≡ e ∷ drop 1 (list_at lists b)
     → is_word (kind_told e.reply) ≡ false → IsKept plan all (done ++ e ∷ []) pairs (placed lists b) b awake rests
 kept_tally plan all done pairs lists b awake rests e is kept next tally =
@@ -219,28 +220,3 @@ next_walked {all} {lists} {boxes} {more} b {e} leaves next told =
     ap (λ (bs : List ℕ). walked all bs) told ∙ walked_more all boxes (b ∷ [])
     ∙ ap (λ (ls : List (List Entry)). walked all boxes ++ walked ls (b ∷ [])) (sym leaves.behind)
     ∙ ap (λ (l : List Entry). walked all boxes ++ (take 1 l ++ [])) next
-
--- the first box that is awake is one of those that there are
-pub awake_within : {awake asked : List Bool} (lists : List (List Entry)) {from b : ℕ} → asked ≡ awake
-    → length awake ≡ length lists → IsFirstAwake asked from (Some b) → b < length lists
-awake_within {awake} {asked} lists {from} {b} same each first =
-    let count : length asked ≡ length awake = ap (λ (bs : List Bool). length bs) same in
-    omega (arith, first.1, count, each)
-
--- the loop comes to it, and these entries of it are placed
-pub kept_from : {plan : PlanFields} {all : List (List Entry)} {boxes : List ℕ} {pairs : List PairState}
-    {lists : List (List Entry)} {awake asked : List Bool} {rests : List (List ℕ)} {from b : ℕ} {more : List ℕ}
-    {left : List (List Entry)} → IsPlan plan → Merges plan all (walked all boxes) pairs lists
-    → Leaves all boxes lists → AreRests plan lists rests → NoneAsleepOpen plan pairs lists awake
-    → NoneOpenBelow plan pairs lists from → asked ≡ awake → length awake ≡ length lists
-    → IsFirstAwake asked from (Some b) → AreTalliesPlaced b boxes lists more left
-    → IsKept plan all (walked all more) pairs left b awake rests
-kept_from {plan} {all} {boxes} {pairs} {lists} {awake} {asked} {rests} {from} {b} {more} {left}
-    is m leaves are asleep below same each first put =
-    let keeps = tallies_kept all lists boxes more b left leaves (awake_within lists same each first) put in
-    keeps.keeps plan all pairs awake rests is (record {
-      merges = m;
-      below = awake_below plan pairs lists awake asked from b same asleep below first;
-      asleep = asleep;
-      are_rests = are;
-    })

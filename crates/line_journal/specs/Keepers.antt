@@ -1,5 +1,5 @@
 -- Of one box's remaining entries the first of a kind on a word decides for all of them whether they keep an entry back.
-use Rattle.std.specs.Prelude.{ℕ, ◌+◌, ◌*◌, ◌==◌, ◌≡◌, ◌<◌, ◌≤◌, ◌⊎◌, Bool, true, false, nat_lt, if◌then◌else◌}
+use Rattle.std.specs.Prelude.{ℕ, ◌+◌, ◌-◌, ◌*◌, ◌==◌, ◌≡◌, ◌<◌, ◌≤◌, ◌⊎◌, Bool, true, false, nat_lt, if◌then◌else◌}
 use Rattle.std.specs.Prelude.{All, List, [], ◌∷◌, ◌++◌, Option, Some, None, length, drop, slice_index_or, slice_set}
 use Rattle.std.specs.List.{find}
 use Rattle.line_plan.specs.Plans.{PlanFields}
@@ -15,6 +15,7 @@ use Rattle.line_law.specs.Replies.{way_number}
 use Rattle.line_law.specs.declared.state.PairState.{PairState}
 use Rattle.line_journal.specs.Order.{keeps_back, list_at, placed}
 use Rattle.line_journal.specs.Halves.{Fits, made, pair_for}
+use Rattle.line_journal.specs.declared.rests.Keeper.{Keeper}
 use Rattle.line_journal.specs.FitTests.{is_word}
 
 -- the kind of a reply that may keep others back: of a busy bell, of one that has nothing, of an instrument at its rear,
@@ -42,6 +43,30 @@ kept_by (Cleared train j) = 4
 kept_by (Entered train k) = 5
 kept_by reply = 0
 
+-- the count that such a reply tells: of codes rung, of turns, of trains sent or taken; 0 for any other
+abbrev pub keeper_count : Reply → ℕ
+keeper_count (BellBusy code k) = k
+keeper_count (Silent k) = k
+keeper_count (BellNotYet shown k) = k
+keeper_count (PulledUnder v) = v
+keeper_count (HeldByInstrument way shown spent v) = v
+keeper_count (Seen v) = v
+keeper_count (BlockNotYet shown v) = v
+keeper_count (SectionFull k) = k
+keeper_count (NoTrainAt j) = j
+keeper_count (TrainNotYet j) = j
+keeper_count reply = 0
+
+-- a reply is kept back by one of the kind that may keep it back, where that tells this count
+abbrev pub kept_at : Reply → ℕ → Bool
+kept_at (Heard code k) n = n == k
+kept_at (Rung k) n = n + 1 == k
+kept_at (Turned v) n = nat_lt n v
+kept_at (Berthed train j) n = n == j + 4
+kept_at (Cleared train j) n = n == j + 4
+kept_at (Entered train k) n = n == k
+kept_at reply n = false
+
 -- a kind of reply, and the way of its word, as one number below 12
 abbrev pub keeper_slot : PlanFields → Entry → ℕ
 keeper_slot plan e = 2 * keeper_no e.reply + way_number (way_at plan e.box_no e.call)
@@ -65,47 +90,65 @@ LetsPass plan e (Some x) = keeps_back plan e x ≡ false
 abbrev pub slots : ℕ
 slots = 12
 
--- how many entries are left from each of these on that has the number; on top, at the end, stands that of the first
-abbrev pub rests_in : PlanFields → ℕ → List Entry → List ℕ
+-- of each of these that has the number: how many entries are left from it on, and its count; on top, at the end, stands
+-- the first
+abbrev pub rests_in : PlanFields → ℕ → List Entry → List Keeper
 rests_in plan slot [] = []
 rests_in plan slot (x ∷ list) =
-    if keeper_slot plan x == slot then rests_in plan slot list ++ length (x ∷ list) ∷ [] else rests_in plan slot list
+    if keeper_slot plan x == slot
+    then rests_in plan slot list ++ record { rest = length (x ∷ list); count = keeper_count x.reply } ∷ []
+    else rests_in plan slot list
 
--- these are those numbers, and on top of them some of entries that are placed
-pub record AreRestsOf (plan : PlanFields) (slot : ℕ) (list : List Entry) (rests : List ℕ) : Type 0 where
-  pub over : List ℕ
+-- these are those keepers, and on top of them some that are placed
+pub record AreRestsOf (plan : PlanFields) (slot : ℕ) (list : List Entry) (rests : List Keeper) : Type 0 where
+  pub over : List Keeper
   pub are : rests ≡ rests_in plan slot list ++ over
-  pub above : All (λ n. length list < n) over
+  pub above : All (λ keeper. length list < keeper.rest) over
 
 -- so for the remaining entries of each box, and each number of replies that may keep others back
-pub record AreRests (plan : PlanFields) (lists : List (List Entry)) (rests : List (List ℕ)) : Type 0 where
+pub record AreRests (plan : PlanFields) (lists : List (List Entry)) (rests : List (List Keeper)) : Type 0 where
   pub each : length rests ≡ slots * length lists
   pub are : (b slot : ℕ) → b < length lists → 2 ≤ slot → slot < slots
       → AreRestsOf plan slot (list_at lists b) (slice_index_or rests (slots * b + slot) [])
 
 -- the same of the boxes below this number
-pub record AreRestsBelow (plan : PlanFields) (lists : List (List Entry)) (n : ℕ) (rests : List (List ℕ)) : Type 0 where
-  pub each : length rests ≡ slots * n
-  pub are : (b slot : ℕ) → b < n → 2 ≤ slot → slot < slots
-      → AreRestsOf plan slot (list_at lists b) (slice_index_or rests (slots * b + slot) [])
+pub record AreRestsBelow (plan : PlanFields) (lists : List (List Entry)) (n : ℕ) (rests : List (List Keeper)) : Type 0
+  where
+    pub each : length rests ≡ slots * n
+    pub are : (b slot : ℕ) → b < n → 2 ≤ slot → slot < slots
+        → AreRestsOf plan slot (list_at lists b) (slice_index_or rests (slots * b + slot) [])
 
 -- the same of one list, from a place on
-pub record AreRestsFrom (plan : PlanFields) (list : List Entry) (at : ℕ) (rests : List (List ℕ)) : Type 0 where
+pub record AreRestsFrom (plan : PlanFields) (list : List Entry) (at : ℕ) (rests : List (List Keeper)) : Type 0 where
   pub within : at ≤ length list
   pub each : length rests ≡ slots
   pub are : (slot : ℕ) → 2 ≤ slot → slot < slots
       → slice_index_or rests slot [] ≡ rests_in plan slot (drop at list)
 
--- some of these numbers are gone from the top, all more than the most
-pub record AreCut (most : ℕ) (old new : List ℕ) : Type 0 where
-  pub over : List ℕ
+-- some of these keepers are gone from the top, all with more entries left than the most
+pub record AreCut (most : ℕ) (old new : List Keeper) : Type 0 where
+  pub over : List Keeper
   pub were : old ≡ new ++ over
-  pub above : All (λ n. most < n) over
+  pub above : All (λ keeper. most < keeper.rest) over
 
--- the number on top, which isn't more than the most; 0 if there is none
-abbrev pub IsTop : ℕ → List ℕ → ℕ → Type 0
-IsTop most numbers top =
-    ((numbers ≡ []) × (top ≡ 0)) ⊎ ((below : List ℕ) × (numbers ≡ below ++ top ∷ []) × (top ≤ most))
+-- the keeper on top, if there is one, has no more left
+abbrev pub IsTop : ℕ → List Keeper → Option Keeper → Type 0
+IsTop most keepers None = keepers ≡ []
+IsTop most keepers (Some top) = (below : List Keeper) × (keepers ≡ below ++ top ∷ []) × (top.rest ≤ most)
+
+-- the first of some entries that has the number, by what is told of it
+pub record IsFirst (plan : PlanFields) (slot : ℕ) (list : List Entry) (keeper : Keeper) : Type 0 where
+  pub entry : Entry
+  pub found : find (λ x. keeper_slot plan x == slot) list ≡ Some entry
+  pub some : 0 < keeper.rest
+  pub few : keeper.rest ≤ length list
+  pub at : (d : Entry) → slice_index_or list (length list - keeper.rest) d ≡ entry
+  pub count : keeper_count entry.reply ≡ keeper.count
+
+-- the same if there is one; if nothing is told, none has the number
+abbrev pub TellsFirst : PlanFields → ℕ → List Entry → Option Keeper → Type 0
+TellsFirst plan slot list None = find (λ x. keeper_slot plan x == slot) list ≡ None
+TellsFirst plan slot list (Some keeper) = IsFirst plan slot list keeper
 
 -- the first keepers of both neighbours let an entry of box b pass
 abbrev pub IsPassed : PlanFields → List (List Entry) → ℕ → Entry → Type 0

@@ -1,31 +1,20 @@
 -- Lists of entries of which some are placed.
-use Rattle.std.specs.Prelude.{ℕ, ◌+◌, ◌≡◌, ◌≢◌, ◌<◌, ◌≤◌, false, List, []}
-use Rattle.std.specs.Prelude.{◌∷◌, Option, Some, None, length, drop, sum_by, slice_index_or, All}
+use Rattle.std.specs.Prelude.{ℕ, ◌+◌, ◌≡◌, ◌≢◌, ◌<◌, false, List}
+use Rattle.std.specs.Prelude.{◌∷◌, Option, Some, None, length, sum_by, All}
 use Rattle.line_plan.specs.Plans.{PlanFields}
 use Rattle.line_law.specs.declared.call.Entry.{Entry}
 use Rattle.line_law.specs.declared.state.PairState.{PairState}
 use Rattle.line_law.specs.History.{IsLegal}
 use Rattle.train_register.specs.Registers.{AreParts, RegisterFields}
-use Rattle.line_journal.specs.Order.{Each, keeps_back, list_at, lists_of}
+use Rattle.line_journal.specs.Order.{Each, keeps_back, list_at}
 use Rattle.word_laws.specs.Footprint.{way_at}
 use Rattle.line_law.specs.Ways.{of_way}
 use Rattle.line_journal.specs.Halves.{Fits, found_at, pair_for}
 use Rattle.line_journal.specs.FitTests.{HasSpace}
 
--- what is left of each list, of which so many entries are placed
-abbrev pub left_of : List (List Entry) → List ℕ → List (List Entry)
-left_of [] counts = []
-left_of (list ∷ lists) [] = list ∷ left_of lists []
-left_of (list ∷ lists) (count ∷ counts) = drop count list ∷ left_of lists counts
-
 -- how many entries are left
 abbrev pub count_left : List (List Entry) → ℕ
 count_left lists = sum_by (λ list. length list) lists
-
--- a count for each of these registers, none above the number of its entries
-pub record AreCounts (registers : List RegisterFields) (counts : List ℕ) : Type 0 where
-  pub each : length counts ≡ length registers
-  pub within : (b : ℕ) → b < length registers → slice_index_or counts b 0 ≤ length (list_at (lists_of registers) b)
 
 -- an entry is of box b of the plan's line, and of a pair of it
 pub record IsOfBox (plan : PlanFields) (b : ℕ) (e : Entry) : Type 0 where

@@ -10,6 +10,7 @@ use Rattle.line_journal.specs.FitTests.{is_word}
 use Rattle.line_journal.specs.Keepers.{AreRests, NoneAsleepOpen, NoneOpenBelow}
 use Rattle.line_journal.specs.Lists.{count_left}
 use Rattle.line_journal.specs.Order.{IsBoxReady, IsOrderFrom, list_at}
+use Rattle.line_journal.specs.declared.rests.Keeper.{Keeper}
 
 -- these entries are done, and what remains are the parts of what a legal history goes on with after them
 pub record Remains (plan : PlanFields) (done : List Entry) (state : LineState) (lists : List (List Entry))
@@ -40,7 +41,7 @@ pub record Merges (plan : PlanFields) (all : List (List Entry)) (done : List Ent
 
 -- what the merge keeps where it looks at box b: no lower box is open, nor one that is asleep
 pub record IsKept (plan : PlanFields) (all : List (List Entry)) (done : List Entry) (pairs : List PairState)
-    (lists : List (List Entry)) (b : ℕ) (awake : List Bool) (rests : List (List ℕ)) : Type 0 where
+    (lists : List (List Entry)) (b : ℕ) (awake : List Bool) (rests : List (List Keeper)) : Type 0 where
   pub merges : Merges plan all done pairs lists
   pub below : NoneOpenBelow plan pairs lists b
   pub asleep : NoneAsleepOpen plan pairs lists awake
@@ -65,5 +66,5 @@ pub record KeepsMerging (b : ℕ) (done : List Entry) (lists : List (List Entry)
   pub count : length left ≡ length lists
   pub fewer : count_left left ≤ count_left lists
   pub keeps : (plan : PlanFields) (all : List (List Entry)) (pairs : List PairState) (awake : List Bool)
-      (rests : List (List ℕ)) → IsPlan plan → IsKept plan all done pairs lists b awake rests
+      (rests : List (List Keeper)) → IsPlan plan → IsKept plan all done pairs lists b awake rests
       → IsKept plan all more pairs left b awake rests

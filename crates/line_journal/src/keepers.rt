@@ -1,7 +1,7 @@
 //! The entries of each kind that may keep others back.
 
 ghost use Rattle.std.specs.Prelude.{◌≡◌, ◌↔◌, ◌<◌, ◌≤◌, ◌+◌, ◌*◌, ◌^◌, [], All, IfOk, IsTrue};
-ghost use Rattle.std.specs.Prelude.{length, option_copied, replicate, slice_get};
+ghost use Rattle.std.specs.Prelude.{length, replicate};
 ghost use Rattle.word_laws.specs.Footprint.{way_at};
 ghost use Rattle.line_law.specs.Replies.{way_number};
 ghost use Rattle.line_journal.specs.Keepers.{
@@ -9,7 +9,9 @@ ghost use Rattle.line_journal.specs.Keepers.{
   AreRestsFrom,
   IsPassed,
   LetsPass,
+  TellsFirst,
   first_keeper,
+  keeper_count,
   keeper_no,
   keeper_slot,
   kept_by,
@@ -21,10 +23,10 @@ ghost use Rattle.line_journal.specs.Halves.{pair_for};
 ghost use Rattle.line_journal.specs.Lists.{AreOfBoxes};
 ghost use Rattle.line_journal.specs.Order.{list_at};
 
-use crate::keeping::keeps_back;
+use crate::keeping::{is_kept_at, keeps_back};
 use crate::left::Left;
 use crate::lines::word_of;
-use crate::rests::Rests;
+use crate::rests::{Keeper, Rests};
 use block_words::Way;
 use line_law::{Entry, Reply};
 use line_plan::Plan;
@@ -67,6 +69,29 @@ fn may_keep_back(entry: &Entry) -> bool
         | Reply::NoTrainAt { .. }
         | Reply::TrainNotYet { .. } => true,
         _ => false,
+    }
+}
+
+// The count that an entry's reply tells, if it is of a kind that may keep others back; 0 for any other.
+fn keeper_count(entry: &Entry) -> u64
+    ensures { result ≡ keeper_count entry.now.reply }
+{
+    match entry.reply {
+        Reply::BellBusy { k, code: _ }
+        | Reply::Silent { k }
+        | Reply::BellNotYet { k, shown: _ }
+        | Reply::SectionFull { k } => k,
+        Reply::PulledUnder { v }
+        | Reply::HeldByInstrument {
+            way: _,
+            v,
+            shown: _,
+            spent: _,
+        }
+        | Reply::Seen { v }
+        | Reply::BlockNotYet { v, shown: _ } => v,
+        Reply::NoTrainAt { j } | Reply::TrainNotYet { j } => j,
+        _ => 0,
     }
 }
 
@@ -119,37 +144,37 @@ fn kept_slot(entry: &Entry, way: Way) -> usize
     2 * kept_by(entry) + way_number(way)
 }
 
-// The entry at a place, if there is one.
-fn entry_at(entries: &[Entry], at: usize) -> Option<&Entry>
-    ensures { option_copied result ≡ slice_get entries.now at }
-{
-    entries.get(at)
-}
-
-// Whether the first of a box's remaining entries that may keep an entry back, those of this number, lets it pass.
-fn lets_pass(
+// What is told of the first of a box's remaining entries that has this number, if there is one.
+fn first_told(
     plan: &Plan,
     left: &Left<'_>,
     rests: &mut [Rests],
     other: usize,
     slot: usize,
-    entry: &Entry,
-) -> bool
+) -> Option<Keeper>
     requires other { other < length left.now }
-    requires slot { slot ≡ kept_slot plan.now entry.now }
     requires some { 2 ≤ slot }
     requires few { slot < slots }
-    requires entry { entry.now.box_no < length plan.now.boxes }
-    requires boxes { AreOfBoxes plan.now left.now }
     requires rests { AreRests plan.now left.now rests.old }
     ensures rests { AreRests plan.now left.now rests.new }
-    ensures passes { IsTrue result
-        ↔ LetsPass plan.now entry.now (first_keeper plan.now entry.now (list_at left.now other)) }
+    ensures first { TellsFirst plan.now slot (list_at left.now other) result }
 {
-    let entries = left.of_box(other);
-    let rest = rests[SLOTS * other + slot].cut(entries.len());
-    match entry_at(entries, entries.len() - rest) {
-        Some(keeper) => !keeps_back(plan, entry, keeper),
+    rests[SLOTS * other + slot].cut(left.of_box(other).len())
+}
+
+// Whether the first of these entries that may keep one back, if there is one, lets it pass. Its count is asked first,
+// which mostly does.
+fn lets_pass(plan: &Plan, entry: &Entry, entries: &[Entry], first: Option<Keeper>) -> bool
+    requires entry { entry.now.box_no < length plan.now.boxes }
+    requires boxes { All (λ x. x.box_no < length plan.now.boxes) entries.now }
+    requires first { TellsFirst plan.now (kept_slot plan.now entry.now) entries.now first }
+    ensures { IsTrue result ↔ LetsPass plan.now entry.now (first_keeper plan.now entry.now entries.now) }
+{
+    match first {
+        Some(keeper) => {
+            !is_kept_at(entry.reply, keeper.count)
+                || !keeps_back(plan, entry, &entries[entries.len() - keeper.rest])
+        }
         None => true,
     }
 }
@@ -165,8 +190,8 @@ fn no_rests(alloc: Global) -> Result<Vec<Rests>, NoMemory>
     Ok(rests)
 }
 
-/// For each number, how many of these entries are left from each on that has it. The numbers of replies that keep none
-/// back, which nobody asks for, have none.
+/// For each number, those of these entries that have it. The numbers of replies that keep none back, which nobody asks
+/// for, have none.
 pub fn rests_of(alloc: Global, plan: &Plan, entries: &[Entry]) -> Result<Vec<Rests>, NoMemory>
     requires { All (λ x. x.box_no < length plan.now.boxes) entries.now }
     ensures { IfOk result (λ rests. AreRestsFrom plan.now entries.now 0 rests.items) }
@@ -177,7 +202,11 @@ pub fn rests_of(alloc: Global, plan: &Plan, entries: &[Entry]) -> Result<Vec<Res
         at -= 1;
         let entry = &entries[at];
         if may_keep_back(entry) {
-            rests[keeper_slot(plan, entry)].add(entries.len() - at)?;
+            let keeper = Keeper {
+                rest: entries.len() - at,
+                count: keeper_count(entry),
+            };
+            rests[keeper_slot(plan, entry)].add(keeper)?;
         }
     }
     Ok(rests)
@@ -219,5 +248,6 @@ pub fn is_passed(
     if other >= left.boxes() {
         return true;
     }
-    lets_pass(plan, left, rests, other, kept_slot(entry, way), entry)
+    let first = first_told(plan, left, rests, other, kept_slot(entry, way));
+    lets_pass(plan, entry, left.of_box(other), first)
 }

@@ -3,6 +3,7 @@
 ghost use Rattle.std.specs.Prelude.{◌≡◌, ◌<◌, ◌==◌, ◌&&◌, length};
 ghost use Rattle.word_laws.specs.Footprint.{way_at};
 ghost use Rattle.line_plan.specs.Frames.{same_way};
+ghost use Rattle.line_journal.specs.Keepers.{kept_at};
 ghost use Rattle.line_journal.specs.Order.{kept_back, keeps_back};
 ghost use Rattle.line_journal.specs.Halves.{pair_for};
 
@@ -35,6 +36,21 @@ fn is_kept_back(first: Reply, second: Reply) -> bool
         (Reply::Entered { k, train: _ }, Reply::TrainNotYet { j }) => j == k,
         (Reply::Berthed { j, train: _ }, Reply::SectionFull { k }) => j < k && k - j == 4,
         (Reply::Cleared { j, train: _ }, Reply::SectionFull { k }) => j < k && k - j == 4,
+        _ => false,
+    }
+}
+
+/// Whether an entry with this reply is kept back by one of the kind that may keep it back, where that tells this count.
+pub fn is_kept_at(reply: Reply, count: u64) -> bool
+    ensures { result ≡ kept_at reply count }
+{
+    match reply {
+        Reply::Rung { k } => count < k && k - count == 1,
+        Reply::Heard { k, code: _ } | Reply::Entered { k, train: _ } => count == k,
+        Reply::Turned { v } => count < v,
+        Reply::Berthed { j, train: _ } | Reply::Cleared { j, train: _ } => {
+            j < count && count - j == 4
+        }
         _ => false,
     }
 }

@@ -209,7 +209,7 @@ fn all_awake(alloc: Global, count: usize) -> Result<Vec<bool>, NoMemory>
     Ok(awake)
 }
 
-// For each box and each number of keepers, how many entries the box has from each on that has the number.
+// For each box and each number of keepers, those of the box's entries that have the number.
 fn open_rests(alloc: Global, plan: &Plan, left: &Left<'_>) -> Result<Vec<Rests>, NoMemory>
     requires { AreOfBoxes plan.now left.now }
     ensures { IfOk result (λ rests. AreRests plan.now left.now rests.items) }

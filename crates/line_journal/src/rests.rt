@@ -1,4 +1,4 @@
-//! How many entries of a list are left from some of them on.
+//! Which entries of a list may keep others back, the first of them on top.
 
 ghost use Rattle.std.specs.Prelude.{◌≡◌, ◌++◌, ◌∷◌, [], OnErr, OnOk};
 ghost use Rattle.line_journal.specs.Keepers.{AreCut, IsTop};
@@ -7,19 +7,28 @@ use rail_text::NoMemory;
 use std::alloc::Global;
 use std::marker::Model;
 
-/// How many entries of a list are left from each of some on; on top stands that of the first of them. Contracts see the
-/// numbers.
+/// An entry of a list that may keep others back.
+#[derive(Clone, Copy)]
+pub struct Keeper {
+    /// How many entries are left from it on.
+    pub rest: usize,
+    /// The count that its reply tells: of codes rung, of turns, or of trains sent or taken.
+    pub count: u64,
+}
+
+/// Some of these of one list; on top stands the first of them. Contracts see them, the first at the end.
 #[derive(Drop)]
 pub struct Rests {
-    numbers: Vec<usize>,
+    keepers: Vec<Keeper>,
 }
 
 impl Model for Rests {
-    ghost use Rattle.std.specs.Prelude.{List, ℕ};
+    ghost use Rattle.std.specs.Prelude.{List};
+    ghost use Rattle.line_journal.specs.declared.rests.Keeper.{Keeper};
 
-    ghost Value = { List ℕ };
+    ghost Value = { List Keeper };
 
-    ghost view = { λ rests. rests.numbers.items };
+    ghost view = { λ rests. rests.keepers.items };
 }
 
 impl Rests {
@@ -28,30 +37,30 @@ impl Rests {
         ensures { result ≡ [] }
     {
         Rests {
-            numbers: Vec::new(alloc),
+            keepers: Vec::new(alloc),
         }
     }
 
-    /// Adds that of one entry more, on top.
-    pub fn add(&mut self, rest: usize) -> Result<(), NoMemory>
-        ensures ok { OnOk result (self.new ≡ self.old ++ rest ∷ []) }
+    /// Adds one more, on top.
+    pub fn add(&mut self, keeper: Keeper) -> Result<(), NoMemory>
+        ensures ok { OnOk result (self.new ≡ self.old ++ keeper ∷ []) }
         ensures err { OnErr result (self.new ≡ self.old) }
     {
-        self.numbers.push(rest)?;
+        self.keepers.push(keeper)?;
         Ok(())
     }
 
-    /// Takes off the top what is more than so many, and tells what is on top then: 0 if nothing is left.
-    pub fn cut(&mut self, most: usize) -> usize
+    /// Takes those off the top that have more entries left than so many, and tells which is on top then, if any is.
+    pub fn cut(&mut self, most: usize) -> Option<Keeper>
         ensures cut { AreCut most self.old self.new }
         ensures top { IsTop most self.new result }
     {
-        while let Some(number) = self.numbers.last().copied() {
-            if number <= most {
-                return number;
+        while let Some(keeper) = self.keepers.last().copied() {
+            if keeper.rest <= most {
+                return Some(keeper);
             }
-            let _number = self.numbers.pop();
+            let _keeper = self.keepers.pop();
         }
-        0
+        None
     }
 }

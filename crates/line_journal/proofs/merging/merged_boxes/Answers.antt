@@ -1,4 +1,4 @@
-use Rattle.std.proofs.Common.{ℕ, ◌-◌, ◌*◌, ◌<◌, ◌≤◌, ◌≡◌, ◌∙◌}
+use Rattle.std.proofs.Common.{ℕ, ◌-◌, ◌<◌, ◌≤◌, ◌≡◌, ◌∙◌}
 use Rattle.std.proofs.Common.{List, [], Bool, true, false, replicate, length, slice_index_or}
 use Rattle.std.proofs.Common.{refl, sym, ap, subst, arith}
 use Rattle.std.proofs.lemmas.List.{length-map, length-replicate}
@@ -8,20 +8,18 @@ use Rattle.line_law.specs.declared.call.Entry.{Entry}
 use Rattle.line_law.specs.declared.state.PairState.{PairState}
 use Rattle.line_law.specs.States.{opening_pair}
 use Rattle.train_register.specs.Registers.{RegisterFields}
-use Rattle.line_journal.specs.Keepers.{AreRests, NoneOpenBelow, slots}
+use Rattle.line_journal.specs.declared.rests.Keeper.{Keeper}
+use Rattle.line_journal.specs.Keepers.{AreRests, NoneOpenBelow}
 use Rattle.line_journal.specs.Lists.{count_left}
 use Rattle.line_journal.specs.Order.{lists_of}
 use Rattle.line_journal.specs.Walks.{walked}
-use Rattle.line_journal.proofs.Answering.{below_as, farther_on, fewer_left, none_awake, placing_left}
-use Rattle.line_journal.proofs.Answering.{placing_merges, placing_pairs, same_merges, space_for}
+use Rattle.line_journal.proofs.Answering.{farther_on, fewer_left, none_awake, space_for}
 use Rattle.line_journal.proofs.InOrder.{merge_is}
-use Rattle.line_journal.proofs.Looping.{ends, fewer, of_boxes, opens_at}
-use Rattle.line_journal.proofs.Looping.{pair_count, written_back}
+use Rattle.line_journal.proofs.Looping.{ends, fewer, of_boxes, opens_at, pair_count}
 use Rattle.line_journal.proofs.Nearby.{all_awake, asleep_as}
 use Rattle.line_journal.proofs.Opening.{lowest_set}
 use Rattle.line_journal.proofs.Orders.{in_range}
-use Rattle.line_journal.proofs.Tallies.{awake_within, kept_from, next_leaves, next_walked, tallies_kept}
-use Rattle.line_journal.proofs.Tallies.{tallies_leave}
+use Rattle.line_journal.proofs.Steps.{next_placed, none_placed, reached, write_back}
 use Rattle.line_journal.proofs.merging.merged_boxes.Goals as goal
 
 pub open_rests-requires : goal.open_rests-requires
@@ -52,7 +50,7 @@ loop-box_no-init c =
           (c.in_ok-pairs.ensures ∙ ap (λ (n : ℕ). replicate (n - 1) opening_pair) c.len.ensures
           ∙ ap (λ (p : PlanFields). replicate (length p.boxes - 1) opening_pair) c.plan.view_is) left;
       leaves = rw none (record { walk = tt; behind = left });
-      rests = c.in_ok-rests.ensures;
+      are_rests = c.in_ok-rests.ensures;
       count = ap (λ (ls : List (List Entry)). length ls) left ∙ length-map _ _ ∙ c.requires.parts.each;
       each = each;
       asleep = λ b down was. awake b down (in_range c.in_ok-left.left b was.entry was.rest was.next);
@@ -66,181 +64,85 @@ place-requires-clause-pairs c =
 
 pub place-requires-clause-boxes : goal.place-requires-clause-boxes
 place-requires-clause-boxes c =
-    let kept =
-    kept_from c.meets_conditions.ensures c.loop-box_no.invariant.merges c.loop-box_no.invariant.leaves
-    c.loop-box_no.invariant.rests c.loop-box_no.invariant.asleep c.loop-box_no.invariant.below c.deref.ensures.value
-    c.loop-box_no.invariant.each c.in-Some.ensures c.in_ok-place_tallies.ensures in
+    let here =
+    reached c.meets_conditions.ensures c.loop-box_no.invariant c.deref.ensures.value c.in-Some.ensures
+    c.in_ok-place_tallies.ensures in
     of_boxes c.args.plan.now _ _ c.loop-box_no.pairs.items c.place_tallies.new.left c.meets_conditions.ensures
-    kept.merges
+    here.kept.merges
 
 pub place-requires-clause-rests : goal.place-requires-clause-rests
 place-requires-clause-rests c =
-    let kept =
-    kept_from c.meets_conditions.ensures c.loop-box_no.invariant.merges c.loop-box_no.invariant.leaves
-    c.loop-box_no.invariant.rests c.loop-box_no.invariant.asleep c.loop-box_no.invariant.below c.deref.ensures.value
-    c.loop-box_no.invariant.each c.in-Some.ensures c.in_ok-place_tallies.ensures in
-    subst (λ (ns : List (List ℕ)). AreRests c.args.plan.now c.place_tallies.new.left ns)
-    (sym c.deref_mut-in-Some.ensures.value) kept.are_rests
+    let here =
+    reached c.meets_conditions.ensures c.loop-box_no.invariant c.deref.ensures.value c.in-Some.ensures
+    c.in_ok-place_tallies.ensures in
+    subst (λ (ns : List (List Keeper)). AreRests c.args.plan.now c.place_tallies.new.left ns)
+    (sym c.deref_mut-in-Some.ensures.value) here.kept.are_rests
 
 pub place-requires-clause-asleep : goal.place-requires-clause-asleep
 place-requires-clause-asleep c =
-    let kept =
-    kept_from c.meets_conditions.ensures c.loop-box_no.invariant.merges c.loop-box_no.invariant.leaves
-    c.loop-box_no.invariant.rests c.loop-box_no.invariant.asleep c.loop-box_no.invariant.below c.deref.ensures.value
-    c.loop-box_no.invariant.each c.in-Some.ensures c.in_ok-place_tallies.ensures in
+    let here =
+    reached c.meets_conditions.ensures c.loop-box_no.invariant c.deref.ensures.value c.in-Some.ensures
+    c.in_ok-place_tallies.ensures in
     asleep_as c.args.plan.now c.loop-box_no.pairs.items c.deref_mut.result.now c.place_tallies.new.left
     c.place_tallies.new.left c.loop-box_no.awake.items c.deref_mut-in-Some-2.result.now c.deref_mut.ensures.value refl
-    c.deref_mut-in-Some-2.ensures.value kept.asleep
+    c.deref_mut-in-Some-2.ensures.value here.kept.asleep
 
 pub place-requires-clause-below : goal.place-requires-clause-below
 place-requires-clause-below c =
-    let kept =
-    kept_from c.meets_conditions.ensures c.loop-box_no.invariant.merges c.loop-box_no.invariant.leaves
-    c.loop-box_no.invariant.rests c.loop-box_no.invariant.asleep c.loop-box_no.invariant.below c.deref.ensures.value
-    c.loop-box_no.invariant.each c.in-Some.ensures c.in_ok-place_tallies.ensures in
+    let here =
+    reached c.meets_conditions.ensures c.loop-box_no.invariant c.deref.ensures.value c.in-Some.ensures
+    c.in_ok-place_tallies.ensures in
     subst (λ (ps : List PairState). NoneOpenBelow c.args.plan.now ps c.place_tallies.new.left c.in-Some.box_no)
-    (sym c.deref_mut.ensures.value) kept.below
+    (sym c.deref_mut.ensures.value) here.kept.below
 
 pub place-requires-clause-space : goal.place-requires-clause-space
 place-requires-clause-space c =
-    let kept =
-    kept_from c.meets_conditions.ensures c.loop-box_no.invariant.merges c.loop-box_no.invariant.leaves
-    c.loop-box_no.invariant.rests c.loop-box_no.invariant.asleep c.loop-box_no.invariant.below c.deref.ensures.value
-    c.loop-box_no.invariant.each c.in-Some.ensures c.in_ok-place_tallies.ensures in
+    let here =
+    reached c.meets_conditions.ensures c.loop-box_no.invariant c.deref.ensures.value c.in-Some.ensures
+    c.in_ok-place_tallies.ensures in
     space_for c.args.plan.now _ _ c.loop-box_no.pairs.items c.deref_mut.result.now c.place_tallies.new.left
-    c.in-Some.box_no c.meets_conditions.ensures kept.merges c.deref_mut.ensures.value kept.below
+    c.in-Some.box_no c.meets_conditions.ensures here.kept.merges c.deref_mut.ensures.value here.kept.below
 
 pub loop-box_no-preserved-in-Continue-branch-7 : goal.loop-box_no-preserved-in-Continue-branch-7
 loop-box_no-preserved-in-Continue-branch-7 c =
-    let is = c.meets_conditions.ensures in
-    let kept =
-    kept_from is c.loop-box_no.invariant.merges c.loop-box_no.invariant.leaves
-    c.loop-box_no.invariant.rests c.loop-box_no.invariant.asleep c.loop-box_no.invariant.below c.deref.ensures.value
-    c.loop-box_no.invariant.each c.in-Some.ensures c.in_ok-place_tallies.ensures in
-    let leaves =
-    tallies_leave c.loop-box_no.invariant.leaves
-    (awake_within c.loop-box_no.left c.deref.ensures.value c.loop-box_no.invariant.each c.in-Some.ensures)
+    let here =
+    reached c.meets_conditions.ensures c.loop-box_no.invariant c.deref.ensures.value c.in-Some.ensures
     c.in_ok-place_tallies.ensures in
-    let keeps =
-    tallies_kept (lists_of c.args.ended.now.registers) c.loop-box_no.left c.loop-box_no.boxes.items
-    c.place_tallies.new.boxes.items c.in-Some.box_no c.place_tallies.new.left c.loop-box_no.invariant.leaves
-    (awake_within c.loop-box_no.left c.deref.ensures.value c.loop-box_no.invariant.each c.in-Some.ensures)
-    c.in_ok-place_tallies.ensures in
-    let entry : Entry = c.if-place.ensures.placed.0 in
-    let placing = c.if-place.ensures.placed.1 in
-    let same : length c.place.new.left ≡ length c.loop-box_no.left =
-    placing_left c.args.plan.now c.deref_mut.result.now c.place_tallies.new.left c.in-Some.box_no entry
-    c.place.new.pairs c.place.new.left placing
-    ∙ keeps.count in
-    let pairs_count : length c.place.new.pairs ≡ c.loop-box_no.pairs.len =
-    placing_pairs c.args.plan.now c.deref_mut.result.now c.place_tallies.new.left c.in-Some.box_no entry
-    c.place.new.pairs c.place.new.left placing ∙ c.deref_mut.ensures.len in
-    let rests_count : length c.place.new.rests ≡ c.loop-box_no.rests.len =
-    c.place.ensures.rests.each ∙ ap (λ (n : ℕ). slots * n) same ∙ sym c.loop-box_no.invariant.rests.each
-    ∙ sym (ap (λ (ns : List (List ℕ)). length ns) c.deref_mut-in-Some.ensures.value)
-    ∙ c.deref_mut-in-Some.ensures.len in
-    let awake_count : length c.place.new.awake ≡ c.loop-box_no.awake.len =
-    c.place.ensures.each ∙ same ∙ sym c.loop-box_no.invariant.each
-    ∙ sym (ap (λ (bs : List Bool). length bs) c.deref_mut-in-Some-2.ensures.value) ∙ c.deref_mut-in-Some-2.ensures.len
-    in record {
-      merges =
-          placing_merges c.args.plan.now _ _ c.loop-box_no.pairs.items
-          c.deref_mut.result.now c.place_tallies.new.left c.in-Some.box_no entry
-          c.place.new.pairs _ c.place.new.left _ is kept.merges c.deref_mut.ensures.value kept.below placing
-          (written_back c.loop-box_no.pairs.len c.place.new.pairs _ pairs_count)
-          (next_walked c.in-Some.box_no leaves placing.next c.in_ok-push.ensures.items);
-      leaves = next_leaves c.in-Some.box_no leaves placing.next c.in_ok-push.ensures.items placing.rest;
-      rests =
-          subst (λ (ns : List (List ℕ)). AreRests c.args.plan.now c.place.new.left ns)
-          (sym (written_back c.loop-box_no.rests.len c.place.new.rests _ rests_count))
-          c.place.ensures.rests;
-      count = same ∙ c.loop-box_no.invariant.count;
-      each = ap (λ (bs : List Bool). length bs)
-          (written_back c.loop-box_no.awake.len c.place.new.awake _ awake_count) ∙ c.place.ensures.each;
-      asleep =
-          asleep_as c.args.plan.now c.place.new.pairs _ c.place.new.left _ c.place.new.awake _
-          (written_back c.loop-box_no.pairs.len c.place.new.pairs _ pairs_count) refl
-          (written_back c.loop-box_no.awake.len c.place.new.awake _ awake_count) c.place.ensures.asleep;
-      below =
-          below_as c.args.plan.now c.place.new.pairs _ c.place.new.left _ c.place.new.from _
-          (written_back c.loop-box_no.pairs.len c.place.new.pairs _ pairs_count) refl refl
-          c.place.ensures.below;
-    }
+    write_back c.loop-box_no.invariant
+    (next_placed c.meets_conditions.ensures here c.deref_mut.ensures.value c.if-place.ensures.placed.1
+    c.in_ok-push.ensures.items c.place.ensures.rests c.place.ensures.each c.place.ensures.asleep
+    c.place.ensures.below)
+    c.deref_mut.ensures.value c.deref_mut.ensures.len c.deref_mut-in-Some.ensures.value c.deref_mut-in-Some.ensures.len
+    c.deref_mut-in-Some-2.ensures.value c.deref_mut-in-Some-2.ensures.len _ _ _
 
 pub loop-box_no-preserved : goal.loop-box_no-preserved
 loop-box_no-preserved c =
-    let is = c.meets_conditions.ensures in
-    let kept =
-    kept_from is c.loop-box_no.invariant.merges c.loop-box_no.invariant.leaves
-    c.loop-box_no.invariant.rests c.loop-box_no.invariant.asleep c.loop-box_no.invariant.below c.deref.ensures.value
-    c.loop-box_no.invariant.each c.in-Some.ensures c.in_ok-place_tallies.ensures in
-    let leaves =
-    tallies_leave c.loop-box_no.invariant.leaves
-    (awake_within c.loop-box_no.left c.deref.ensures.value c.loop-box_no.invariant.each c.in-Some.ensures)
+    let here =
+    reached c.meets_conditions.ensures c.loop-box_no.invariant c.deref.ensures.value c.in-Some.ensures
     c.in_ok-place_tallies.ensures in
-    let keeps =
-    tallies_kept (lists_of c.args.ended.now.registers) c.loop-box_no.left c.loop-box_no.boxes.items
-    c.place_tallies.new.boxes.items c.in-Some.box_no c.place_tallies.new.left c.loop-box_no.invariant.leaves
-    (awake_within c.loop-box_no.left c.deref.ensures.value c.loop-box_no.invariant.each c.in-Some.ensures)
-    c.in_ok-place_tallies.ensures in
-    let words = c.if-place.ensures.placed.0 in
-    let rest = c.if-place.ensures.placed.1 in
-    let same : length c.place.new.left ≡ length c.loop-box_no.left =
-    ap (λ (ls : List (List Entry)). length ls) rest ∙ keeps.count in
-    let pairs_count : length c.place.new.pairs ≡ c.loop-box_no.pairs.len =
-    ap (λ (ps : List PairState). length ps) words ∙ c.deref_mut.ensures.len in
-    let rests_count : length c.place.new.rests ≡ c.loop-box_no.rests.len =
-    c.place.ensures.rests.each ∙ ap (λ (n : ℕ). slots * n) same ∙ sym c.loop-box_no.invariant.rests.each
-    ∙ sym (ap (λ (ns : List (List ℕ)). length ns) c.deref_mut-in-Some.ensures.value)
-    ∙ c.deref_mut-in-Some.ensures.len in
-    let awake_count : length c.place.new.awake ≡ c.loop-box_no.awake.len =
-    c.place.ensures.each ∙ same ∙ sym c.loop-box_no.invariant.each
-    ∙ sym (ap (λ (bs : List Bool). length bs) c.deref_mut-in-Some-2.ensures.value) ∙ c.deref_mut-in-Some-2.ensures.len
-    in record {
-      merges =
-          same_merges c.args.plan.now _ _ c.loop-box_no.pairs.items _ c.place_tallies.new.left c.place.new.left
-          kept.merges
-          (written_back c.loop-box_no.pairs.len c.place.new.pairs _ pairs_count ∙ words ∙ c.deref_mut.ensures.value)
-          rest;
-      leaves = record { walk = leaves.walk; behind = rest ∙ leaves.behind };
-      rests =
-          subst (λ (ns : List (List ℕ)). AreRests c.args.plan.now c.place.new.left ns)
-          (sym (written_back c.loop-box_no.rests.len c.place.new.rests _ rests_count))
-          c.place.ensures.rests;
-      count = same ∙ c.loop-box_no.invariant.count;
-      each = ap (λ (bs : List Bool). length bs)
-          (written_back c.loop-box_no.awake.len c.place.new.awake _ awake_count) ∙ c.place.ensures.each;
-      asleep =
-          asleep_as c.args.plan.now c.place.new.pairs _ c.place.new.left _ c.place.new.awake _
-          (written_back c.loop-box_no.pairs.len c.place.new.pairs _ pairs_count) refl
-          (written_back c.loop-box_no.awake.len c.place.new.awake _ awake_count) c.place.ensures.asleep;
-      below =
-          below_as c.args.plan.now c.place.new.pairs _ c.place.new.left _ c.place.new.from _
-          (written_back c.loop-box_no.pairs.len c.place.new.pairs _ pairs_count) refl refl
-          c.place.ensures.below;
-    }
+    write_back c.loop-box_no.invariant
+    (none_placed here c.deref_mut.ensures.value c.if-place.ensures.placed.0 c.if-place.ensures.placed.1
+    c.place.ensures.rests c.place.ensures.each c.place.ensures.asleep c.place.ensures.below)
+    c.deref_mut.ensures.value c.deref_mut.ensures.len c.deref_mut-in-Some.ensures.value c.deref_mut-in-Some.ensures.len
+    c.deref_mut-in-Some-2.ensures.value c.deref_mut-in-Some-2.ensures.len _ _ _
 
 pub loop-box_no-smaller-in-Continue-branch-7 : goal.loop-box_no-smaller-in-Continue-branch-7
 loop-box_no-smaller-in-Continue-branch-7 c =
-    let keeps =
-    tallies_kept (lists_of c.args.ended.now.registers) c.loop-box_no.left c.loop-box_no.boxes.items
-    c.place_tallies.new.boxes.items c.in-Some.box_no c.place_tallies.new.left c.loop-box_no.invariant.leaves
-    (awake_within c.loop-box_no.left c.deref.ensures.value c.loop-box_no.invariant.each c.in-Some.ensures)
+    let here =
+    reached c.meets_conditions.ensures c.loop-box_no.invariant c.deref.ensures.value c.in-Some.ensures
     c.in_ok-place_tallies.ensures in
     let placing = c.if-place.ensures.placed.1 in
     let less : count_left c.place.new.left < count_left c.place_tallies.new.left =
     subst (λ (ls : List (List Entry)). count_left ls < count_left c.place_tallies.new.left) (sym placing.rest)
     (fewer c.place_tallies.new.left c.in-Some.box_no c.if-place.ensures.placed.0 _ placing.next) in
-    let before = keeps.fewer in
+    let before = here.fewer in
     fewer_left (count_left c.loop-box_no.left) (count_left c.place.new.left) (length c.args.plan.now.boxes)
     c.loop-box_no.from c.place.new.from (omega (arith, less, before))
 
 pub loop-box_no-smaller : goal.loop-box_no-smaller
 loop-box_no-smaller c =
-    let keeps =
-    tallies_kept (lists_of c.args.ended.now.registers) c.loop-box_no.left c.loop-box_no.boxes.items
-    c.place_tallies.new.boxes.items c.in-Some.box_no c.place_tallies.new.left c.loop-box_no.invariant.leaves
-    (awake_within c.loop-box_no.left c.deref.ensures.value c.loop-box_no.invariant.each c.in-Some.ensures)
+    let here =
+    reached c.meets_conditions.ensures c.loop-box_no.invariant c.deref.ensures.value c.in-Some.ensures
     c.in_ok-place_tallies.ensures in
     let count : length c.deref.result.now ≡ length c.args.plan.now.boxes =
     ap (λ (bs : List Bool). length bs) c.deref.ensures.value ∙ c.loop-box_no.invariant.each
@@ -250,7 +152,7 @@ loop-box_no-smaller c =
     let next = c.if-place.ensures.placed.2 in
     let few : count_left c.place.new.left ≤ count_left c.loop-box_no.left =
     subst (λ (ls : List (List Entry)). count_left ls ≤ count_left c.loop-box_no.left)
-    (sym c.if-place.ensures.placed.1) keeps.fewer in
+    (sym c.if-place.ensures.placed.1) here.fewer in
     farther_on (count_left c.loop-box_no.left) (count_left c.place.new.left) (length c.args.plan.now.boxes)
     c.loop-box_no.from c.place.new.from few (omega (arith, first, next)) (omega (arith, first, within, count))
 
