@@ -10,7 +10,7 @@ use Rattle.line_law.specs.declared.ways.ByWay.{ByWay}
 use Rattle.line_law.specs.History.{IsLegal}
 use Rattle.line_law.specs.Refusals.{is_refused}
 use Rattle.line_report.specs.Asked.{AreFewEntries}
-use Rattle.line_report.specs.Between.{AreMost, CountsOn, MayGain, no_trains, pairs_text, trains_at}
+use Rattle.line_report.specs.Between.{CountsOn, MayGain, no_trains, pairs_text, trains_at}
 use Rattle.line_report.specs.Refusals.{refused_count}
 use Rattle.line_report.specs.declared.sections.HeldTrains.{HeldTrains}
 use Rattle.line_report.proofs.PairTexts.{all_pairs}

@@ -2,8 +2,9 @@
 use Rattle.std.proofs.Common.{◌≡◌, ℕ, ◌+◌, ◌≤◌, List, [], ◌∷◌, ◌++◌, drop, length, map, take, Result, Ok, Err, IfOk}
 use Rattle.std.proofs.Common.{append_assoc, arith, codes, decimal, refl, sym, ap, ◌∙◌}
 use Rattle.std.proofs.lemmas.Result.{IfOk-at_ok}
-use Rattle.std.specs.List.{flat_map}
+use Rattle.std.specs.List.{flat_map, sum, sum_by}
 use Rattle.std.proofs.lemmas.List.{length-take, map-append, take-append-drop}
+use Rattle.std.proofs.lemmas.List.Sums.{sum-map}
 use Rattle.line_plan.specs.Plans.{PlanFields}
 use Rattle.line_law.specs.declared.call.Entry.{Entry}
 use Rattle.line_report.specs.Journals.{entries_text, heading_text, journal_text}
@@ -37,6 +38,11 @@ each_half f xs front behind whole = sym (map-append f front behind) ∙ ap (map 
 pub map_twice : {X Y Z : Type 0} (g : Y → Z) (f : X → Y) (xs : List X) → map g (map f xs) ≡ map (λ x. g (f x)) xs
 map_twice g f [] = refl
 map_twice {X} {Y} {Z} g f (x ∷ xs) = ap (λ (zs : List Z). g (f x) ∷ zs) (map_twice g f xs)
+
+-- the same of a sum
+pub sum_twice : {X Y : Type 0} (g : Y → ℕ) (f : X → Y) (xs : List X) → sum_by g (map f xs) ≡ sum_by (λ x. g (f x)) xs
+sum_twice {X} {Y} g f xs =
+    sym (sum-map g (map f xs)) ∙ ap (λ (ns : List ℕ). sum ns) (map_twice g f xs) ∙ sum-map (λ x. g (f x)) xs
 
 -- the front half of a journal's entries, and the others
 pub in_halves : (plan : PlanFields) (es : List Entry) (half : ℕ) (front behind : CopiedFields)

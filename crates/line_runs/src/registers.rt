@@ -1,6 +1,7 @@
 //! The registers of a line as they are printed.
 
-ghost use Rattle.std.specs.Prelude.{◌≡◌, [], ◌∷◌, ◌++◌, IfOk, OnOk, map};
+ghost use Rattle.std.specs.Prelude.{◌≡◌, ◌-◌, ◌^◌, [], ◌∷◌, ◌++◌, IfOk, OnOk, length, map, min};
+ghost use Rattle.std.specs.List.{sum_by};
 ghost use Rattle.line_runs.specs.Copying.{behind_line};
 ghost use Rattle.line_runs.specs.Outputs.{AreInOrder};
 
@@ -18,6 +19,17 @@ fn told_lines_of<'a>(alloc: Global, texts: &'a [Vec<u8>]) -> Result<Vec<ToldLine
         lines.push(ToldLines::of_register(text))?;
     }
     Ok(lines)
+}
+
+// How much room these texts take, as far as a number can tell it.
+fn room_of(texts: &[Vec<u8>]) -> usize
+    ensures { result ≡ min (sum_by (λ text. length text.items) texts.now) (2 ^ 64 - 1) }
+{
+    let mut room = 0usize;
+    for text in texts {
+        room = room.saturating_add(text.len());
+    }
+    room
 }
 
 /// Registers as they are printed, each a text of its own. Contracts see the list of these texts.
@@ -71,11 +83,12 @@ impl PrintedRegisters {
         Ok(registers)
     }
 
-    /// How much room their texts take.
-    pub(crate) fn room(&self) -> usize {
-        self.texts
-            .iter()
-            .fold(0, |room: usize, text| room.saturating_add(text.len()))
+    /// How much room their texts take, as far as a number can tell it.
+    #[tactic(auto, using(crate::proofs::Printed::sum_twice))]
+    pub(crate) fn room(&self) -> usize
+        ensures { result ≡ min (sum_by (λ text. length text) self.now) (2 ^ 64 - 1) }
+    {
+        room_of(&self.texts)
     }
 
     /// The lines of each register, behind its first.

@@ -7,14 +7,14 @@ ghost use Rattle.text_fetch.specs.Runs.{AreScriptsOf};
 ghost use Rattle.line_runs.specs.Watched.{AreRoundsOf, IsFilled};
 ghost use Rattle.line_runs.specs.Worked.{AreWorked, IsWorkedLine, lengths_of};
 
-use crate::worked::{WorkedLine, closed_line, lengths_of, merged_line, opened_line, work_alone};
+use crate::worked::{WorkedLine, closed_line, lengths_of, merged_line, work_alone};
 use instrument_rule::Line;
 use line_plan::Plan;
 use line_watch::Board;
 use line_working::Gate;
 use rail_text::NoMemory;
 use script_text::Script;
-use signalman_seats::{Signalman, open_line};
+use signalman_seats::{OpenError, Signalman, open_line};
 use std::alloc::Global;
 use std::sync::Wait;
 use std::thread::Threads;
@@ -129,8 +129,9 @@ pub fn watched_line<R: Threads + Wait + Sync, G: Gate>(
         (λ watched. IsBoardOf plan.now watched.worked.journal.entries watched.board.rounds) }
 {
     let lengths = lengths_of(alloc, scripts)?;
-    match opened_line(open_line(alloc, plan, &lengths))? {
-        Some((line, men)) => watched_by_men(rt, alloc, plan, scripts, rounds, line, men, gate),
-        None => watched_alone(alloc, plan, scripts, rounds, gate),
+    match open_line(alloc, plan, &lengths) {
+        Ok((line, men)) => watched_by_men(rt, alloc, plan, scripts, rounds, line, men, gate),
+        Err(OpenError::PostTaken { .. }) => watched_alone(alloc, plan, scripts, rounds, gate),
+        Err(OpenError::NoMemory) => Err(NoMemory),
     }
 }

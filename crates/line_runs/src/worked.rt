@@ -1,10 +1,9 @@
 //! A line that is worked by the scripts of its boxes, up to its journal.
 
-ghost use Rattle.std.specs.Prelude.{◌≡◌, All, Err, IfOk, IfSome, Ok, OnErr};
+ghost use Rattle.std.specs.Prelude.{◌≡◌, All, IfErr, IfOk};
 ghost use Rattle.line_report.specs.Asked.{AreFewEntries};
 ghost use Rattle.script_text.specs.Entries.{IsSpelled};
-ghost use Rattle.signalman_seats.specs.Lines.{AreFresh, AreMen, Closed};
-ghost use Rattle.signalman_seats.specs.declared.opening.OpenError.{OpenError};
+ghost use Rattle.signalman_seats.specs.Lines.{AreFresh, AreMen, Closed, WasTaken};
 ghost use Rattle.text_fetch.specs.Runs.{AreScriptsOf};
 ghost use Rattle.train_register.specs.Registers.{AreParts, IsPrintable};
 ghost use Rattle.line_runs.specs.Worked.{AreWorked, IsJournalOf, IsWorkedLine, lengths_of};
@@ -89,40 +88,21 @@ fn work_and_close<R: Threads + Wait + Sync, G: Gate>(
     closed_line(alloc, line, men)
 }
 
-/// The line that was opened, with its men; none where the post of a box was taken.
-pub(crate) fn opened_line(
-    opened: Result<(Line, Vec<Signalman>), OpenError>,
-) -> Result<Option<(Line, Vec<Signalman>)>, NoMemory>
-    ensures line { IfOk result (λ o. IfSome o (λ line. opened ≡ Ok line)) }
-    ensures memory { OnErr result (opened ≡ Err OpenError.NoMemory) }
-{
-    match opened {
-        Ok(line) => Ok(Some(line)),
-        Err(OpenError::PostTaken { .. }) => Ok(None),
-        Err(OpenError::NoMemory) => Err(NoMemory),
-    }
-}
-
-// The registers of a line whose scripts are worked by its men, each on a thread of his own; none where the post of a
-// box was taken.
+// The registers of a line whose scripts are worked by its men, each on a thread of his own, or why no line was opened.
 fn work_by_men<R: Threads + Wait + Sync, G: Gate>(
     rt: &R,
     alloc: Global,
     plan: &Plan,
     scripts: &[Script],
     gate: &G,
-) -> Result<Option<Ended>, NoMemory>
+) -> Result<Ended, OpenError>
     requires { AreScriptsOf plan.now scripts.now }
-    ensures { IfOk result (λ o. IfSome o (λ ended. AreWorked plan.now scripts.now ended.registers)) }
+    ensures worked { IfOk result (λ ended. AreWorked plan.now scripts.now ended.registers) }
+    ensures taken { IfErr result (WasTaken plan.now) }
 {
     let lengths = lengths_of(alloc, scripts)?;
-    match opened_line(open_line(alloc, plan, &lengths))? {
-        Some((line, men)) => {
-            let ended = work_and_close(rt, alloc, plan, scripts, line, men, gate)?;
-            Ok(Some(ended))
-        }
-        None => Ok(None),
-    }
+    let (line, men) = open_line(alloc, plan, &lengths)?;
+    Ok(work_and_close(rt, alloc, plan, scripts, line, men, gate)?)
 }
 
 /// The registers of a line whose scripts are worked on this thread.
@@ -153,9 +133,10 @@ pub(crate) fn work_scripts<R: Threads + Wait + Sync, G: Gate>(
     requires { AreScriptsOf plan.now scripts.now }
     ensures { IfOk result (λ ended. AreWorked plan.now scripts.now ended.registers) }
 {
-    match work_by_men(rt, alloc, plan, scripts, gate)? {
-        Some(ended) => Ok(ended),
-        None => work_alone(alloc, plan, scripts, gate),
+    match work_by_men(rt, alloc, plan, scripts, gate) {
+        Ok(ended) => Ok(ended),
+        Err(OpenError::PostTaken { .. }) => work_alone(alloc, plan, scripts, gate),
+        Err(OpenError::NoMemory) => Err(NoMemory),
     }
 }
 

@@ -1,4 +1,4 @@
-use Rattle.std.proofs.Common.{◌/◌, ◌+◌, ap, arith, drop, length, take}
+use Rattle.std.proofs.Common.{◌/◌, ◌+◌, arith, drop, take}
 use Rattle.std.proofs.lemmas.Result.{IfOk-at_ok}
 use Rattle.line_runs.specs.Copying.{AreCopied}
 use Rattle.line_runs.proofs.Printed.{in_halves}
