@@ -1,4 +1,7 @@
-.PHONY: demo build cases bench soak faults edge sizes test
+# The crates whose tests try what no words reach.
+TESTS = $(patsubst crates/%/,%,$(wildcard crates/*_tests/))
+
+.PHONY: demo build cases rows quick $(TESTS) bench soak faults edge sizes planted contracts test
 
 example = run data/example.plan data/ash.script data/beech.script data/cedar.script
 
@@ -14,6 +17,19 @@ build:
 # minutes in a build that tests each step, so the files named *_limits are left to `make test`.
 cases:
 	cd crates/worked_cases && rt try $$(find data -type f ! -name '*_limits' -printf '--data %p=%p ') -- data
+
+# Works the worked rows without proofs: calls of the libraries with their arguments and answers.
+rows:
+	cd crates/worked_rows && rt try $$(find data -type f -printf '--data %p=%p ') -- data
+
+# What a newcomer runs first: the worked cases, the worked rows and all tests, without proofs. It works as many at once as
+# there are processors, and takes some ten minutes on four.
+quick:
+	$(MAKE) --no-print-directory --keep-going --output-sync -j$$(nproc) cases rows $(TESTS)
+
+# The tests of one crate, without proofs.
+$(TESTS):
+	cd crates/$@ && rt try --test
 
 # Times the program that `make build` leaves on large inputs, which are made first, beside any other program of the same
 # commands: make bench BESIDE="PROGRAM..". It takes some minutes, and wants a quiet machine.
@@ -36,6 +52,19 @@ edge:
 sizes:
 	python3 hostile/sizes.py crates/box_main/out/box_main
 
+# Tries the wrong bodies of hostile/planted.txt, which the contracts must refuse, on a copy: half an hour on four processors.
+planted:
+	python3 hostile/planted.py
+
+# Lists each contract of a public function, and each definition, that differs from those of an earlier commit.
+SINCE = HEAD
+
+contracts:
+	python3 hostile/contracts.py $(SINCE)
+
 # The gate: every proof, the must-fail edits, the tests, and the program as two compilers make it.
 test:
+	@echo "make test proves all crates and their tests, tries the must-fail edits, and runs the tests and the programs."
+	@echo "From nothing that takes about an hour on four processors, and two hours on two; here there are $$(nproc)."
+	@echo "What an earlier run on this machine passed is kept. The last line is 'N passed, M failed'. (make quick: no proofs)"
 	rt ci
