@@ -29,7 +29,7 @@ quick:
 
 # The tests of one crate, without proofs.
 $(TESTS):
-	cd crates/$@ && rt try --test
+	cd crates/$@ && rt try --test --seconds 580
 
 # Times the program that `make build` leaves on large inputs, which are made first, beside any other program of the same
 # commands: make bench BESIDE="PROGRAM..". It takes some minutes, and wants a quiet machine.
