@@ -1,5 +1,5 @@
 -- A fetch of one byte more than the limit is enough.
-use Rattle.std.proofs.Common.{◌≡◌, ℕ, ◌+◌, List, Result, Ok, Err, ap, take}
+use Rattle.std.proofs.Common.{◌≡◌, ℕ, ◌+◌, List, Result, Ok, ap, take}
 use Rattle.rail_text.proofs.Limits.{limited-take}
 use Rattle.rail_text.specs.Gives.{◌>>=◌, Fault}
 use Rattle.rail_text.specs.Texts.{lines_onto, text_onto}

@@ -3,3 +3,4 @@ pub mod Drafts
 pub mod Limits
 pub mod Outputs
 pub mod Scripts
+pub mod Spelled
