@@ -1,10 +1,9 @@
 -- Places that are named one behind the other.
 use Rattle.std.proofs.Common.{◌≡◌, ℕ, zero, suc, ◌+◌, ◌<◌, List, [], ◌∷◌, ◌++◌, length, drop, Result, Ok, Err, refl}
 use Rattle.std.proofs.Common.{sym, ap, ◌∙◌, arith}
-use Rattle.rail_text.specs.Gives.{◌>>=◌, FailsLine}
+use Rattle.std.specs.Result.{IsErr, IsErrAnd}
+use Rattle.rail_text.specs.Gives.{◌>>=◌, GivesCause}
 use Rattle.rail_text.specs.declared.cause.Cause.{Cause}
-use Rattle.rail_text.specs.declared.line_fault.LineFault.{LineFault}
-use Rattle.rail_text.specs.declared.line_fault.LineFault.TheVariants as faults
 use Rattle.plan_draft.specs.LineWords.{word, number_in_names, places_onto}
 
 drop_next : (ws : List (List ℕ)) (i : ℕ) → i < length ws → drop i ws ≡ word i ws ∷ drop (i + 1) ws
@@ -21,9 +20,9 @@ places_step names ws front i lt = ap (places_onto names front) (drop_next ws i l
 
 pub places_next : (names ws : List (List ℕ)) (front more text : List ℕ) (i place : ℕ) (read : Result (List ℕ) Cause)
     → i < length ws → places_onto names front (drop i ws) ≡ read → more ≡ front ++ place ∷ [] → text ≡ word i ws
-    → number_in_names names text ≡ Ok place → places_onto names more (drop (i + 1) ws) ≡ read
+    → Ok place ≡ number_in_names names text → places_onto names more (drop (i + 1) ws) ≡ read
 places_next names ws front more text i place read lt inv m t e =
-    let own : number_in_names names (word i ws) ≡ Ok place = ap (number_in_names names) (sym t) ∙ e in
+    let own : number_in_names names (word i ws) ≡ Ok place = ap (number_in_names names) (sym t) ∙ sym e in
     let same : places_onto names front (drop i ws)
     ≡ places_onto names (front ++ place ∷ []) (drop (i + 1) ws) =
     places_step names ws front i lt
@@ -31,13 +30,16 @@ places_next names ws front more text i place read lt inv m t e =
     rw m (sym same ∙ inv)
 
 -- a word that names no place is the fault of the whole
-pub places_fail : (names ws : List (List ℕ)) (front text : List ℕ) (i : ℕ) (read : Result (List ℕ) Cause)
-    (e : LineFault) → i < length ws → places_onto names front (drop i ws) ≡ read → text ≡ word i ws
-    → FailsLine e (number_in_names names text) → FailsLine e read
-places_fail names ws front text i read (faults.Cause cause) lt inv t e =
-    let own : number_in_names names (word i ws) ≡ Err cause = ap (number_in_names names) (sym t) ∙ e in
+pub places_fail : (names ws : List (List ℕ)) (front text : List ℕ) (i : ℕ) (read : Result (List ℕ) Cause) (cause : Cause)
+    → i < length ws → places_onto names front (drop i ws) ≡ read → text ≡ word i ws
+    → Err cause ≡ number_in_names names text → read ≡ Err cause
+places_fail names ws front text i read cause lt inv t e =
+    let own : number_in_names names (word i ws) ≡ Err cause = ap (number_in_names names) (sym t) ∙ sym e in
     sym inv ∙ places_step names ws front i lt
     ∙ ap (λ (r : Result ℕ Cause). r >>= (λ (p : ℕ). places_onto names (front ++ p ∷ []) (drop (i + 1) ws))) own
-places_fail names ws front text i read faults.NoMemory lt inv t e = tt
 
-pub ruleset place_rules = (places_next, places_fail)
+-- a reader that stops for a cause gives it
+pub stopped : {X Y : Type 0} (view : X → Y) (r : Result X Cause) (read : Result Y Cause) (cause : Cause) → IsErr r
+    → IsErrAnd r (λ e. e ≡ cause) → read ≡ Err cause → GivesCause view r read
+stopped view (Ok x) read cause is own e = absurd cc
+stopped view (Err c) read cause is own e = rw own e

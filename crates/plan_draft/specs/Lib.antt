@@ -1,4 +1,5 @@
 pub mod LineWords
 pub mod BoxLines
 pub mod Drafts
+pub mod Keywords
 pub mod Reading

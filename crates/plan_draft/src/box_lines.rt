@@ -3,7 +3,7 @@
 ghost use Rattle.std.specs.Prelude.{◌≡◌, ◌<◌, ◌≤◌, ◌==◌, ◌++◌, [], ◌∷◌, IfOk, OnOk, OnErr, bytes_eq, drop, map};
 ghost use Rattle.std.specs.Prelude.{filter, is_some, false, length, option_map};
 ghost use Rattle.std.specs.List.{join_with_byte, list_any};
-ghost use Rattle.rail_text.specs.Gives.{FaultsFirst, GivesLine, TakesNoMemory};
+ghost use Rattle.rail_text.specs.Gives.{FaultsFirst, GivesCause, GivesLine, TakesNoMemory};
 ghost use Rattle.locking_table.specs.Reading.{row_of};
 ghost use Rattle.locking_table.specs.Sound.{IsRow, all_differ, levers_of};
 ghost use Rattle.line_plan.specs.Frames.{begins_at, berth_places, end_places, entered_by, frame_size, homes_of};
@@ -15,8 +15,8 @@ ghost use Rattle.plan_draft.specs.BoxLines.{starter_onto, track_in, track_onto, 
 ghost use Rattle.plan_draft.specs.BoxLines.{row_cause};
 
 use crate::line_words::{
-    counted, end_in, kept, kind_in, lever_in, new_name, number_in_names, places_from, way_in, word,
-    working_in,
+    counted, end_in, kept, kind_in, lever_in, new_name, number_in_names, number_of, places_from,
+    way_in, word, working_in,
 };
 use arrayvec::ArrayVec;
 use block_words::Way;
@@ -25,7 +25,7 @@ use line_plan::{
     leaves,
 };
 use locking_table::{Cond, MOST_LEVERS, Row, RowFault, read_spelled};
-use rail_text::{Cause, LineFault, LineWords, NoMemory, number_in};
+use rail_text::{Cause, LineFault, LineWords, NoMemory};
 use std::alloc::Global;
 
 // ---- places and levers
@@ -62,16 +62,15 @@ pub fn place_line(here: &mut BoxPlan, words: &LineWords<'_>) -> Result<(), LineF
 
 // A number above that of the box's last lever.
 #[tactic(auto, unfolding(crate::specs::BoxLines::next_number))]
-fn next_number(here: &BoxPlan, word: &[u8]) -> Result<u32, LineFault>
-    ensures gives { GivesLine (λ number. number) result (next_number here.now word.now) }
+fn next_number(here: &BoxPlan, word: &[u8]) -> Result<u32, Cause>
+    ensures gives { result ≡ next_number here.now word.now }
     ensures above { IfOk result (λ number. frame_size here.now.levers < number) }
-    ensures memory { TakesNoMemory result }
 {
-    let number = number_in(word, 1, MOST_LEVERS)?;
+    let number = number_of(word, 1, MOST_LEVERS)?;
     if here.frame_size() < number {
         Ok(number)
     } else {
-        Err(LineFault::Cause(Cause::LeverOrder))
+        Err(Cause::LeverOrder)
     }
 }
 
@@ -94,42 +93,39 @@ pub fn lever_line(alloc: Global, here: &mut BoxPlan, words: &LineWords<'_>) -> R
 
 // The lever of a signal or starter: a signal lever that has none so far.
 #[tactic(auto, unfolding(crate::specs::BoxLines::arm_in))]
-fn arm_in(here: &BoxPlan, word: &[u8]) -> Result<u32, LineFault>
-    ensures gives { GivesLine (λ number. number) result (arm_in here.now word.now) }
+fn arm_in(here: &BoxPlan, word: &[u8]) -> Result<u32, Cause>
+    ensures gives { result ≡ arm_in here.now word.now }
     ensures free { IfOk result (λ number. is_some (signal_of here.now number) ≡ false) }
-    ensures memory { TakesNoMemory result }
 {
     let lever = lever_in(here, word)?;
     if lever.kind != Kind::Signal {
-        return Err(LineFault::Cause(Cause::WrongKind));
+        return Err(Cause::WrongKind);
     }
     if here.signal(lever.number).is_some() {
-        return Err(LineFault::Cause(Cause::Taken));
+        return Err(Cause::Taken);
     }
     Ok(lever.number)
 }
 
 // The places behind the word `over`, where the line goes on.
 #[tactic(auto, unfolding(crate::specs::BoxLines::over_in))]
-fn over_in(here: &BoxPlan, words: &LineWords<'_>) -> Result<ArrayVec<u32, 8>, LineFault>
+fn over_in(here: &BoxPlan, words: &LineWords<'_>) -> Result<ArrayVec<u32, 8>, Cause>
     requires { length words.now ≤ 9 }
-    ensures gives { GivesLine (λ places. places.items) result (over_in here.now words.now) }
-    ensures memory { TakesNoMemory result }
+    ensures { GivesCause (λ places. places.items) result (over_in here.now words.now) }
 {
     if words.word_count() == 4 {
         return Ok(ArrayVec::new());
     }
     if word(words, 4) != b"over".as_slice() {
-        return Err(LineFault::Cause(Cause::UnknownWord));
+        return Err(Cause::UnknownWord);
     }
     places_from(&here.places, words, 5)
 }
 
 // Four words, or six to nine.
-fn counted_over(words: &LineWords<'_>) -> Result<(), LineFault>
-    ensures gives { GivesLine (λ _. tt) result (counted_over words.now) }
+fn counted_over(words: &LineWords<'_>) -> Result<(), Cause>
+    ensures gives { result ≡ counted_over words.now }
     ensures few { OnOk result (length words.now ≤ 9) }
-    ensures memory { TakesNoMemory result }
 {
     if words.word_count() == 4 {
         return Ok(());
@@ -222,16 +218,15 @@ pub fn signal_line(
 
 // An outgoing line of a box to a neighbour, without a starter so far.
 #[tactic(auto, unfolding(crate::specs::BoxLines::leaving_in))]
-fn leaving_in(boxes: u32, box_no: u32, here: &BoxPlan, word: &[u8]) -> Result<Way, LineFault>
-    ensures gives { GivesLine (λ way. way) result (leaving_in boxes box_no here.now word.now) }
-    ensures memory { TakesNoMemory result }
+fn leaving_in(boxes: u32, box_no: u32, here: &BoxPlan, word: &[u8]) -> Result<Way, Cause>
+    ensures { result ≡ leaving_in boxes box_no here.now word.now }
 {
     let way = way_in(word)?;
     if !leaves(boxes, box_no, way) {
-        return Err(LineFault::Cause(Cause::NoLine));
+        return Err(Cause::NoLine);
     }
     if here.starter(way).is_some() {
-        return Err(LineFault::Cause(Cause::Taken));
+        return Err(Cause::Taken);
     }
     Ok(way)
 }
@@ -262,16 +257,15 @@ pub fn starter_line(
 
 // An incoming line of a box from a neighbour, without a berth so far.
 #[tactic(auto, unfolding(crate::specs::BoxLines::coming_in))]
-fn coming_in(boxes: u32, box_no: u32, here: &BoxPlan, word: &[u8]) -> Result<Way, LineFault>
-    ensures gives { GivesLine (λ way. way) result (coming_in boxes box_no here.now word.now) }
-    ensures memory { TakesNoMemory result }
+fn coming_in(boxes: u32, box_no: u32, here: &BoxPlan, word: &[u8]) -> Result<Way, Cause>
+    ensures { result ≡ coming_in boxes box_no here.now word.now }
 {
     let way = way_in(word)?;
     if !comes_in(boxes, box_no, way) {
-        return Err(LineFault::Cause(Cause::NoLine));
+        return Err(Cause::NoLine);
     }
     if here.berth(way).is_some() {
-        return Err(LineFault::Cause(Cause::Taken));
+        return Err(Cause::Taken);
     }
     Ok(way)
 }
@@ -412,14 +406,13 @@ fn clearing_in(
     here: &BoxPlan,
     berth: &Berth,
     words: &LineWords<'_>,
-) -> Result<ArrayVec<u32, 8>, LineFault>
+) -> Result<ArrayVec<u32, 8>, Cause>
     requires { length words.now ≤ 10 }
-    ensures gives { GivesLine (λ places. places.items) result (clearing_in here.now berth.now words.now) }
-    ensures memory { TakesNoMemory result }
+    ensures { GivesCause (λ places. places.items) result (clearing_in here.now berth.now words.now) }
 {
     let places = places_from(&here.places, words, 2)?;
     if !differ_from(berth.place, places.as_slice()) {
-        return Err(LineFault::Cause(Cause::SamePlace));
+        return Err(Cause::SamePlace);
     }
     Ok(places)
 }
@@ -462,7 +455,7 @@ pub fn permissive_line(here: &mut BoxPlan, words: &LineWords<'_>) -> Result<(), 
     if berth.permissive.is_some() {
         return Err(LineFault::Cause(Cause::Taken));
     }
-    let most = number_in(word(words, 2), 1, 3)?;
+    let most = number_of(word(words, 2), 1, 3)?;
     here.set_permissive(way, most as u8);
     Ok(())
 }
@@ -471,14 +464,13 @@ pub fn permissive_line(here: &mut BoxPlan, words: &LineWords<'_>) -> Result<(), 
 
 // A working lever without track circuits so far.
 #[tactic(auto, unfolding(crate::specs::BoxLines::track_in))]
-fn track_in(here: &BoxPlan, word: &[u8]) -> Result<u32, LineFault>
-    ensures gives { GivesLine (λ number. number) result (track_in here.now word.now) }
+fn track_in(here: &BoxPlan, word: &[u8]) -> Result<u32, Cause>
+    ensures gives { result ≡ track_in here.now word.now }
     ensures free { IfOk result (λ number. list_any (λ track. track.lever == number) here.now.tracks ≡ false) }
-    ensures memory { TakesNoMemory result }
 {
     let lever = working_in(here, word)?;
     if here.has_track(lever) {
-        return Err(LineFault::Cause(Cause::Taken));
+        return Err(Cause::Taken);
     }
     Ok(lever)
 }
@@ -524,34 +516,31 @@ fn row_cause(fault: RowFault) -> Cause
 }
 
 // The row that a text spells.
-fn spelled_row(text: &[u8]) -> Result<Row, LineFault>
-    ensures gives { GivesLine (λ row. row) result (spelled_row (row_of text.now)) }
+fn spelled_row(text: &[u8]) -> Result<Row, Cause>
+    ensures gives { result ≡ spelled_row (row_of text.now) }
     ensures row { IfOk result IsRow }
-    ensures memory { TakesNoMemory result }
 {
     match read_spelled(text) {
         Ok(row) => Ok(row),
-        Err(fault) => Err(LineFault::Cause(row_cause(fault))),
+        Err(fault) => Err(row_cause(fault)),
     }
 }
 
 // The lever is of the box, and no spare one.
-fn worked(here: &BoxPlan, lever: u32) -> Result<(), LineFault>
-    ensures gives { GivesLine (λ _. tt) result (worked (kind_of here.now lever)) }
-    ensures memory { TakesNoMemory result }
+fn worked(here: &BoxPlan, lever: u32) -> Result<(), Cause>
+    ensures { result ≡ worked (kind_of here.now lever) }
 {
     match here.kind(lever) {
-        None => Err(LineFault::Cause(Cause::UnknownLever)),
-        Some(Kind::Spare) => Err(LineFault::Cause(Cause::WrongKind)),
+        None => Err(Cause::UnknownLever),
+        Some(Kind::Spare) => Err(Cause::WrongKind),
         Some(_) => Ok(()),
     }
 }
 
 // The levers of these conditions are so.
 #[tactic(auto, unfolding(crate::specs::BoxLines::all_worked))]
-fn conds_worked(here: &BoxPlan, conds: &[Cond]) -> Result<(), LineFault>
-    ensures gives { GivesLine (λ _. tt) result (all_worked here.now (map (λ cond. cond.lever) conds.now)) }
-    ensures memory { TakesNoMemory result }
+fn conds_worked(here: &BoxPlan, conds: &[Cond]) -> Result<(), Cause>
+    ensures { result ≡ all_worked here.now (map (λ cond. cond.lever) conds.now) }
 {
     for cond in conds {
         worked(here, cond.lever)?;
@@ -561,9 +550,8 @@ fn conds_worked(here: &BoxPlan, conds: &[Cond]) -> Result<(), LineFault>
 
 // The levers of a row are so.
 #[tactic(auto, unfolding(crate::specs::BoxLines::all_worked))]
-fn row_worked(here: &BoxPlan, row: &Row) -> Result<(), LineFault>
-    ensures gives { GivesLine (λ _. tt) result (all_worked here.now (levers_of row.now)) }
-    ensures memory { TakesNoMemory result }
+fn row_worked(here: &BoxPlan, row: &Row) -> Result<(), Cause>
+    ensures { result ≡ all_worked here.now (levers_of row.now) }
 {
     worked(here, row.subject)?;
     worked(here, row.object)?;

@@ -1,6 +1,6 @@
 //! The plan as far as its text is read.
 
-use crate::names::{add_name, label_of};
+use crate::names::{add_label, add_name, label_of};
 use bell_codes::{Code, CodeNo, CodeTable, EMPTY, EXPRESS, LIGHT, ORDINARY};
 use line_plan::{BoxPlan, Class, Items, Label, MOST_PLAN_TRAINS, Plan, TrainPlan};
 use rail_text::{Cause, LineFault, Names, NoMemory};
@@ -9,7 +9,7 @@ use std::marker::Model;
 use std::mem;
 
 /// The kind of the last line.
-#[derive(Clone, Copy, Debug, PartialEq, Eq)]
+#[derive(Clone, Copy)]
 pub enum Stage {
     Start,
     Plan,
@@ -33,6 +33,7 @@ pub enum Stage {
 
 impl Stage {
     ghost use Rattle.plan_draft.specs.Drafts.{in_box, rank};
+    ghost use Rattle.plan_draft.specs.Reading.{has_ended};
 
     /// The kinds of lines in the order in which they stand.
     pub fn rank(self) -> u8
@@ -66,6 +67,13 @@ impl Stage {
     {
         let rank = self.rank();
         6 <= rank && rank <= 15
+    }
+
+    /// Whether the last line was `end`.
+    pub fn is_ended(self) -> bool
+        ensures { result ≡ has_ended self }
+    {
+        self.rank() == 17
     }
 }
 
@@ -118,8 +126,9 @@ impl Model for PlanDraft {
         × (in_box d.stage ≡ true → vec_len d.boxes < vec_capacity d.boxes) };
 }
 
-ghost use Rattle.std.specs.Prelude.{◌≡◌, ◌<◌, ◌≤◌, ◌+◌, ◌++◌, [], ◌∷◌, length, true, IfOk, OnErr, None, vec_len};
-ghost use Rattle.std.specs.Prelude.{vec_capacity};
+ghost use Rattle.std.specs.Prelude.{◌≡◌, ◌<◌, ◌≤◌, ◌+◌, ◌++◌, [], ◌∷◌, length, true, IfOk, OnErr, OnOk, None, vec_len};
+ghost use Rattle.std.specs.Prelude.{vec_capacity, bytes_eq, false, ◌^◌};
+ghost use Rattle.std.specs.List.{list_any};
 ghost use Rattle.bell_codes.specs.Table.{code_number, opening_codes};
 ghost use Rattle.plan_draft.specs.Drafts.{boxes_with, in_box, opening_classes};
 ghost use Rattle.line_plan.specs.Plans.{opening_names};
@@ -137,6 +146,37 @@ fn add_code(codes: &mut CodeTable, code: Code) -> Result<CodeNo, NoMemory>
     }
 }
 
+// A class more, under the next code number. Where memory runs out its code may stand alone.
+fn push_class(
+    alloc: Global,
+    codes: &mut CodeTable,
+    classes: &mut Vec<Class>,
+    names: &mut Names,
+    name: &str,
+    code: Code,
+) -> Result<(), NoMemory>
+    requires code { code_number codes.old code ≡ None }
+    requires room { length codes.old < 200 }
+    requires few { length names.old < 2 ^ 32 }
+    requires name { list_any (bytes_eq name.now) names.old ≡ false }
+    ensures codes { OnOk result (codes.new ≡ codes.old ++ code ∷ []) }
+    ensures classes { OnOk result (classes.new.items
+        ≡ classes.old.items ++ record { name = name.now; code = length codes.old + 1 } ∷ []) }
+    ensures names { OnOk result (names.new ≡ names.old ++ name.now ∷ []) }
+    ensures more { OnErr result (length codes.old ≤ length codes.new) }
+    ensures same { OnErr result (classes.new.items ≡ classes.old.items) }
+    ensures none { OnErr result (names.new ≡ names.old) }
+{
+    classes.reserve(1)?;
+    let number = add_code(codes, code)?;
+    let label = add_label(alloc, names, name)?;
+    classes.push_reserved(Class {
+        name: label,
+        code: number,
+    });
+    Ok(())
+}
+
 // The code table with which every plan begins.
 fn opening_table(alloc: Global) -> Result<CodeTable, NoMemory>
     ensures { IfOk result (λ table. table ≡ opening_codes) }
@@ -147,36 +187,64 @@ fn opening_table(alloc: Global) -> Result<CodeTable, NoMemory>
     }
 }
 
-// One of the first four classes of every plan.
-fn opening_class(alloc: Global, name: &str, code: CodeNo) -> Result<Class, NoMemory>
-    ensures { IfOk result (λ class_plan. class_plan ≡ record { name = name.now; code = code }) }
+// One of the first four classes of every plan, behind those in front of it.
+fn push_opening(
+    alloc: Global,
+    classes: &mut Vec<Class>,
+    name: &str,
+    code: CodeNo,
+) -> Result<(), NoMemory>
+    ensures { OnOk result (classes.new.items ≡ classes.old.items ++ record { name = name.now; code = code } ∷ []) }
 {
-    Ok(Class {
-        name: label_of(alloc, name)?,
-        code,
-    })
+    let name = label_of(alloc, name)?;
+    classes.push(Class { name, code })?;
+    Ok(())
+}
+
+fn push_opening_classes(alloc: Global, classes: &mut Vec<Class>) -> Result<(), NoMemory>
+    requires { classes.old.items ≡ [] }
+    ensures { OnOk result (classes.new.items ≡ opening_classes) }
+{
+    push_opening(alloc, classes, "express", EXPRESS)?;
+    push_opening(alloc, classes, "ordinary", ORDINARY)?;
+    push_opening(alloc, classes, "empty", EMPTY)?;
+    push_opening(alloc, classes, "light", LIGHT)
 }
 
 fn opening_classes(alloc: Global) -> Result<Vec<Class>, NoMemory>
     ensures { IfOk result (λ classes. classes.items ≡ opening_classes) }
 {
     let mut classes = Vec::new(alloc);
-    classes.push(opening_class(alloc, "express", EXPRESS)?)?;
-    classes.push(opening_class(alloc, "ordinary", ORDINARY)?)?;
-    classes.push(opening_class(alloc, "empty", EMPTY)?)?;
-    classes.push(opening_class(alloc, "light", LIGHT)?)?;
-    Ok(classes)
+    match push_opening_classes(alloc, &mut classes) {
+        Ok(()) => Ok(classes),
+        Err(fault) => {
+            drop(classes);
+            Err(fault)
+        }
+    }
+}
+
+fn add_opening_names(names: &mut Names) -> Result<(), NoMemory>
+    requires { names.old ≡ [] }
+    ensures { OnOk result (names.new ≡ opening_names) }
+{
+    add_name(names, "express")?;
+    add_name(names, "ordinary")?;
+    add_name(names, "empty")?;
+    add_name(names, "light")
 }
 
 fn opening_names(alloc: Global) -> Result<Names, NoMemory>
     ensures { IfOk result (λ names. names ≡ opening_names) }
 {
     let mut names = Names::new(alloc);
-    add_name(&mut names, "express")?;
-    add_name(&mut names, "ordinary")?;
-    add_name(&mut names, "empty")?;
-    add_name(&mut names, "light")?;
-    Ok(names)
+    match add_opening_names(&mut names) {
+        Ok(()) => Ok(names),
+        Err(fault) => {
+            drop(names);
+            Err(fault)
+        }
+    }
 }
 
 fn no_label(alloc: Global) -> Label
@@ -269,14 +337,14 @@ impl PlanDraft {
         if self.codes.len() >= CodeTable::MOST {
             return Err(LineFault::Cause(Cause::TooMany));
         }
-        let label = label_of(self.alloc, name)?;
-        self.classes.reserve(1)?;
-        let number = add_code(&mut self.codes, code)?;
-        add_name(&mut self.class_names, name)?;
-        self.classes.push_reserved(Class {
-            name: label,
-            code: number,
-        });
+        push_class(
+            self.alloc,
+            &mut self.codes,
+            &mut self.classes,
+            &mut self.class_names,
+            name,
+            code,
+        )?;
         self.stage = Stage::Class;
         Ok(())
     }
@@ -293,9 +361,8 @@ impl PlanDraft {
         }) }
         ensures same { OnErr result (self.new ≡ self.old) }
     {
-        let label = label_of(self.alloc, name)?;
         self.boxes.reserve(2)?;
-        add_name(&mut self.box_names, name)?;
+        let label = add_label(self.alloc, &mut self.box_names, name)?;
         let here = mem::replace(&mut self.here, BoxPlan::new(self.alloc, label));
         put_away(self.stage, &mut self.boxes, here);
         self.stage = Stage::Box;
@@ -331,9 +398,8 @@ impl PlanDraft {
         if self.trains.len() >= MOST_PLAN_TRAINS {
             return Err(LineFault::Cause(Cause::TooMany));
         }
-        let label = label_of(self.alloc, name)?;
         self.trains.reserve(1)?;
-        add_name(&mut self.train_names, name)?;
+        let label = add_label(self.alloc, &mut self.train_names, name)?;
         self.trains.push_reserved(TrainPlan {
             name: label,
             class_no,

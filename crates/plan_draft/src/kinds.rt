@@ -14,9 +14,9 @@ use crate::box_lines::{
     signal_line, starter_line, track_line,
 };
 use crate::draft::{PlanDraft, Stage};
-use crate::line_words::{code_in, counted, new_name, number_in_names, word};
+use crate::line_words::{code_in, counted, new_name, number_in_names, number_of, word};
 use line_plan::{BoxPlan, MOST_LOOKS, most_boxes, most_delay};
-use rail_text::{Cause, LineFault, LineWords, number_in};
+use rail_text::{Cause, LineFault, LineWords};
 use std::alloc::Global;
 
 // `plan V`: the version, 1 or 2.
@@ -27,7 +27,7 @@ fn plan_line(draft: &mut PlanDraft, words: &LineWords<'_>) -> Result<(), LineFau
     ensures memory { TakesNoMemory result }
 {
     counted(words, 2, 2)?;
-    let version = number_in(word(words, 1), 1, 2)?;
+    let version = number_of(word(words, 1), 1, 2)?;
     draft.version = version as u8;
     draft.stage = Stage::Plan;
     Ok(())
@@ -41,7 +41,7 @@ fn boxes_line(draft: &mut PlanDraft, words: &LineWords<'_>) -> Result<(), LineFa
     ensures memory { TakesNoMemory result }
 {
     counted(words, 2, 2)?;
-    draft.count = number_in(word(words, 1), 2, most_boxes(draft.version))?;
+    draft.count = number_of(word(words, 1), 2, most_boxes(draft.version))?;
     draft.stage = Stage::Boxes;
     Ok(())
 }
@@ -54,7 +54,7 @@ fn delay_line(draft: &mut PlanDraft, words: &LineWords<'_>) -> Result<(), LineFa
     ensures memory { TakesNoMemory result }
 {
     counted(words, 2, 2)?;
-    draft.delay = number_in(word(words, 1), 0, most_delay(draft.version))?;
+    draft.delay = number_of(word(words, 1), 0, most_delay(draft.version))?;
     draft.stage = Stage::Delay;
     Ok(())
 }
@@ -67,7 +67,7 @@ fn looks_line(draft: &mut PlanDraft, words: &LineWords<'_>) -> Result<(), LineFa
     ensures memory { TakesNoMemory result }
 {
     counted(words, 2, 2)?;
-    draft.looks = number_in(word(words, 1), 1, MOST_LOOKS)?;
+    draft.looks = number_of(word(words, 1), 1, MOST_LOOKS)?;
     draft.stage = Stage::Looks;
     Ok(())
 }
@@ -103,26 +103,24 @@ fn box_line(draft: &mut PlanDraft, words: &LineWords<'_>) -> Result<(), LineFaul
 
 // A place where a train may be brought: no berth.
 #[tactic(auto, unfolding(crate::specs::Reading::brought_in))]
-fn brought_in(at: &BoxPlan, word: &[u8]) -> Result<u32, LineFault>
-    ensures gives { GivesLine (λ place. place) result (brought_in at.now word.now) }
-    ensures memory { TakesNoMemory result }
+fn brought_in(at: &BoxPlan, word: &[u8]) -> Result<u32, Cause>
+    ensures { result ≡ brought_in at.now word.now }
 {
     let place = number_in_names(&at.places, word)?;
     if is_berth(at, place) {
-        return Err(LineFault::Cause(Cause::BerthEntered));
+        return Err(Cause::BerthEntered);
     }
     Ok(place)
 }
 
 // A place of the box with this number where a train may be brought.
 #[tactic(auto, using(crate::proofs::Brought::brought_rules))]
-fn brought_at(boxes: &[BoxPlan], box_no: u32, word: &[u8]) -> Result<u32, LineFault>
-    ensures gives { GivesLine (λ place. place) result (brought_in (box_at boxes.now box_no) word.now) }
-    ensures memory { TakesNoMemory result }
+fn brought_at(boxes: &[BoxPlan], box_no: u32, word: &[u8]) -> Result<u32, Cause>
+    ensures { result ≡ brought_in (box_at boxes.now box_no) word.now }
 {
     match boxes.get(box_no as usize) {
         Some(at) => brought_in(at, word),
-        None => Err(LineFault::Cause(Cause::UnknownName)),
+        None => Err(Cause::UnknownName),
     }
 }
 

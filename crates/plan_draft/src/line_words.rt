@@ -2,7 +2,8 @@
 
 ghost use Rattle.std.specs.Prelude.{◌≡◌, ◌≤◌, ◌+◌, [], IfOk, OnOk, bytes_eq, drop, false, length};
 ghost use Rattle.std.specs.List.{list_any};
-ghost use Rattle.rail_text.specs.Gives.{GivesLine, TakesNoMemory};
+ghost use Rattle.rail_text.specs.Gives.{GivesCause, GivesLine, TakesNoMemory};
+ghost use Rattle.rail_text.specs.Words.{number_in};
 ghost use Rattle.plan_draft.specs.LineWords.{code_in, counted, end_in, kind_in, lever_in, new_name, number_in_names};
 ghost use Rattle.plan_draft.specs.LineWords.{places_onto, way_in, word, working_in};
 
@@ -11,20 +12,30 @@ use bell_codes::{Code, read_code};
 use block_words::Way;
 use line_plan::{BoxPlan, Items, Kind, Lever, To};
 use locking_table::MOST_LEVERS;
-use rail_text::{Cause, LineFault, LineWords, Names, NoMemory, is_name, name_in, number_in};
+use rail_text::{Cause, LineFault, LineWords, Names, NoMemory, is_name, name_in, read_number};
 use std::alloc::Global;
 
 /// The line has so many words, its first among them.
-pub fn counted(words: &LineWords<'_>, low: usize, high: usize) -> Result<(), LineFault>
-    ensures gives { GivesLine (λ _. tt) result (counted low high words.now) }
+pub fn counted(words: &LineWords<'_>, low: usize, high: usize) -> Result<(), Cause>
+    ensures exact { result ≡ counted low high words.now }
     ensures few { OnOk result (length words.now ≤ high) }
-    ensures memory { TakesNoMemory result }
 {
     let count = words.word_count();
     if low <= count && count <= high {
         Ok(())
     } else {
-        Err(LineFault::Cause(Cause::WordCount))
+        Err(Cause::WordCount)
+    }
+}
+
+/// A number from `low` to `high`.
+pub fn number_of(word: &[u8], low: u32, high: u32) -> Result<u32, Cause>
+    ensures { result ≡ number_in low high word.now }
+{
+    match read_number(word) {
+        None => Err(Cause::BadNumber),
+        Some(n) if u64::from(low) <= n && n <= u64::from(high) => Ok(n as u32),
+        Some(_) => Err(Cause::OutOfRange),
     }
 }
 
@@ -54,30 +65,24 @@ pub fn new_name<'a>(names: &Names, word: &'a [u8]) -> Result<&'a str, LineFault>
 
 /// The number of a name among these.
 #[tactic(auto, unfolding(crate::specs::LineWords::number_in_names))]
-pub fn number_in_names(names: &Names, word: &[u8]) -> Result<u32, LineFault>
-    ensures gives { GivesLine (λ number. number) result (number_in_names names.now word.now) }
-    ensures memory { TakesNoMemory result }
+pub fn number_in_names(names: &Names, word: &[u8]) -> Result<u32, Cause>
+    ensures { result ≡ number_in_names names.now word.now }
 {
     if !is_name(word) {
-        return Err(LineFault::Cause(Cause::UnknownName));
+        return Err(Cause::UnknownName);
     }
-    let name = name_in(word)?;
-    match names.number_of(name) {
-        Some(number) => Ok(number),
-        None => Err(LineFault::Cause(Cause::UnknownName)),
-    }
+    names.number_of_word(word).ok_or(Cause::UnknownName)
 }
 
 /// The places that the words of a line name, from the word with this number on. They are eight at most.
-#[tactic(auto, using(crate::proofs::PlaceWords::place_rules), unfolding(crate::specs::LineWords::places_onto))]
+#[tactic(auto, unfolding(crate::specs::LineWords::places_onto))]
 pub fn places_from(
     names: &Names,
     words: &LineWords<'_>,
     first: usize,
-) -> Result<ArrayVec<u32, 8>, LineFault>
+) -> Result<ArrayVec<u32, 8>, Cause>
     requires { length words.now ≤ first + 8 }
-    ensures gives { GivesLine (λ places. places.items) result (places_onto names.now [] (drop first words.now)) }
-    ensures memory { TakesNoMemory result }
+    ensures { GivesCause (λ places. places.items) result (places_onto names.now [] (drop first words.now)) }
 {
     let mut places = ArrayVec::new();
     for i in first..words.word_count() {
@@ -96,24 +101,22 @@ pub fn kept(alloc: Global, places: &[u32]) -> Result<Items<u32>, NoMemory>
 
 /// `up` or `down`.
 #[tactic(auto, unfolding(crate::specs::LineWords::way_in))]
-pub fn way_in(word: &[u8]) -> Result<Way, LineFault>
-    ensures gives { GivesLine (λ way. way) result (way_in word.now) }
-    ensures memory { TakesNoMemory result }
+pub fn way_in(word: &[u8]) -> Result<Way, Cause>
+    ensures { result ≡ way_in word.now }
 {
     if word == b"up".as_slice() {
         Ok(Way::Up)
     } else if word == b"down".as_slice() {
         Ok(Way::Down)
     } else {
-        Err(LineFault::Cause(Cause::UnknownWord))
+        Err(Cause::UnknownWord)
     }
 }
 
 /// The kind of a lever.
 #[tactic(auto, unfolding(crate::specs::LineWords::kind_in))]
-pub fn kind_in(word: &[u8]) -> Result<Kind, LineFault>
-    ensures gives { GivesLine (λ kind. kind) result (kind_in word.now) }
-    ensures memory { TakesNoMemory result }
+pub fn kind_in(word: &[u8]) -> Result<Kind, Cause>
+    ensures { result ≡ kind_in word.now }
 {
     if word == b"signal".as_slice() {
         Ok(Kind::Signal)
@@ -126,7 +129,7 @@ pub fn kind_in(word: &[u8]) -> Result<Kind, LineFault>
     } else if word == b"spare".as_slice() {
         Ok(Kind::Spare)
     } else {
-        Err(LineFault::Cause(Cause::UnknownWord))
+        Err(Cause::UnknownWord)
     }
 }
 
@@ -143,9 +146,8 @@ pub fn code_in(word: &[u8]) -> Result<Code, LineFault>
 
 /// Where a signal leads: off the line, or to a place.
 #[tactic(auto, unfolding(crate::specs::LineWords::end_in))]
-pub fn end_in(places: &Names, word: &[u8]) -> Result<To, LineFault>
-    ensures gives { GivesLine (λ to. to) result (end_in places.now word.now) }
-    ensures memory { TakesNoMemory result }
+pub fn end_in(places: &Names, word: &[u8]) -> Result<To, Cause>
+    ensures { result ≡ end_in places.now word.now }
 {
     if word == b"away".as_slice() {
         return Ok(To::Away);
@@ -156,26 +158,24 @@ pub fn end_in(places: &Names, word: &[u8]) -> Result<To, LineFault>
 
 /// A lever of the box.
 #[tactic(auto, unfolding(crate::specs::LineWords::lever_in))]
-pub fn lever_in(here: &BoxPlan, word: &[u8]) -> Result<Lever, LineFault>
-    ensures gives { GivesLine (λ lever. lever) result (lever_in here.now word.now) }
-    ensures memory { TakesNoMemory result }
+pub fn lever_in(here: &BoxPlan, word: &[u8]) -> Result<Lever, Cause>
+    ensures { result ≡ lever_in here.now word.now }
 {
-    let number = number_in(word, 1, MOST_LEVERS)?;
+    let number = number_of(word, 1, MOST_LEVERS)?;
     match here.lever(number) {
         Some(lever) => Ok(*lever),
-        None => Err(LineFault::Cause(Cause::UnknownLever)),
+        None => Err(Cause::UnknownLever),
     }
 }
 
 /// A lever of the box that is no spare one.
 #[tactic(auto, unfolding(crate::specs::LineWords::working_in))]
-pub fn working_in(here: &BoxPlan, word: &[u8]) -> Result<u32, LineFault>
-    ensures gives { GivesLine (λ number. number) result (working_in here.now word.now) }
-    ensures memory { TakesNoMemory result }
+pub fn working_in(here: &BoxPlan, word: &[u8]) -> Result<u32, Cause>
+    ensures { result ≡ working_in here.now word.now }
 {
     let lever = lever_in(here, word)?;
     if lever.kind == Kind::Spare {
-        return Err(LineFault::Cause(Cause::WrongKind));
+        return Err(Cause::WrongKind);
     }
     Ok(lever.number)
 }

@@ -1,6 +1,7 @@
 //! The lines of a plan's text, read one by one.
 
-ghost use Rattle.std.specs.Prelude.{◌≡◌};
+ghost use Rattle.std.specs.Prelude.{◌≡◌, map};
+ghost use Rattle.plan_draft.specs.Keywords.{row_named};
 ghost use Rattle.plan_draft.specs.Reading.{between, line_kind, may_follow};
 
 use crate::draft::{PlanDraft, Stage};
@@ -8,48 +9,43 @@ use crate::kinds::kind_line;
 use crate::line_words::word;
 use rail_text::{Cause, Draft, LineFault, LineWords};
 
+// The kind of line in the first of these rows with this word.
+fn row_named(rows: &[(&'static str, Stage)], word: &[u8]) -> Option<Stage>
+    ensures { result ≡ row_named (map (λ row. (row.0.now, row.1)) rows.now) word.now }
+{
+    for row in rows {
+        if word == row.0.as_bytes() {
+            return Some(row.1);
+        }
+    }
+    None
+}
+
 // The kind of line that a keyword begins.
 #[tactic(auto, unfolding(crate::specs::Reading::line_kind))]
 fn line_kind(word: &[u8]) -> Option<Stage>
     ensures { result ≡ line_kind word.now }
 {
-    if word == b"plan".as_slice() {
-        Some(Stage::Plan)
-    } else if word == b"boxes".as_slice() {
-        Some(Stage::Boxes)
-    } else if word == b"delay".as_slice() {
-        Some(Stage::Delay)
-    } else if word == b"looks".as_slice() {
-        Some(Stage::Looks)
-    } else if word == b"class".as_slice() {
-        Some(Stage::Class)
-    } else if word == b"box".as_slice() {
-        Some(Stage::Box)
-    } else if word == b"place".as_slice() {
-        Some(Stage::Place)
-    } else if word == b"lever".as_slice() {
-        Some(Stage::Lever)
-    } else if word == b"signal".as_slice() {
-        Some(Stage::Signal)
-    } else if word == b"starter".as_slice() {
-        Some(Stage::Starter)
-    } else if word == b"berth".as_slice() {
-        Some(Stage::Berth)
-    } else if word == b"clear".as_slice() {
-        Some(Stage::Clear)
-    } else if word == b"permissive".as_slice() {
-        Some(Stage::Permissive)
-    } else if word == b"track".as_slice() {
-        Some(Stage::Track)
-    } else if word == b"row".as_slice() {
-        Some(Stage::Row)
-    } else if word == b"train".as_slice() {
-        Some(Stage::Train)
-    } else if word == b"end".as_slice() {
-        Some(Stage::Ended)
-    } else {
-        None
-    }
+    let rows = [
+        ("plan", Stage::Plan),
+        ("boxes", Stage::Boxes),
+        ("delay", Stage::Delay),
+        ("looks", Stage::Looks),
+        ("class", Stage::Class),
+        ("box", Stage::Box),
+        ("place", Stage::Place),
+        ("lever", Stage::Lever),
+        ("signal", Stage::Signal),
+        ("starter", Stage::Starter),
+        ("berth", Stage::Berth),
+        ("clear", Stage::Clear),
+        ("permissive", Stage::Permissive),
+        ("track", Stage::Track),
+        ("row", Stage::Row),
+        ("train", Stage::Train),
+        ("end", Stage::Ended),
+    ];
+    row_named(&rows, word)
 }
 
 // The last line is of one of the kinds from low to high.
@@ -97,7 +93,7 @@ impl PlanDraft {
         ensures gives { GivesLine (λ _. self.new) result (words_onto self.old words.now) }
         ensures memory { FaultsFirst result (words_onto self.old words.now) }
     {
-        if self.stage == Stage::Ended {
+        if self.stage.is_ended() {
             return Err(LineFault::Cause(Cause::AfterEnd));
         }
         match line_kind(word(words, 0)) {
@@ -121,6 +117,6 @@ impl Draft for PlanDraft {
     }
 
     fn has_ended(&self) -> bool {
-        self.stage == Stage::Ended
+        self.stage.is_ended()
     }
 }
