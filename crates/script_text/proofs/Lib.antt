@@ -1,3 +1,4 @@
+mod ActRows
 pub mod Named
 pub mod CodeTexts
 pub mod LeverTexts

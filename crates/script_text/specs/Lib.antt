@@ -2,11 +2,14 @@ pub mod Limits
 pub mod Moments
 pub mod Names
 pub mod Acts
+pub mod ActWords
 pub mod Calls
 pub mod Replies
+pub mod FirstWords
 pub mod Entries
 pub mod Rows
 pub mod Answers
+pub mod Pairs
 pub mod Memory
 pub mod Drafts
 pub mod Scripts

@@ -1,13 +1,14 @@
 //! What the words behind a moment say that a signalman does.
 
-ghost use Rattle.std.specs.Prelude.{◌≡◌, ◌<◌, length};
+ghost use Rattle.std.specs.Prelude.{◌≡◌, ◌<◌, length, map};
 ghost use Rattle.rail_text.specs.Words.{number_in};
 ghost use Rattle.locking_table.specs.Places.{most_levers};
 ghost use Rattle.rail_text.specs.Gives.{GivesCause};
 ghost use Rattle.script_text.specs.Acts.{fixed, side_in, code_in, with_berth, lever_in, arm_in, train_in, two_words};
 ghost use Rattle.script_text.specs.Acts.{third_word, side_and_code, way_and_position, berth_and_position};
 ghost use Rattle.script_text.specs.Acts.{outgoing_and_position, one_side, one_berth, one_lever, one_arm, one_train};
-ghost use Rattle.script_text.specs.Acts.{line_act, lever_act, bell_act, act_of};
+ghost use Rattle.script_text.specs.Acts.{bell_act, act_of};
+ghost use Rattle.script_text.specs.ActWords.{act_rows, way_act, word_named, worded_act};
 ghost use Rattle.script_text.specs.Names.{way_named, position_named};
 
 use crate::names::{position_named, train_named, way_named};
@@ -125,9 +126,15 @@ fn train_in(plan: &Plan, box_no: u32, word: &[u8]) -> Result<u32, Cause>
 fn two_words<'a>(words: &LineWords<'a>) -> Result<(&'a [u8], &'a [u8]), Cause>
     ensures { GivesCause (λ both. (both.0.now, both.1.now)) result (two_words words.now) }
 {
-    match (words.word(2), words.word(3), words.word(4)) {
-        (Some(first), Some(second), None) => Ok((first, second)),
-        _ => Err(Cause::WordCount),
+    let Some(first) = words.word(2) else {
+        return Err(Cause::WordCount);
+    };
+    let Some(second) = words.word(3) else {
+        return Err(Cause::WordCount);
+    };
+    match words.word(4) {
+        None => Ok((first, second)),
+        Some(_) => Err(Cause::WordCount),
     }
 }
 
@@ -135,9 +142,12 @@ fn two_words<'a>(words: &LineWords<'a>) -> Result<(&'a [u8], &'a [u8]), Cause>
 fn third_word<'a>(words: &LineWords<'a>) -> Result<&'a [u8], Cause>
     ensures { GivesCause (λ word. word.now) result (third_word words.now) }
 {
-    match (words.word(2), words.word(3)) {
-        (Some(only), None) => Ok(only),
-        _ => Err(Cause::WordCount),
+    let Some(only) = words.word(2) else {
+        return Err(Cause::WordCount);
+    };
+    match words.word(3) {
+        None => Ok(only),
+        Some(_) => Err(Cause::WordCount),
     }
 }
 
@@ -240,83 +250,144 @@ fn one_train(plan: &Plan, box_no: u32, words: &LineWords<'_>) -> Result<u32, Cau
 }
 
 // The calls of an incoming line.
-#[tactic(auto, unfolding(crate::specs::Acts::line_act))]
-fn line_act(plan: &Plan, box_no: u32, words: &LineWords<'_>, word: &[u8]) -> Result<Act, Cause>
-    requires { box_no < length plan.now.boxes }
-    ensures { result ≡ line_act plan.now box_no words.now word.now }
+#[derive(Clone, Copy)]
+enum LineWord {
+    AwaitTrain,
+    Berth,
+    BerthPart,
+    ClearPortion,
+    Wind,
+    Release,
+}
+
+// The calls, by the word of each.
+#[derive(Clone, Copy)]
+enum ActWord {
+    Ring,
+    Hear,
+    AwaitBell,
+    Turn,
+    AwaitBlock,
+    Pull,
+    Put,
+    Pass,
+    Overrun,
+    Bring,
+    Line(LineWord),
+}
+
+// The call in the first of these rows with this word.
+fn word_named(rows: &[(&'static str, ActWord)], word: &[u8]) -> Option<ActWord>
+    ensures { result ≡ word_named (map (λ row. (row.0.now, row.1)) rows.now) word.now }
 {
-    if word == b"await_train".as_slice() {
-        let way = one_berth(plan, box_no, words)?;
-        Ok(Act::AwaitTrain { way })
-    } else if word == b"berth".as_slice() {
-        let way = one_berth(plan, box_no, words)?;
-        Ok(Act::Berth { way })
-    } else if word == b"berth_part".as_slice() {
-        let way = one_berth(plan, box_no, words)?;
-        Ok(Act::BerthPart { way })
-    } else if word == b"clear_portion".as_slice() {
-        let way = one_berth(plan, box_no, words)?;
-        Ok(Act::ClearPortion { way })
-    } else if word == b"wind".as_slice() {
-        let way = one_berth(plan, box_no, words)?;
-        Ok(Act::Wind { way })
-    } else if word == b"release".as_slice() {
-        let way = one_berth(plan, box_no, words)?;
-        Ok(Act::Release { way })
-    } else {
-        Err(Cause::UnknownWord)
+    for row in rows {
+        if word == row.0.as_bytes() {
+            return Some(row.1);
+        }
+    }
+    None
+}
+
+// The call of this word.
+fn act_word(word: &[u8]) -> Option<ActWord>
+    ensures { result ≡ word_named act_rows word.now }
+{
+    let rows = [
+        ("ring", ActWord::Ring),
+        ("hear", ActWord::Hear),
+        ("await_bell", ActWord::AwaitBell),
+        ("turn", ActWord::Turn),
+        ("await_block", ActWord::AwaitBlock),
+        ("pull", ActWord::Pull),
+        ("put", ActWord::Put),
+        ("pass", ActWord::Pass),
+        ("overrun", ActWord::Overrun),
+        ("bring", ActWord::Bring),
+        ("await_train", ActWord::Line(LineWord::AwaitTrain)),
+        ("berth", ActWord::Line(LineWord::Berth)),
+        ("berth_part", ActWord::Line(LineWord::BerthPart)),
+        ("clear_portion", ActWord::Line(LineWord::ClearPortion)),
+        ("wind", ActWord::Line(LineWord::Wind)),
+        ("release", ActWord::Line(LineWord::Release)),
+    ];
+    word_named(&rows, word)
+}
+
+// A call of an incoming line.
+fn line_act(word: LineWord, way: Way) -> Act
+    ensures { result ≡ way_act word way }
+{
+    match word {
+        LineWord::AwaitTrain => Act::AwaitTrain { way },
+        LineWord::Berth => Act::Berth { way },
+        LineWord::BerthPart => Act::BerthPart { way },
+        LineWord::ClearPortion => Act::ClearPortion { way },
+        LineWord::Wind => Act::Wind { way },
+        LineWord::Release => Act::Release { way },
     }
 }
 
-// The calls of a lever or a train, and then those of an incoming line.
-#[tactic(auto, unfolding(crate::specs::Acts::lever_act))]
-fn lever_act(plan: &Plan, box_no: u32, words: &LineWords<'_>, word: &[u8]) -> Result<Act, Cause>
+// What a line with such a call says behind its word.
+fn worded_act(plan: &Plan, box_no: u32, words: &LineWords<'_>, word: ActWord) -> Result<Act, Cause>
     requires { box_no < length plan.now.boxes }
-    ensures { result ≡ lever_act plan.now box_no words.now word.now }
+    ensures { result ≡ worded_act plan.now box_no words.now word }
 {
-    if word == b"pull".as_slice() {
-        let lever = one_lever(plan, box_no, words)?;
-        Ok(Act::Pull { lever })
-    } else if word == b"put".as_slice() {
-        let lever = one_lever(plan, box_no, words)?;
-        Ok(Act::Put { lever })
-    } else if word == b"pass".as_slice() {
-        let lever = one_arm(plan, box_no, words)?;
-        Ok(Act::Pass { lever })
-    } else if word == b"overrun".as_slice() {
-        let lever = one_arm(plan, box_no, words)?;
-        Ok(Act::Overrun { lever })
-    } else if word == b"bring".as_slice() {
-        let train = one_train(plan, box_no, words)?;
-        Ok(Act::Bring { train })
-    } else {
-        line_act(plan, box_no, words, word)
+    match word {
+        ActWord::Ring => {
+            let (side, code) = side_and_code(plan, box_no, words)?;
+            Ok(Act::Ring { side, code })
+        }
+        ActWord::Hear => {
+            let side = one_side(plan, box_no, words)?;
+            Ok(Act::Hear { side })
+        }
+        ActWord::AwaitBell => {
+            let (side, code) = side_and_code(plan, box_no, words)?;
+            Ok(Act::AwaitBell { side, code })
+        }
+        ActWord::Turn => {
+            let (way, position) = berth_and_position(plan, box_no, words)?;
+            Ok(Act::Turn { way, position })
+        }
+        ActWord::AwaitBlock => {
+            let (way, position) = outgoing_and_position(plan, box_no, words)?;
+            Ok(Act::AwaitBlock { way, position })
+        }
+        ActWord::Pull => {
+            let lever = one_lever(plan, box_no, words)?;
+            Ok(Act::Pull { lever })
+        }
+        ActWord::Put => {
+            let lever = one_lever(plan, box_no, words)?;
+            Ok(Act::Put { lever })
+        }
+        ActWord::Pass => {
+            let lever = one_arm(plan, box_no, words)?;
+            Ok(Act::Pass { lever })
+        }
+        ActWord::Overrun => {
+            let lever = one_arm(plan, box_no, words)?;
+            Ok(Act::Overrun { lever })
+        }
+        ActWord::Bring => {
+            let train = one_train(plan, box_no, words)?;
+            Ok(Act::Bring { train })
+        }
+        ActWord::Line(line) => {
+            let way = one_berth(plan, box_no, words)?;
+            Ok(line_act(line, way))
+        }
     }
 }
 
-// The calls of a bell or an instrument, and then the others.
-#[tactic(auto, unfolding(crate::specs::Acts::bell_act))]
-fn bell_act(plan: &Plan, box_no: u32, words: &LineWords<'_>, word: &[u8]) -> Result<Act, Cause>
+// What the words of a line say behind the call's word.
+fn named_act(plan: &Plan, box_no: u32, words: &LineWords<'_>, word: &[u8]) -> Result<Act, Cause>
     requires { box_no < length plan.now.boxes }
     ensures { result ≡ bell_act plan.now box_no words.now word.now }
 {
-    if word == b"ring".as_slice() {
-        let (side, code) = side_and_code(plan, box_no, words)?;
-        Ok(Act::Ring { side, code })
-    } else if word == b"hear".as_slice() {
-        let side = one_side(plan, box_no, words)?;
-        Ok(Act::Hear { side })
-    } else if word == b"await_bell".as_slice() {
-        let (side, code) = side_and_code(plan, box_no, words)?;
-        Ok(Act::AwaitBell { side, code })
-    } else if word == b"turn".as_slice() {
-        let (way, position) = berth_and_position(plan, box_no, words)?;
-        Ok(Act::Turn { way, position })
-    } else if word == b"await_block".as_slice() {
-        let (way, position) = outgoing_and_position(plan, box_no, words)?;
-        Ok(Act::AwaitBlock { way, position })
-    } else {
-        lever_act(plan, box_no, words, word)
+    match act_word(word) {
+        Some(name) => worded_act(plan, box_no, words, name),
+        None => Err(Cause::UnknownWord),
     }
 }
 
@@ -327,7 +398,7 @@ pub fn read_act(plan: &Plan, box_no: u32, words: &LineWords<'_>) -> Result<Act, 
     ensures { result ≡ act_of plan.now box_no words.now }
 {
     match words.word(1) {
-        Some(word) => bell_act(plan, box_no, words, word),
+        Some(word) => named_act(plan, box_no, words, word),
         None => Err(Cause::UnknownWord),
     }
 }

@@ -1,13 +1,16 @@
 //! The reply that a text spells for a call.
 
-ghost use Rattle.std.specs.Prelude.{◌≡◌, ◌↔◌, ◌<◌, IfOk, IsErr, IfErr, length};
+ghost use Rattle.std.specs.Prelude.{◌≡◌, ◌↔◌, ◌<◌, IfOk, IsErr, IfErr, length, map};
+ghost use Rattle.std.specs.Option.{option_map};
 ghost use Rattle.line_law.specs.declared.call.Reply.{Reply};
+ghost use Rattle.line_law.specs.declared.call.Reply.TheVariants as replies;
 ghost use Rattle.line_plan.specs.Plans.{IsPlan};
 ghost use Rattle.script_text.specs.Answers.{small_number, state_named, spent_named, lone_reply, count_reply};
 ghost use Rattle.script_text.specs.Answers.{pair_reply, code_reply, stand_reply, train_reply, tells_a_train};
 ghost use Rattle.script_text.specs.Answers.{bell_shown, shown_reply, triple_reply, lever_reply, instrument_reply};
-ghost use Rattle.script_text.specs.Answers.{shaped_reply, reply_in, reply_of};
+ghost use Rattle.script_text.specs.Answers.{shaped_reply, reply_in, reply_of, row_named};
 ghost use Rattle.script_text.specs.Names.{position_named};
+ghost use Rattle.script_text.specs.Pairs.{lever_pair, moment_pair};
 ghost use Rattle.script_text.specs.Spelled.{SpellsReply};
 
 use crate::moments::read_ready;
@@ -15,7 +18,7 @@ use crate::names::{code_named, place_named, position_named, train_named, way_nam
 use crate::rows::may_answer;
 use crate::spelled::is_spelled_reply;
 use bell_codes::CodeNo;
-use block_words::WelwynState;
+use block_words::{Position, WelwynState};
 use line_law::{Act, Call, Reply};
 use line_plan::Plan;
 use rail_text::{Cause, KeptEnds, LineWords, read_number};
@@ -58,48 +61,43 @@ fn spent_named(word: &[u8]) -> Option<bool>
     }
 }
 
+// The reply of the first of these rows with this word.
+fn row_named(rows: &[(&'static str, Reply)], word: &[u8]) -> Option<Reply>
+    ensures { result ≡ row_named (map (λ row. (row.0.now, row.1)) rows.now) word.now }
+{
+    for row in rows {
+        if word == row.0.as_bytes() {
+            return Some(row.1);
+        }
+    }
+    None
+}
+
 // The replies of one word.
 #[tactic(auto, unfolding(crate::specs::Answers::lone_reply))]
 fn lone_reply(word: &[u8]) -> Option<Reply>
     ensures { result ≡ lone_reply word.now }
 {
-    if word == b"already_there".as_slice() {
-        Some(Reply::AlreadyThere)
-    } else if word == b"not_from_normal".as_slice() {
-        Some(Reply::NotFromNormal)
-    } else if word == b"pulled".as_slice() {
-        Some(Reply::Pulled)
-    } else if word == b"already_reversed".as_slice() {
-        Some(Reply::AlreadyReversed)
-    } else if word == b"spare".as_slice() {
-        Some(Reply::Spare)
-    } else if word == b"put".as_slice() {
-        Some(Reply::Put)
-    } else if word == b"already_normal".as_slice() {
-        Some(Reply::AlreadyNormal)
-    } else if word == b"brought".as_slice() {
-        Some(Reply::Brought)
-    } else if word == b"already_brought".as_slice() {
-        Some(Reply::AlreadyBrought)
-    } else if word == b"no_train".as_slice() {
-        Some(Reply::NoTrain)
-    } else if word == b"at_danger".as_slice() {
-        Some(Reply::AtDanger)
-    } else if word == b"arm_off".as_slice() {
-        Some(Reply::ArmOff)
-    } else if word == b"no_portion".as_slice() {
-        Some(Reply::NoPortion)
-    } else if word == b"already_winding".as_slice() {
-        Some(Reply::AlreadyWinding)
-    } else if word == b"not_at_normal".as_slice() {
-        Some(Reply::NotAtNormal)
-    } else if word == b"released".as_slice() {
-        Some(Reply::Released)
-    } else if word == b"not_winding".as_slice() {
-        Some(Reply::NotWinding)
-    } else {
-        None
-    }
+    let rows = [
+        ("already_there", Reply::AlreadyThere),
+        ("not_from_normal", Reply::NotFromNormal),
+        ("pulled", Reply::Pulled),
+        ("already_reversed", Reply::AlreadyReversed),
+        ("spare", Reply::Spare),
+        ("put", Reply::Put),
+        ("already_normal", Reply::AlreadyNormal),
+        ("brought", Reply::Brought),
+        ("already_brought", Reply::AlreadyBrought),
+        ("no_train", Reply::NoTrain),
+        ("at_danger", Reply::AtDanger),
+        ("arm_off", Reply::ArmOff),
+        ("no_portion", Reply::NoPortion),
+        ("already_winding", Reply::AlreadyWinding),
+        ("not_at_normal", Reply::NotAtNormal),
+        ("released", Reply::Released),
+        ("not_winding", Reply::NotWinding),
+    ];
+    row_named(&rows, word)
 }
 
 // The replies of a word and a number.
@@ -107,29 +105,56 @@ fn lone_reply(word: &[u8]) -> Option<Reply>
 fn count_reply(word: &[u8], number: u64) -> Option<Reply>
     ensures { result ≡ count_reply word.now number }
 {
-    if word == b"rung".as_slice() {
-        Some(Reply::Rung { k: number })
-    } else if word == b"silent".as_slice() {
-        Some(Reply::Silent { k: number })
-    } else if word == b"turned".as_slice() {
-        Some(Reply::Turned { v: number })
-    } else if word == b"seen".as_slice() {
-        Some(Reply::Seen { v: number })
-    } else if word == b"pulled_under".as_slice() {
-        Some(Reply::PulledUnder { v: number })
-    } else if word == b"section_full".as_slice() {
-        Some(Reply::SectionFull { k: number })
-    } else if word == b"not_yet".as_slice() {
-        Some(Reply::TrainNotYet { j: number })
-    } else if word == b"no_train".as_slice() {
-        Some(Reply::NoTrainAt { j: number })
+    let rows = [
+        ("rung", Reply::Rung { k: number }),
+        ("silent", Reply::Silent { k: number }),
+        ("turned", Reply::Turned { v: number }),
+        ("seen", Reply::Seen { v: number }),
+        ("pulled_under", Reply::PulledUnder { v: number }),
+        ("section_full", Reply::SectionFull { k: number }),
+        ("not_yet", Reply::TrainNotYet { j: number }),
+        ("no_train", Reply::NoTrainAt { j: number }),
+    ];
+    row_named(&rows, word)
+}
+
+// The replies of a word and a moment, and then those of a word and a number.
+#[tactic(auto, unfolding(crate::specs::Pairs::moment_pair))]
+fn moment_pair(plan: &Plan, word: &[u8], other: &[u8]) -> Option<Reply>
+    ensures { result ≡ moment_pair plan.now word.now other.now }
+{
+    if word == b"winding".as_slice() {
+        let ready_at = read_ready(plan.version, other)?;
+        Some(Reply::Winding { ready_at })
+    } else if word == b"too_soon".as_slice() {
+        let ready_at = read_ready(plan.version, other)?;
+        Some(Reply::TooSoon { ready_at })
     } else {
-        None
+        count_reply(word, read_number(other)?)
     }
 }
 
-// The replies of two words.
-#[tactic(auto, unfolding(crate::specs::Answers::pair_reply))]
+// The replies of a word and a lever, a number of 32 bits or a state, and then those of a moment.
+#[tactic(auto, unfolding(crate::specs::Pairs::lever_pair))]
+fn lever_pair(plan: &Plan, word: &[u8], other: &[u8]) -> Option<Reply>
+    ensures { result ≡ lever_pair plan.now word.now other.now }
+{
+    if word == b"home_reversed".as_slice() {
+        let lever = small_number(other)?;
+        Some(Reply::HomeReversed { lever })
+    } else if word == b"count_full".as_slice() {
+        let out = small_number(other)?;
+        Some(Reply::CountFull { out })
+    } else if word == b"welwyn_holds".as_slice() {
+        let state = state_named(other)?;
+        Some(Reply::WelwynHolds { state })
+    } else {
+        moment_pair(plan, word, other)
+    }
+}
+
+// The replies of two words: of a word and a train, and then the others.
+#[tactic(auto, unfolding(crate::specs::Answers::pair_reply, crate::specs::Pairs::lever_pair, crate::specs::Pairs::moment_pair))]
 fn pair_reply(plan: &Plan, word: &[u8], other: &[u8]) -> Option<Reply>
     ensures { result ≡ pair_reply plan.now word.now other.now }
 {
@@ -142,23 +167,8 @@ fn pair_reply(plan: &Plan, word: &[u8], other: &[u8]) -> Option<Reply>
     } else if word == b"portion_ahead".as_slice() {
         let train = train_named(plan, other)?;
         Some(Reply::PortionAhead { train })
-    } else if word == b"home_reversed".as_slice() {
-        let lever = small_number(other)?;
-        Some(Reply::HomeReversed { lever })
-    } else if word == b"count_full".as_slice() {
-        let out = small_number(other)?;
-        Some(Reply::CountFull { out })
-    } else if word == b"welwyn_holds".as_slice() {
-        let state = state_named(other)?;
-        Some(Reply::WelwynHolds { state })
-    } else if word == b"winding".as_slice() {
-        let ready_at = read_ready(plan.version, other)?;
-        Some(Reply::Winding { ready_at })
-    } else if word == b"too_soon".as_slice() {
-        let ready_at = read_ready(plan.version, other)?;
-        Some(Reply::TooSoon { ready_at })
     } else {
-        count_reply(word, read_number(other)?)
+        lever_pair(plan, word, other)
     }
 }
 
@@ -166,47 +176,37 @@ fn pair_reply(plan: &Plan, word: &[u8], other: &[u8]) -> Option<Reply>
 fn code_reply(word: &[u8], k: u64, code: CodeNo) -> Option<Reply>
     ensures { result ≡ code_reply word.now k code }
 {
-    if word == b"bell_busy".as_slice() {
-        Some(Reply::BellBusy { k, code })
-    } else if word == b"heard".as_slice() {
-        Some(Reply::Heard { k, code })
-    } else {
-        None
-    }
+    let rows = [
+        ("bell_busy", Reply::BellBusy { k, code }),
+        ("heard", Reply::Heard { k, code }),
+    ];
+    row_named(&rows, word)
 }
 
 // The replies of a word, a place and a train.
 fn stand_reply(word: &[u8], place: u32, train: u32) -> Option<Reply>
     ensures { result ≡ stand_reply word.now place train }
 {
-    if word == b"track_occupied".as_slice() {
-        Some(Reply::TrackOccupied { place, train })
-    } else if word == b"held_by_track".as_slice() {
-        Some(Reply::HeldByTrack { place, train })
-    } else if word == b"occupied".as_slice() {
-        Some(Reply::Occupied { place, train })
-    } else {
-        None
-    }
+    let rows = [
+        ("track_occupied", Reply::TrackOccupied { place, train }),
+        ("held_by_track", Reply::HeldByTrack { place, train }),
+        ("occupied", Reply::Occupied { place, train }),
+    ];
+    row_named(&rows, word)
 }
 
 // The replies of a word, a number and a train.
 fn train_reply(word: &[u8], number: u64, train: u32) -> Option<Reply>
     ensures { result ≡ train_reply word.now number train }
 {
-    if word == b"entered".as_slice() {
-        Some(Reply::Entered { k: number, train })
-    } else if word == b"approaching".as_slice() {
-        Some(Reply::Approaching { j: number, train })
-    } else if word == b"berthed".as_slice() {
-        Some(Reply::Berthed { j: number, train })
-    } else if word == b"part_berthed".as_slice() {
-        Some(Reply::PartBerthed { j: number, train })
-    } else if word == b"cleared".as_slice() {
-        Some(Reply::Cleared { j: number, train })
-    } else {
-        None
-    }
+    let rows = [
+        ("entered", Reply::Entered { k: number, train }),
+        ("approaching", Reply::Approaching { j: number, train }),
+        ("berthed", Reply::Berthed { j: number, train }),
+        ("part_berthed", Reply::PartBerthed { j: number, train }),
+        ("cleared", Reply::Cleared { j: number, train }),
+    ];
+    row_named(&rows, word)
 }
 
 // Whether a word and a number go before a train.
@@ -231,15 +231,24 @@ fn bell_shown(plan: &Plan, word: &[u8]) -> Option<Option<CodeNo>>
     Some(Some(code))
 }
 
-// What an instrument or a bell shows after so many turns or codes.
-fn shown_reply(plan: &Plan, number: u64, word: &[u8]) -> Option<Reply>
-    ensures { result ≡ shown_reply plan.now number word.now (position_named word.now) }
+// What a bell shows after so many codes, if the word names it.
+fn bell_reply(number: u64, shown: Option<Option<CodeNo>>) -> Option<Reply>
+    ensures { result ≡ option_map (λ code. replies.BellNotYet code number) shown }
 {
-    if let Some(shown) = position_named(word) {
-        return Some(Reply::BlockNotYet { v: number, shown });
+    match shown {
+        Some(shown) => Some(Reply::BellNotYet { k: number, shown }),
+        None => None,
     }
-    let shown = bell_shown(plan, word)?;
-    Some(Reply::BellNotYet { k: number, shown })
+}
+
+// What an instrument or a bell shows after so many turns or codes: the position that the word names, or else a code.
+fn shown_reply(plan: &Plan, number: u64, word: &[u8], position: Option<Position>) -> Option<Reply>
+    ensures { result ≡ shown_reply plan.now number word.now position }
+{
+    match position {
+        Some(shown) => Some(Reply::BlockNotYet { v: number, shown }),
+        None => bell_reply(number, bell_shown(plan, word)),
+    }
 }
 
 // The replies of three words.
@@ -249,7 +258,8 @@ fn triple_reply(plan: &Plan, box_no: u32, word: &[u8], other: &[u8], last: &[u8]
     ensures { result ≡ triple_reply plan.now box_no word.now other.now last.now }
 {
     if word == b"not_yet".as_slice() {
-        shown_reply(plan, read_number(other)?, last)
+        let number = read_number(other)?;
+        shown_reply(plan, number, last, position_named(last))
     } else if word == b"bell_busy".as_slice() || word == b"heard".as_slice() {
         let k = read_number(other)?;
         code_reply(word, k, code_named(plan, last)?)

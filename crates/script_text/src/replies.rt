@@ -6,6 +6,7 @@ ghost use Rattle.line_plan.specs.Plans.{is_train};
 ghost use Rattle.script_text.specs.Moments.{moment_text, hundred_hours};
 ghost use Rattle.script_text.specs.Names.{way_text, position_text, code_no_text, place_text, train_text};
 ghost use Rattle.script_text.specs.Replies.{reply_text, reply_words, is_spelled_reply, shown_text, state_text};
+ghost use Rattle.script_text.specs.FirstWords.{first_word};
 ghost use Rattle.script_text.specs.Replies.{spent_text, shows_code, is_stand, is_place, is_ready_moment};
 
 use crate::moments::put_moment;
@@ -190,6 +191,61 @@ fn put_ready(out: &mut String, version: u8, word: &str, ready_at: u32) -> Result
     put_moment(out, version, ready_at)
 }
 
+// The word with which a reply begins.
+fn first_word(reply: &Reply) -> &'static str
+    ensures { result.now ≡ first_word reply.now }
+{
+    match *reply {
+        Reply::Rung { .. } => "rung",
+        Reply::BellBusy { .. } => "bell_busy",
+        Reply::Heard { .. } => "heard",
+        Reply::Silent { .. } => "silent",
+        Reply::BellNotYet { .. } => "not_yet",
+        Reply::Turned { .. } => "turned",
+        Reply::AlreadyThere => "already_there",
+        Reply::NotFromNormal => "not_from_normal",
+        Reply::HomeReversed { .. } => "home_reversed",
+        Reply::TrackOccupied { .. } => "track_occupied",
+        Reply::WelwynHolds { .. } => "welwyn_holds",
+        Reply::CountFull { .. } => "count_full",
+        Reply::Seen { .. } => "seen",
+        Reply::BlockNotYet { .. } => "not_yet",
+        Reply::Pulled => "pulled",
+        Reply::PulledUnder { .. } => "pulled_under",
+        Reply::AlreadyReversed => "already_reversed",
+        Reply::Spare => "spare",
+        Reply::HeldByLever { .. } => "held_by_lever",
+        Reply::HeldByTrack { .. } => "held_by_track",
+        Reply::HeldByInstrument { .. } => "held_by_instrument",
+        Reply::Put => "put",
+        Reply::AlreadyNormal => "already_normal",
+        Reply::Brought => "brought",
+        Reply::AlreadyBrought => "already_brought",
+        Reply::Occupied { .. } => "occupied",
+        Reply::Passed { .. } => "passed",
+        Reply::Entered { .. } => "entered",
+        Reply::NoTrain => "no_train",
+        Reply::AtDanger => "at_danger",
+        Reply::ArmOff => "arm_off",
+        Reply::SectionFull { .. } => "section_full",
+        Reply::Approaching { .. } => "approaching",
+        Reply::TrainNotYet { .. } => "not_yet",
+        Reply::Berthed { .. } => "berthed",
+        Reply::PartBerthed { .. } => "part_berthed",
+        Reply::NoTrainAt { .. } => "no_train",
+        Reply::BerthOccupied { .. } => "occupied",
+        Reply::PortionAhead { .. } => "portion_ahead",
+        Reply::Cleared { .. } => "cleared",
+        Reply::NoPortion => "no_portion",
+        Reply::Winding { .. } => "winding",
+        Reply::AlreadyWinding => "already_winding",
+        Reply::NotAtNormal => "not_at_normal",
+        Reply::Released => "released",
+        Reply::NotWinding => "not_winding",
+        Reply::TooSoon { .. } => "too_soon",
+    }
+}
+
 /// Puts a reply of a box behind a text.
 #[tactic(auto, using(crate::proofs::MomentTexts::ready_is_short), unfolding(crate::specs::Replies::reply_text, crate::specs::Replies::is_spelled_reply))]
 pub fn put_reply(
@@ -202,65 +258,58 @@ pub fn put_reply(
     requires spelled { IsTrue (is_spelled_reply plan.now box_no reply.now) }
     ensures { OnOk result (string_bytes out.new ≡ string_bytes out.old ++ reply_text plan.now box_no reply.now) }
 {
+    let word = first_word(reply);
     match *reply {
-        Reply::Rung { k } => put_count(out, "rung", k),
-        Reply::BellBusy { k, code } => put_code_told(out, plan, "bell_busy", k, code),
-        Reply::Heard { k, code } => put_code_told(out, plan, "heard", k, code),
-        Reply::Silent { k } => put_count(out, "silent", k),
+        Reply::Rung { k: n }
+        | Reply::Silent { k: n }
+        | Reply::SectionFull { k: n }
+        | Reply::Turned { v: n }
+        | Reply::Seen { v: n }
+        | Reply::PulledUnder { v: n }
+        | Reply::TrainNotYet { j: n }
+        | Reply::NoTrainAt { j: n } => put_count(out, word, n),
+        Reply::BellBusy { k, code } | Reply::Heard { k, code } => {
+            put_code_told(out, plan, word, k, code)
+        }
         Reply::BellNotYet { k, shown } => put_shown(out, plan, k, shown),
-        Reply::Turned { v } => put_count(out, "turned", v),
-        Reply::AlreadyThere => put_word(out, "already_there"),
-        Reply::NotFromNormal => put_word(out, "not_from_normal"),
-        Reply::HomeReversed { lever } => put_small(out, "home_reversed", lever),
-        Reply::TrackOccupied { place, train } => {
-            put_stand(out, plan, box_no, "track_occupied", place, train)
-        }
-        Reply::WelwynHolds { state } => put_state(out, "welwyn_holds", state),
-        Reply::CountFull { out: number } => put_small(out, "count_full", number),
-        Reply::Seen { v } => put_count(out, "seen", v),
         Reply::BlockNotYet { v, shown } => put_position(out, v, shown),
-        Reply::Pulled => put_word(out, "pulled"),
-        Reply::PulledUnder { v } => put_count(out, "pulled_under", v),
-        Reply::AlreadyReversed => put_word(out, "already_reversed"),
-        Reply::Spare => put_word(out, "spare"),
-        Reply::HeldByLever { lever, row } => put_row(out, "held_by_lever", lever, row),
-        Reply::HeldByTrack { place, train } => {
-            put_stand(out, plan, box_no, "held_by_track", place, train)
-        }
+        Reply::HomeReversed { lever: n } | Reply::CountFull { out: n } => put_small(out, word, n),
+        Reply::HeldByLever { lever, row } => put_row(out, word, lever, row),
+        Reply::TrackOccupied { place, train }
+        | Reply::HeldByTrack { place, train }
+        | Reply::Occupied { place, train } => put_stand(out, plan, box_no, word, place, train),
+        Reply::WelwynHolds { state } => put_state(out, word, state),
         Reply::HeldByInstrument {
             way,
             v,
             shown,
             spent,
-        } => put_instrument(out, "held_by_instrument", way, v, shown, spent),
-        Reply::Put => put_word(out, "put"),
-        Reply::AlreadyNormal => put_word(out, "already_normal"),
-        Reply::Brought => put_word(out, "brought"),
-        Reply::AlreadyBrought => put_word(out, "already_brought"),
-        Reply::Occupied { place, train } => put_stand(out, plan, box_no, "occupied", place, train),
-        Reply::Passed { train } => put_train(out, plan, "passed", train),
-        Reply::Entered { k, train } => put_counted_train(out, plan, "entered", k, train),
-        Reply::NoTrain => put_word(out, "no_train"),
-        Reply::AtDanger => put_word(out, "at_danger"),
-        Reply::ArmOff => put_word(out, "arm_off"),
-        Reply::SectionFull { k } => put_count(out, "section_full", k),
-        Reply::Approaching { j, train } => put_counted_train(out, plan, "approaching", j, train),
-        Reply::TrainNotYet { j } => put_count(out, "not_yet", j),
-        Reply::Berthed { j, train } => put_counted_train(out, plan, "berthed", j, train),
-        Reply::PartBerthed { j, train } => {
-            put_counted_train(out, plan, "part_berthed", j, train)
+        } => put_instrument(out, word, way, v, shown, spent),
+        Reply::Passed { train } | Reply::BerthOccupied { train } | Reply::PortionAhead { train } =>
+            { put_train(out, plan, word, train) }
+        Reply::Entered { k: n, train }
+        | Reply::Approaching { j: n, train }
+        | Reply::Berthed { j: n, train }
+        | Reply::PartBerthed { j: n, train }
+        | Reply::Cleared { j: n, train } => put_counted_train(out, plan, word, n, train),
+        Reply::Winding { ready_at } | Reply::TooSoon { ready_at } => {
+            put_ready(out, plan.version, word, ready_at)
         }
-        Reply::NoTrainAt { j } => put_count(out, "no_train", j),
-        Reply::BerthOccupied { train } => put_train(out, plan, "occupied", train),
-        Reply::PortionAhead { train } => put_train(out, plan, "portion_ahead", train),
-        Reply::Cleared { j, train } => put_counted_train(out, plan, "cleared", j, train),
-        Reply::NoPortion => put_word(out, "no_portion"),
-        Reply::Winding { ready_at } => put_ready(out, plan.version, "winding", ready_at),
-        Reply::AlreadyWinding => put_word(out, "already_winding"),
-        Reply::NotAtNormal => put_word(out, "not_at_normal"),
-        Reply::Released => put_word(out, "released"),
-        Reply::NotWinding => put_word(out, "not_winding"),
-        Reply::TooSoon { ready_at } => put_ready(out, plan.version, "too_soon", ready_at),
+        Reply::AlreadyThere
+        | Reply::NotFromNormal
+        | Reply::Pulled
+        | Reply::AlreadyReversed
+        | Reply::Spare
+        | Reply::Put
+        | Reply::AlreadyNormal => put_word(out, word),
+        Reply::Brought
+        | Reply::AlreadyBrought
+        | Reply::NoTrain
+        | Reply::AtDanger
+        | Reply::ArmOff
+        | Reply::NoPortion => put_word(out, word),
+        Reply::AlreadyWinding | Reply::NotAtNormal | Reply::Released | Reply::NotWinding =>
+            put_word(out, word),
     }
 }
 
