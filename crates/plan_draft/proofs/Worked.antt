@@ -1,6 +1,5 @@
 -- Levers of a row, from left to right.
 use Rattle.std.proofs.Common.{◌≡◌, ℕ, List, ◌∷◌, Result, Ok}
-use Rattle.rail_text.specs.Gives.{◌>>=◌}
 use Rattle.rail_text.specs.declared.cause.Cause.{Cause}
 use Rattle.plan_draft.specs.BoxLines.{all_worked, worked}
 use Rattle.line_plan.specs.Frames.{BoxFields, kind_of}

@@ -127,8 +127,7 @@ impl Model for PlanDraft {
 }
 
 ghost use Rattle.std.specs.Prelude.{◌≡◌, ◌<◌, ◌≤◌, ◌+◌, ◌++◌, [], ◌∷◌, length, true, IfOk, OnErr, OnOk, None, vec_len};
-ghost use Rattle.std.specs.Prelude.{vec_capacity, bytes_eq, false, ◌^◌};
-ghost use Rattle.std.specs.List.{list_any};
+ghost use Rattle.std.specs.Prelude.{vec_capacity};
 ghost use Rattle.bell_codes.specs.Table.{code_number, opening_codes};
 ghost use Rattle.plan_draft.specs.Drafts.{boxes_with, in_box, opening_classes};
 ghost use Rattle.line_plan.specs.Plans.{opening_names};
@@ -144,37 +143,6 @@ fn add_code(codes: &mut CodeTable, code: Code) -> Result<CodeNo, NoMemory>
         Ok(number) => Ok(number),
         Err(_) => Err(NoMemory),
     }
-}
-
-// A class more, under the next code number. Where memory runs out its code may stand alone.
-fn push_class(
-    alloc: Global,
-    codes: &mut CodeTable,
-    classes: &mut Vec<Class>,
-    names: &mut Names,
-    name: &str,
-    code: Code,
-) -> Result<(), NoMemory>
-    requires code { code_number codes.old code ≡ None }
-    requires room { length codes.old < 200 }
-    requires few { length names.old < 2 ^ 32 }
-    requires name { list_any (bytes_eq name.now) names.old ≡ false }
-    ensures codes { OnOk result (codes.new ≡ codes.old ++ code ∷ []) }
-    ensures classes { OnOk result (classes.new.items
-        ≡ classes.old.items ++ record { name = name.now; code = length codes.old + 1 } ∷ []) }
-    ensures names { OnOk result (names.new ≡ names.old ++ name.now ∷ []) }
-    ensures more { OnErr result (length codes.old ≤ length codes.new) }
-    ensures same { OnErr result (classes.new.items ≡ classes.old.items) }
-    ensures none { OnErr result (names.new ≡ names.old) }
-{
-    classes.reserve(1)?;
-    let number = add_code(codes, code)?;
-    let label = add_label(alloc, names, name)?;
-    classes.push_reserved(Class {
-        name: label,
-        code: number,
-    });
-    Ok(())
 }
 
 // The code table with which every plan begins.
@@ -337,14 +305,13 @@ impl PlanDraft {
         if self.codes.len() >= CodeTable::MOST {
             return Err(LineFault::Cause(Cause::TooMany));
         }
-        push_class(
-            self.alloc,
-            &mut self.codes,
-            &mut self.classes,
-            &mut self.class_names,
-            name,
-            code,
-        )?;
+        self.classes.reserve(1)?;
+        let number = add_code(&mut self.codes, code)?;
+        let label = add_label(self.alloc, &mut self.class_names, name)?;
+        self.classes.push_reserved(Class {
+            name: label,
+            code: number,
+        });
         self.stage = Stage::Class;
         Ok(())
     }
