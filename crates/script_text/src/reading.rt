@@ -29,8 +29,13 @@ fn script_of(alloc: Global, plan: &Plan, box_no: u32, bytes: &[u8]) -> Result<Sc
 {
     let _version = plan.version;
     let mut draft = ScriptDraft::new(alloc, plan, box_no);
-    read_text(&mut draft, SCRIPT_LIMIT, bytes)?;
-    Ok(draft.into_script())
+    match read_text(&mut draft, SCRIPT_LIMIT, bytes) {
+        Ok(()) => Ok(draft.into_script()),
+        Err(error) => {
+            drop(draft);
+            Err(error)
+        }
+    }
 }
 
 /// The script of a box that the bytes spell, or the line and the cause of the first fault: a text longer than
