@@ -8,5 +8,6 @@ pub mod Verdicts
 pub mod Readers
 pub mod Arrows
 pub mod Reading
+pub mod ToldEntries
 pub mod Spelled
 pub mod Hearings

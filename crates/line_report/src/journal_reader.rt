@@ -1,8 +1,11 @@
 //! The entries of a journal, read one after another from its text.
 
-ghost use Rattle.std.specs.Prelude.{◌≡◌};
+ghost use Rattle.std.specs.Prelude.{◌≡◌, ◌<◌, length, true};
+ghost use Rattle.std.specs.List.{list_all};
 ghost use Rattle.rail_text.specs.Gives.{GivesLine, TakesNoMemory};
+ghost use Rattle.rail_text.specs.Lines.{lacks};
 ghost use Rattle.line_report.specs.Reading.{heading_in, heading_of, most_journal_bytes};
+ghost use Rattle.line_report.specs.ToldEntries.{told_entry};
 
 use crate::entry_line::{box_in, entry_number, later_call_in, told_reply_in, told_words};
 use line_law::{Act, Call, Entry, Reply};
@@ -61,6 +64,23 @@ fn heading_of(plan: &Plan, line: &TextLine<'_>) -> Result<u32, LineFault>
         Ok(None) => unreachable!(),
         Err(cause) => Err(LineFault::Cause(cause)),
     }
+}
+
+// The entry of a box by the words of its line, whose last moment was this: its call and its reply.
+#[tactic(auto, using(crate::proofs::Arrows::told_rules), unfolding(crate::specs::ToldEntries::told_entry))]
+fn told_entry(plan: &Plan, box_no: u32, last: u32, words: &LineWords<'_>) -> Result<Entry, Cause>
+    requires at { box_no < length plan.now.boxes }
+    requires single { list_all (lacks 32) words.now ≡ true }
+    ensures { result ≡ told_entry plan.now box_no last words.now }
+{
+    let (call, reply) = told_words(words);
+    let call = later_call_in(plan, box_no, last, &call)?;
+    let reply = told_reply_in(plan, box_no, &call, &reply)?;
+    Ok(Entry {
+        box_no,
+        call,
+        reply,
+    })
 }
 
 /// The entries of a journal's text, read one after another: the text isn't copied, and no entry is kept. Contracts see
@@ -136,7 +156,7 @@ impl<'a> JournalReader<'a> {
     }
 
     // The entry of a line: its number, its box, its call and its reply.
-    #[tactic(auto, using(crate::proofs::Arrows::told_rules), unfolding(crate::specs::Reading::entry_in))]
+    #[tactic(auto, unfolding(crate::specs::Reading::entry_in, crate::specs::ToldEntries::told_entry))]
     fn entry_in(&self, words: &LineWords<'_>) -> Result<Entry, Cause>
         requires { list_all (lacks 32) words.now ≡ true }
         ensures { result ≡ entry_in self.now.so_far words.now }
@@ -144,14 +164,7 @@ impl<'a> JournalReader<'a> {
         let plan = self.plan;
         entry_number(u64::from(self.count) + 1, words)?;
         let box_no = box_in(plan, self.last, words)?;
-        let (call, reply) = told_words(words);
-        let call = later_call_in(plan, box_no, self.moments[box_no as usize], &call)?;
-        let reply = told_reply_in(plan, box_no, &call, &reply)?;
-        Ok(Entry {
-            box_no,
-            call,
-            reply,
-        })
+        told_entry(plan, box_no, self.moments[box_no as usize], words)
     }
 
     // The entry that the words of a line tell; nothing where they are `end`.
