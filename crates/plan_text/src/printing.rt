@@ -1,6 +1,6 @@
 //! The one printed spelling of a plan.
 
-ghost use Rattle.std.specs.Prelude.{◌≡◌, ◌++◌, ◌∷◌, [], OnOk, IfOk, decimal, drop, map, option_map, string_bytes};
+ghost use Rattle.std.specs.Prelude.{◌≡◌, ◌++◌, ◌∷◌, [], OnOk, IfOk, codes, decimal, drop, map, option_map, string_bytes};
 ghost use Rattle.std.specs.List.{flat_map};
 ghost use Rattle.locking_table.specs.Words.{joined, spaced};
 ghost use Rattle.line_plan.specs.Plans.{box_at};
@@ -111,6 +111,17 @@ fn put_lever(out: &mut String, lever: Lever) -> Result<(), AllocError>
     put_end(out)
 }
 
+// What a signal's line says of its lever and of where it begins.
+#[tactic(auto, using(crate::proofs::Printed::print_rules))]
+fn put_begin(out: &mut String, places: &Names, signal: &Signal) -> Result<(), AllocError>
+    ensures { OnOk result (string_bytes out.new ≡ string_bytes out.old
+        ++ joined (codes "signal" ∷ decimal signal.now.lever ∷ name_word places.now signal.now.from ∷ [])) }
+{
+    put_first(out, "signal")?;
+    put_number(out, signal.lever as usize)?;
+    put_word(out, name_word(places, signal.from))
+}
+
 // What a signal's or starter's line says of its lever and its ends.
 #[tactic(auto, using(crate::proofs::Printed::print_rules))]
 fn put_arm(out: &mut String, places: &Names, signal: &Signal) -> Result<(), AllocError>
@@ -119,15 +130,11 @@ fn put_arm(out: &mut String, places: &Names, signal: &Signal) -> Result<(), Allo
 {
     match signal.to {
         To::Place(place) => {
-            put_first(out, "signal")?;
-            put_number(out, signal.lever as usize)?;
-            put_word(out, name_word(places, signal.from))?;
+            put_begin(out, places, signal)?;
             put_word(out, name_word(places, place))
         }
         To::Away => {
-            put_first(out, "signal")?;
-            put_number(out, signal.lever as usize)?;
-            put_word(out, name_word(places, signal.from))?;
+            put_begin(out, places, signal)?;
             put_word(out, "away")
         }
         To::Section(way) => {
