@@ -1,5 +1,5 @@
 -- A reader that takes no memory never tells of its want.
-use Rattle.std.proofs.Common.{◌≡◌, Result, Ok, Err, refl}
+use Rattle.std.proofs.Common.{Result, Ok, Err, refl}
 use Rattle.rail_text.specs.Gives.{FaultsFirst, TakesNoMemory}
 use Rattle.rail_text.specs.declared.cause.Cause.{Cause}
 use Rattle.rail_text.specs.declared.line_fault.LineFault.{LineFault}

@@ -1,6 +1,6 @@
 -- Names are read as they are printed, and each thing has one.
-use Rattle.std.proofs.Common.{◌≡◌, ℕ, zero, suc, ◌+◌, ◌-◌, ◌<◌, ◌≤◌, Bool, true, false, cond, ltb, List, [], ◌∷◌}
-use Rattle.std.proofs.Common.{length, get_or, Option, Some, None, Ok, Err, IsTrue, refl, sym, ap, ◌∙◌, arith, bytes_eq}
+use Rattle.std.proofs.Common.{◌≡◌, ℕ, zero, suc, ◌+◌, ◌-◌, ◌<◌, ◌≤◌, Bool, true, ltb, List, [], ◌∷◌}
+use Rattle.std.proofs.Common.{length, get_or, Option, Some, None, IsTrue, refl, sym, ap, ◌∙◌, arith, bytes_eq}
 use Rattle.std.proofs.Common.{slice_get, position, option_map}
 use Rattle.std.specs.List.{list_all}
 use Rattle.std.proofs.lemmas.Bool.Decides.{nat_tests}
@@ -10,8 +10,7 @@ use Rattle.std.proofs.lemmas.Option.{slice_get-get_or, get_or_from_slice_get}
 use Rattle.std.proofs.lemmas.Slice.Eq.{bytes_eq-Decides}
 use Rattle.rail_text.specs.Forms.{is_word}
 use Rattle.rail_text.specs.Names.{are_new}
-use Rattle.rail_text.specs.Words.{is_name, name_in}
-use Rattle.rail_text.specs.declared.cause.Cause.TheVariants as causes
+use Rattle.rail_text.specs.Words.{is_name}
 use Rattle.rail_text.proofs.DistinctNames.{position-distinct}
 use Rattle.rail_text.proofs.PrintedLines.{both}
 use Rattle.rail_text.proofs.PrintedWords.{name_is_word}
