@@ -51,7 +51,7 @@ pub struct Call {
 
 /// What a signalman is answered. Places are numbered from 0 in his box, trains and rows from 1. In each variant the
 /// smaller fields stand first, which keeps a reply at sixteen bytes.
-#[derive(Clone, Copy, Debug, PartialEq, Eq)]
+#[derive(Clone, Copy, Debug)]
 pub enum Reply {
     /// The code was rung, the `k`th on that bell.
     Rung {

@@ -1,6 +1,10 @@
 //! When two replies are the same: they are of one kind, and tell the same numbers.
 
-ghost use Rattle.std.specs.Prelude.{◌≡◌, ◌↔◌, IsTrue};
+ghost use Rattle.std.specs.Prelude.{◌≡◌, ◌==◌, ◌↔◌, IsTrue};
+ghost use Rattle.std.proofs.Common.{rules};
+ghost use Rattle.std.specs.Cmp.Lexicographic.{pointwise};
+ghost use Rattle.std.specs.Cmp.Rules.{comparing};
+ghost use Rattle.std.specs.Ordering.{eq_of_both, on};
 ghost use Rattle.block_words.specs.Instruments.{position_code};
 ghost use Rattle.line_law.specs.Replies.{
   mark_number,
@@ -191,4 +195,18 @@ impl Reply {
     {
         self.number() == other.number() && self.numbers_told() == other.numbers_told()
     }
+}
+
+impl PartialEq for Reply {
+    ghost eq = { eq_of_both (on reply_no ◌==◌) (on numbers_told (pointwise ◌==◌)) };
+
+    ghost laws = { Prim.search (comparing, rules) };
+
+    fn eq(&self, other: &Reply) -> bool {
+        self.is(other)
+    }
+}
+
+impl Eq for Reply {
+    ghost laws = { Prim.search (comparing, rules) };
 }
