@@ -14,3 +14,21 @@ pub berth_part-requires-clause-place : goal.berth_part-requires-clause-place
 berth_part-requires-clause-place c =
     (berth_here _ _ _ _ c.in-Some-berth-2.berth.now c.requires.sound c.requires.shape
     (sym c.in-Some-berth-2.ensures)).place
+
+pub returns-in-Ring : goal.returns-in-Ring
+returns-in-Ring c = rw c.in-Ring.is c.ring.ensures
+
+pub returns-in-Pull : goal.returns-in-Pull
+returns-in-Pull c = rw c.in-Pull.is c.pull.ensures
+
+pub returns-in-Pass : goal.returns-in-Pass
+returns-in-Pass c = rw c.in-Pass.is c.pass.ensures
+
+pub returns-in-Overrun : goal.returns-in-Overrun
+returns-in-Overrun c = rw c.in-Overrun.is c.overrun.ensures
+
+pub returns-in-AwaitTrain : goal.returns-in-AwaitTrain
+returns-in-AwaitTrain c = rw c.in-AwaitTrain.is c.look_plain_line.ensures
+
+pub returns-in-ClearPortion : goal.returns-in-ClearPortion
+returns-in-ClearPortion c = rw c.in-ClearPortion.is c.clear_portion.ensures
