@@ -19,12 +19,14 @@ finish_part-requires-clause-place c =
 
 pub finish_turn-requires-clause-agrees : goal.finish_turn-requires-clause-agrees
 finish_turn-requires-clause-agrees c =
-    let is : berth_of c.args.plan.now c.in-Turn.way ≡ Some c.in-Some.berth.now = berth_is _ _ c.berth.ensures c.in-Some.is in
+    let is : berth_of c.args.plan.now c.in-Turn.way ≡ Some c.in-Some.berth.now =
+    berth_is _ _ c.berth.ensures c.in-Some.is in
     rw (c.in-Turn.is, is) at c.requires.agrees.1
 
 pub returns-in-Some-clause-told : goal.returns-in-Some-clause-told
 returns-in-Some-clause-told c =
-    let is : berth_of c.args.plan.now c.in-Turn.way ≡ Some c.in-Some.berth.now = berth_is _ _ c.berth.ensures c.in-Some.is in
+    let is : berth_of c.args.plan.now c.in-Turn.way ≡ Some c.in-Some.berth.now =
+    berth_is _ _ c.berth.ensures c.in-Some.is in
     λ line. rw (c.in-Turn.is, is) c.finish_turn.ensures.told
 
 pub returns-in-Some-clause-fitted : goal.returns-in-Some-clause-fitted
@@ -33,12 +35,14 @@ returns-in-Some-clause-fitted c =
 
 pub finish_berth-requires-clause-agrees : goal.finish_berth-requires-clause-agrees
 finish_berth-requires-clause-agrees c =
-    let is : berth_of c.args.plan.now c.in-Berth.way ≡ Some c.in-Some-berth.berth.now = berth_is _ _ c.berth-in-Berth.ensures c.in-Some-berth.is in
+    let is : berth_of c.args.plan.now c.in-Berth.way ≡ Some c.in-Some-berth.berth.now =
+    berth_is _ _ c.berth-in-Berth.ensures c.in-Some-berth.is in
     rw (c.in-Berth.is, is) at c.requires.agrees.1
 
 pub returns-in-Some-berth-clause-told : goal.returns-in-Some-berth-clause-told
 returns-in-Some-berth-clause-told c =
-    let is : berth_of c.args.plan.now c.in-Berth.way ≡ Some c.in-Some-berth.berth.now = berth_is _ _ c.berth-in-Berth.ensures c.in-Some-berth.is in
+    let is : berth_of c.args.plan.now c.in-Berth.way ≡ Some c.in-Some-berth.berth.now =
+    berth_is _ _ c.berth-in-Berth.ensures c.in-Some-berth.is in
     λ line. rw (c.in-Berth.is, is) c.finish_berth.ensures.told
 
 pub returns-in-Some-berth-clause-fitted : goal.returns-in-Some-berth-clause-fitted
@@ -47,12 +51,14 @@ returns-in-Some-berth-clause-fitted c =
 
 pub finish_part-requires-clause-agrees : goal.finish_part-requires-clause-agrees
 finish_part-requires-clause-agrees c =
-    let is : berth_of c.args.plan.now c.in-BerthPart.way ≡ Some c.in-Some-berth-2.berth.now = berth_is _ _ c.berth-in-BerthPart.ensures c.in-Some-berth-2.is in
+    let is : berth_of c.args.plan.now c.in-BerthPart.way ≡ Some c.in-Some-berth-2.berth.now =
+    berth_is _ _ c.berth-in-BerthPart.ensures c.in-Some-berth-2.is in
     rw (c.in-BerthPart.is, is) at c.requires.agrees.1
 
 pub returns-in-Some-berth-2-clause-told : goal.returns-in-Some-berth-2-clause-told
 returns-in-Some-berth-2-clause-told c =
-    let is : berth_of c.args.plan.now c.in-BerthPart.way ≡ Some c.in-Some-berth-2.berth.now = berth_is _ _ c.berth-in-BerthPart.ensures c.in-Some-berth-2.is in
+    let is : berth_of c.args.plan.now c.in-BerthPart.way ≡ Some c.in-Some-berth-2.berth.now =
+    berth_is _ _ c.berth-in-BerthPart.ensures c.in-Some-berth-2.is in
     λ line. rw (c.in-BerthPart.is, is) c.finish_part.ensures.told
 
 pub returns-in-Some-berth-2-clause-fitted : goal.returns-in-Some-berth-2-clause-fitted
