@@ -44,11 +44,14 @@ fn all_performed(line: &TokenLine, one: &mut TokenMan, other: &mut TokenMan, due
 #[test]
 fn two_men_take_the_only_token_to_the_other_end(rt: HostRuntime) {
     let (line, mut one, mut other) = open_token(rt.alloc(), 1, 0).expect(&rt, "a line");
-    let are_fresh = one.tokens() == 1 && other.tokens() == 0 && one.calls() + other.calls() == 0;
+    let are_fresh = (one.tokens() == 1)
+        & (other.tokens() == 0)
+        & (one.calls() == 0)
+        & (other.calls() == 0);
     let are_due = all_performed(&line, &mut one, &mut other, &JOURNEY);
     one.meet(&line, &mut other);
-    let have_called = one.calls() == 5 && other.calls() == 5;
-    let is_moved = one.tokens() == 0 && other.tokens() == 1;
+    let have_called = (one.calls() == 5) & (other.calls() == 5);
+    let is_moved = (one.tokens() == 0) & (other.tokens() == 1);
     drop(other);
     drop(one);
     drop(line);
@@ -67,7 +70,7 @@ fn two_men_take_the_only_token_to_the_other_end(rt: HostRuntime) {
 fn two_men_give_leave_and_take_it_back(rt: HostRuntime) {
     let (line, mut one, mut other) = open_token(rt.alloc(), 1, 1).expect(&rt, "a line");
     let are_due = all_performed(&line, &mut one, &mut other, &LEAVE);
-    let are_there = one.tokens() == 1 && other.tokens() == 1;
+    let are_there = (one.tokens() == 1) & (other.tokens() == 1);
     drop(other);
     drop(one);
     drop(line);
@@ -80,26 +83,19 @@ fn two_men_give_leave_and_take_it_back(rt: HostRuntime) {
 const JOURNEY_SCRIPT: &[u8] = b"token 1\ntokens 1 0\n0 draw 7\n1 give\n0 give\n0 draw 7\n1 give\n\
 0 depart\n1 draw 9\n1 arrive\n1 replace\n0 draw 7\nend\n";
 
+// Whether an entry is this call with this reply.
+fn is_entry(entry: &TokenEntry, due: &Due) -> bool {
+    let (box_no, act, reply) = *due;
+    (entry.call.box_no == box_no) & (entry.call.act == act) & (entry.reply == reply)
+}
+
 // Whether the entries are these calls with these replies.
 fn are_entries(entries: &[TokenEntry], dues: &[Due]) -> bool {
-    if entries.len() != dues.len() {
-        return false;
+    let mut are_so = entries.len() == dues.len();
+    for (entry, due) in entries.iter().zip(dues) {
+        are_so = are_so & is_entry(entry, due);
     }
-    for (entry, (box_no, act, reply)) in entries.iter().zip(dues) {
-        let call = TokenCall {
-            box_no: *box_no,
-            act: *act,
-        };
-        if *entry
-            != (TokenEntry {
-                call,
-                reply: *reply,
-            })
-        {
-            return false;
-        }
-    }
-    true
+    are_so
 }
 
 #[test]
@@ -109,7 +105,7 @@ fn a_script_is_worked_by_both_men(rt: HostRuntime) {
         &rt, "memory",
     );
     let are_due = are_entries(&worked.entries, &JOURNEY);
-    let is_moved = worked.at_0 == 0 && worked.at_1 == 1 && worked.out == 0;
+    let is_moved = (worked.at_0 == 0) & (worked.at_1 == 1) & (worked.out == 0);
     drop(worked);
     drop(script);
     all_hold(

@@ -71,6 +71,19 @@ const LOOKS_TOLD: &str = "1 0 give -> leave_given\n\
     5 1 depart -> departed 65535\n\
     6 1 look -> shown line 0 65535\n";
 
+// Performs a call, and puts its line behind a text.
+fn put_call(
+    out: &mut String,
+    line: &mut SingleLine,
+    number: usize,
+    call: &TokenCall,
+) -> Result<(), AllocError> {
+    match reply_to(line, call.box_no, call.act) {
+        Some(reply) => put_token_entry(out, number, &TokenEntry { call: *call, reply }),
+        None => Ok(()),
+    }
+}
+
 // Performs calls, and puts the line of each behind a text.
 fn put_calls(
     out: &mut String,
@@ -80,23 +93,33 @@ fn put_calls(
     let mut number: usize = 0;
     for call in calls {
         number = number.saturating_add(1);
-        if let Some(reply) = reply_to(line, call.box_no, call.act) {
-            put_token_entry(out, number, &TokenEntry { call: *call, reply })?;
-        }
+        put_call(out, line, number, call)?;
     }
     Ok(())
+}
+
+// Whether calls, performed in order, are printed so with their replies.
+fn are_told_as(
+    alloc: Global,
+    line: &mut SingleLine,
+    calls: &[TokenCall],
+    wanted: &str,
+) -> Result<bool, AllocError> {
+    let mut out = String::new(alloc);
+    let put = put_calls(&mut out, line, calls);
+    let is_wanted = out.as_str() == wanted;
+    drop(out);
+    put?;
+    Ok(is_wanted)
 }
 
 // Whether the calls of a script, performed in order, are printed so with their replies.
 fn is_told_as(alloc: Global, text: &str, wanted: &str) -> Result<bool, ReadError> {
     let script = read_tokens(alloc, text.as_bytes())?;
     let mut line = SingleLine::open(script.at_0, script.at_1);
-    let mut out = String::new(alloc);
-    put_calls(&mut out, &mut line, script.calls())?;
-    let is_wanted = out.as_str() == wanted;
-    drop(out);
+    let is_wanted = are_told_as(alloc, &mut line, script.calls(), wanted);
     drop(script);
-    Ok(is_wanted)
+    Ok(is_wanted?)
 }
 
 #[test]

@@ -69,8 +69,8 @@ fn each_act_is_refused_in_each_state(rt: HostRuntime) {
     all_hold(
         &rt,
         &[
-            ("refused where it is idle", is_idle && gives),
-            ("refused under the leave to box 0", is_left && draws),
+            ("refused where it is idle", is_idle & gives),
+            ("refused under the leave to box 0", is_left & draws),
             ("refused while a token is held", is_held),
             (
                 "departs",
@@ -89,11 +89,12 @@ fn an_empty_instrument_is_refused_first(rt: HostRuntime) {
     let mut line = opened(0, 0);
     let is_idle = all_refused(&line, &EMPTY);
     let gives = reply_to(&mut line, 1, TokenAct::Give) == Some(TokenReply::LeaveGiven);
+    let is_left = all_refused(&line, &EMPTY);
     all_hold(
         &rt,
         &[
             ("empty where it is idle", is_idle),
-            ("empty under leave", gives && all_refused(&line, &EMPTY)),
+            ("empty under leave", gives & is_left),
             ("leave stands", line.shown() == Shown::Leave { to: 0 }),
         ],
     );

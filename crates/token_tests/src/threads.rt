@@ -54,12 +54,13 @@ fn works(mut man: TokenMan, line: &TokenLine, seed: u64) -> TokenMan
 fn out_by(reply: Option<TokenReply>) -> u64
     ensures { result ≤ 1000 }
 {
-    match reply {
-        Some(TokenReply::Seen { shown }) => match shown {
-            Shown::Idle | Shown::Leave { .. } => 0,
-            Shown::Held { .. } | Shown::OnLine { .. } => 1,
-        },
-        _ => 1_000,
+    let Some(TokenReply::Seen { shown }) = reply else {
+        return 1_000;
+    };
+    if matches!(shown, Shown::Held { .. } | Shown::OnLine { .. }) {
+        1
+    } else {
+        0
     }
 }
 
@@ -88,7 +89,7 @@ fn all_tokens_stay(
     one.meet(line, &mut other);
     let out = out_by(asked(line, &mut one, TokenAct::Look));
     let is_so = u64::from(one.tokens()) + u64::from(other.tokens()) + out == all;
-    let have_called = one.calls() == CALLS + 1 && other.calls() == CALLS;
+    let have_called = (one.calls() == CALLS + 1) & (other.calls() == CALLS);
     drop(other);
     drop(one);
     is_so & have_called
@@ -143,20 +144,30 @@ struct Made {
     are_due: bool,
 }
 
-// A man makes the calls of his box of the journey, each in its turn.
+// A man makes the calls of his box of the journey, each in its turn. Does each get the reply that is due?
+fn makes_each(man: &mut TokenMan, line: &TokenLine, box_no: u32, gate: &InTurn) -> bool
+    requires { IsOf line.now.table.shared.table_id line.now.table.shared.key man.old }
+    ensures { IsOf line.now.table.shared.table_id line.now.table.shared.key man.new }
+{
+    let mut are_due = true;
+    let mut before: u64 = 0;
+    for (at, act, reply) in &JOURNEY {
+        if *at == box_no {
+            gate.wait(before);
+            are_due = are_due & (asked(line, man, *act) == Some(*reply));
+            gate.pass_on();
+        }
+        before = before.wrapping_add(1);
+    }
+    are_due
+}
+
+// The same, and gives the man back.
 fn makes_his(mut man: TokenMan, line: &TokenLine, box_no: u32, gate: &InTurn) -> Made
     requires { IsOf line.now.table.shared.table_id line.now.table.shared.key man }
     ensures { IsOf line.now.table.shared.table_id line.now.table.shared.key result.man }
 {
-    let mut are_due = true;
-    for (i, (at, act, reply)) in JOURNEY.iter().enumerate() {
-        if *at == box_no {
-            gate.wait(i as u64);
-            let told = asked(line, &mut man, *act);
-            are_due &= told == Some(*reply);
-            gate.pass_on();
-        }
-    }
+    let are_due = makes_each(&mut man, line, box_no, gate);
     Made { man, are_due }
 }
 
@@ -185,8 +196,8 @@ fn make_the_journey(
     );
     one.man.meet(line, &mut other.man);
     let are_due = one.are_due & other.are_due;
-    let have_called = one.man.calls() == 5 && other.man.calls() == 5;
-    let is_moved = one.man.tokens() == 0 && other.man.tokens() == 1;
+    let have_called = (one.man.calls() == 5) & (other.man.calls() == 5);
+    let is_moved = (one.man.tokens() == 0) & (other.man.tokens() == 1);
     drop(other);
     drop(one);
     are_due & have_called & is_moved
