@@ -2,7 +2,6 @@
 //! of what is owned, wherever a function may be left. So helpers compare and own little, each value ends in a `drop` of
 //! its own, and what holds is asserted here.
 
-use std::fmt::Debug;
 use std::process::Abort;
 
 /// Ends the test where a fact doesn't hold, and names it.
@@ -10,9 +9,19 @@ pub fn holds(rt: &impl Abort, fact: &str, is_so: bool) {
     assert!(rt; is_so, "not so: {fact}");
 }
 
-/// Ends the test where a case isn't as it is to be, and tells which.
-pub fn holds_of<T: Debug>(rt: &impl Abort, case: &T, is_so: bool) {
-    assert!(rt; is_so, "not so: {case:?}");
+/// Ends the test where a case is wrong, and names it.
+pub fn none_is_wrong(rt: &impl Abort, wrong: Option<&str>) {
+    assert!(rt; wrong.is_none(), "wrong: {wrong:?}");
+}
+
+/// The first of these facts that doesn't hold.
+pub fn first_untrue(facts: &[(&'static str, bool)]) -> Option<&'static str> {
+    for (fact, is_so) in facts {
+        if !*is_so {
+            return Some(fact);
+        }
+    }
+    None
 }
 
 /// Are these bytes a printed text?

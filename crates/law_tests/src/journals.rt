@@ -8,7 +8,7 @@ ghost use Rattle.line_report.specs.Asked.{AreAsked, AreFewEntries};
 ghost use Rattle.script_text.specs.Entries.{IsSpelled};
 
 use crate::chains::{chain, told_in_turn, worked_from_the_end};
-use crate::facts::holds;
+use crate::facts::{holds, none_is_wrong};
 use crate::lines::{absolute, in_seconds, permissive, upwards};
 use line_journal::{Merged, Walk, exchange_law, merge, merged, order_law, parts_law, reply_law};
 use line_law::{Entry, Journal};
@@ -17,7 +17,6 @@ use line_plan::Plan;
 use line_report::{Verdict, judge, read_journal};
 use rail_text::{NoMemory, ReadError};
 use std::alloc::Global;
-use std::process::Abort;
 use std::test::Fail;
 use train_register::Ended;
 
@@ -403,38 +402,66 @@ const A_TRAIN_THROUGH_THREE_BOXES: &str = "journal 1\n\
 60 Cedar 06:00 put 2 -> put\n\
 end\n";
 
-// Are these the entries that a walk has ahead?
-fn are_ahead(walk: Walk<'_>, entries: &[Entry]) -> bool {
-    let mut walk = walk;
-    for entry in entries {
-        match walk.next() {
-            Some(next) if *next == *entry => {}
-            _ => return false,
-        }
+// Is the next entry of a walk this one?
+fn is_next(walk: &mut Walk<'_>, entry: &Entry) -> bool {
+    match walk.next() {
+        Some(next) => *next == *entry,
+        None => false,
     }
-    walk.next().is_none()
+}
+
+// Are these the entries that a walk has ahead?
+fn are_ahead(walk: &mut Walk<'_>, entries: &[Entry]) -> bool {
+    let mut are_so = true;
+    for entry in entries {
+        are_so = is_next(walk, entry) & are_so;
+    }
+    are_so & walk.next().is_none()
+}
+
+// The same of a walk that ends here.
+fn walks(walk: Walk<'_>, entries: &[Entry]) -> bool {
+    let mut walk = walk;
+    let is_so = are_ahead(&mut walk, entries);
+    drop(walk);
+    is_so
 }
 
 // Are these the entries of a journal, gone along whole and in its front half?
 fn tells(alloc: Global, merged: &Merged<'_>, entries: &[Entry]) -> Result<bool, NoMemory> {
+    if entries.len() != merged.len() {
+        return Ok(false);
+    }
     let half = merged.len() / 2;
-    let whole = merged.walk(alloc)?;
-    let front = merged.walk_front(alloc, half)?;
-    Ok(
-        entries.len() == merged.len()
-            && are_ahead(whole, entries)
-            && are_ahead(front, &entries[..half]),
-    )
+    let whole = walks(merged.walk(alloc)?, entries);
+    let front = walks(merged.walk_front(alloc, half)?, &entries[..half]);
+    Ok(whole & front)
 }
 
-// Are the registers of a line that has ended merged into this journal?
-fn ends_as(alloc: Global, plan: &Plan, ended: &Ended, wanted: &Journal) -> Result<bool, NoMemory>
+// The same of a journal that ends here.
+fn told(alloc: Global, merged: Merged<'_>, entries: &[Entry]) -> Result<bool, NoMemory> {
+    let is_so = tells(alloc, &merged, entries);
+    drop(merged);
+    is_so
+}
+
+// Are the registers of a line that has ended merged into a journal of these entries?
+fn merges_to(alloc: Global, plan: &Plan, ended: &Ended, entries: &[Entry]) -> Result<bool, NoMemory>
     requires { HaveEnded plan.now ended.now.registers }
 {
     let journal = merge(alloc, plan, ended)?;
-    let merged = merged(alloc, plan, ended)?;
-    let entries = wanted.entries.as_slice();
-    Ok(journal.entries.as_slice() == entries && tells(alloc, &merged, entries)?)
+    let is_so = journal.entries.as_slice() == entries;
+    drop(journal);
+    Ok(is_so)
+}
+
+// The same, and are its entries told where its boxes are told?
+fn ends_as(alloc: Global, plan: &Plan, ended: &Ended, entries: &[Entry]) -> Result<bool, NoMemory>
+    requires { HaveEnded plan.now ended.now.registers }
+{
+    let is_merged = merges_to(alloc, plan, ended, entries)?;
+    let are_told = told(alloc, merged(alloc, plan, ended)?, entries)?;
+    Ok(is_merged & are_told)
 }
 
 // Are the registers of a legal history merged into this journal, and do they tell the history where its boxes are told?
@@ -449,8 +476,13 @@ fn merges_as(
 {
     let ended = Ended::of_journal(alloc, plan, worked)?;
     let entries = worked.entries.as_slice();
-    let again = Merged::of_parts(alloc, plan, ended.registers.as_slice(), entries)?;
-    Ok(tells(alloc, &again, entries)? && ends_as(alloc, plan, &ended, wanted)?)
+    let is_told = match Merged::of_parts(alloc, plan, ended.registers.as_slice(), entries) {
+        Ok(again) => told(alloc, again, entries),
+        Err(error) => Err(error),
+    };
+    let is_merged = ends_as(alloc, plan, &ended, wanted.entries.as_slice());
+    drop(ended);
+    Ok(is_told? & is_merged?)
 }
 
 /// Is a history legal, and are its registers merged into this journal?
@@ -491,51 +523,51 @@ fn merges(alloc: Global, plan: &Plan, worked: &str, wanted: &str) -> Result<bool
     is_so
 }
 
-// Each history of a table is merged as it was worked.
-fn each_stays(
-    rt: &impl Abort,
+// The first history of a table that isn't merged as it was worked.
+fn first_changed(
     alloc: Global,
     plan: &Plan,
-    table: &[&str],
-) -> Result<(), ReadError> {
-    for worked in table.iter() {
-        holds(rt, worked, merges(alloc, plan, worked, worked)?);
+    table: &[&'static str],
+) -> Result<Option<&'static str>, ReadError> {
+    for worked in table {
+        if !merges(alloc, plan, worked, worked)? {
+            return Ok(Some(worked));
+        }
     }
-    Ok(())
+    Ok(None)
 }
 
-// Each history of a table is merged into the journal beside it.
-fn each_merges(
-    rt: &impl Abort,
+// The first history of a table that isn't merged into the journal beside it.
+fn first_unmerged(
     alloc: Global,
     plan: &Plan,
-    table: &[(&str, &str)],
-) -> Result<(), ReadError> {
-    for (worked, wanted) in table.iter() {
-        holds(rt, worked, merges(alloc, plan, worked, wanted)?);
+    table: &[(&'static str, &'static str)],
+) -> Result<Option<&'static str>, ReadError> {
+    for (worked, wanted) in table {
+        if !merges(alloc, plan, worked, wanted)? {
+            return Ok(Some(worked));
+        }
     }
-    Ok(())
+    Ok(None)
 }
 
 #[test]
 fn a_down_line_is_merged(rt: HostRuntime) -> Result<(), Fail> {
     let plan = absolute(rt.alloc())?;
-    let stays = each_stays(&rt, rt.alloc(), &plan, &AS_WORKED);
-    let merged = each_merges(&rt, rt.alloc(), &plan, &ON_THE_DOWN_LINE);
+    let changed = first_changed(rt.alloc(), &plan, &AS_WORKED);
+    let unmerged = first_unmerged(rt.alloc(), &plan, &ON_THE_DOWN_LINE);
     drop(plan);
-    stays?;
-    merged?;
+    none_is_wrong(&rt, changed?.or(unmerged?));
     Ok(())
 }
 
 #[test]
 fn an_up_line_is_merged(rt: HostRuntime) -> Result<(), Fail> {
     let plan = upwards(rt.alloc())?;
-    let stays = each_stays(&rt, rt.alloc(), &plan, &[A_SECOND_CODE_IS_REFUSED]);
-    let merged = each_merges(&rt, rt.alloc(), &plan, &ON_THE_UP_LINE);
+    let changed = first_changed(rt.alloc(), &plan, &[A_SECOND_CODE_IS_REFUSED]);
+    let unmerged = first_unmerged(rt.alloc(), &plan, &ON_THE_UP_LINE);
     drop(plan);
-    stays?;
-    merged?;
+    none_is_wrong(&rt, changed?.or(unmerged?));
     Ok(())
 }
 
@@ -543,18 +575,18 @@ fn an_up_line_is_merged(rt: HostRuntime) -> Result<(), Fail> {
 fn a_permissive_line_is_merged(rt: HostRuntime) -> Result<(), Fail> {
     let plan = permissive(rt.alloc())?;
     let table = [TWO_LINE_CLEARS_ON_A_PERMISSIVE_LINE];
-    let stays = each_stays(&rt, rt.alloc(), &plan, &table);
+    let changed = first_changed(rt.alloc(), &plan, &table);
     drop(plan);
-    stays?;
+    none_is_wrong(&rt, changed?);
     Ok(())
 }
 
 #[test]
 fn a_line_in_seconds_is_merged(rt: HostRuntime) -> Result<(), Fail> {
     let plan = in_seconds(rt.alloc())?;
-    let stays = each_stays(&rt, rt.alloc(), &plan, &[A_RELEASE_IN_SECONDS]);
+    let changed = first_changed(rt.alloc(), &plan, &[A_RELEASE_IN_SECONDS]);
     drop(plan);
-    stays?;
+    none_is_wrong(&rt, changed?);
     Ok(())
 }
 
@@ -563,9 +595,9 @@ fn a_made_line_is_merged(rt: HostRuntime) -> Result<(), Fail> {
     let (plan, scripts) = make_line(rt.alloc(), 1)?;
     drop(scripts);
     let table = [A_TRAIN_THROUGH_THREE_BOXES, A_CODE_FROM_THE_LAST_BOX];
-    let stays = each_stays(&rt, rt.alloc(), &plan, &table);
+    let changed = first_changed(rt.alloc(), &plan, &table);
     drop(plan);
-    stays?;
+    none_is_wrong(&rt, changed?);
     Ok(())
 }
 

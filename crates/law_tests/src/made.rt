@@ -9,7 +9,6 @@ use plan_text::print_plan;
 use rail_text::NoMemory;
 use script_text::{Script, print_script};
 use std::alloc::Global;
-use std::process::Abort;
 use std::test::Fail;
 
 const PLAN_OF_ONE: &str = "plan 1\nboxes 3\ndelay 2\nlooks 1000000000\n\
@@ -64,31 +63,25 @@ fn is_printed(
     }
 }
 
-// Compares what is printed of a plan and its scripts with the texts of one train.
-fn are_of_one(
-    rt: &impl Abort,
-    alloc: Global,
-    plan: &Plan,
-    scripts: &[Script],
-) -> Result<(), NoMemory>
+// Are a plan and its scripts printed as the texts of one train?
+fn are_of_one(alloc: Global, plan: &Plan, scripts: &[Script]) -> Result<bool, NoMemory>
     requires { AreLineScripts plan.now scripts.now }
 {
     let printed = print_plan(alloc, plan)?;
-    holds(rt, "the plan of one train", is_text(printed, PLAN_OF_ONE));
+    let mut are_so = is_text(printed, PLAN_OF_ONE);
     for (box_no, text) in SCRIPTS_OF_ONE.iter().enumerate() {
-        holds(rt, text, is_printed(alloc, plan, scripts, box_no, text)?);
+        are_so = is_printed(alloc, plan, scripts, box_no, text)? & are_so;
     }
-    Ok(())
+    Ok(are_so)
 }
 
 #[test]
 fn one_train(rt: HostRuntime) -> Result<(), Fail> {
-    let alloc = rt.alloc();
-    let (plan, scripts) = make_line(alloc, 1)?;
-    let compared = are_of_one(&rt, alloc, &plan, &scripts);
+    let (plan, scripts) = make_line(rt.alloc(), 1)?;
+    let are_of_one = are_of_one(rt.alloc(), &plan, &scripts);
     drop(scripts);
     drop(plan);
-    compared?;
+    holds(&rt, "the plan and the scripts of one train", are_of_one?);
     Ok(())
 }
 
@@ -107,8 +100,11 @@ fn two_hundred_trains(rt: HostRuntime) -> Result<(), Fail> {
     let have_calls = have_calls(&scripts, [3200, 5600, 3200]);
     drop(scripts);
     drop(plan);
-    holds(&rt, "two hundred trains", are_trains);
-    holds(&rt, "their calls", have_calls);
+    holds(
+        &rt,
+        "two hundred trains and their calls",
+        are_trains & have_calls,
+    );
     Ok(())
 }
 

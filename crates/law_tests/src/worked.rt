@@ -1,12 +1,13 @@
 //! Two lines: the calls that they know, their section, and worked journals, with each reply, the trains that the
 //! section holds in the end, and the most that it held. What is printed of them is shown by the worked cases.
 
-ghost use Rattle.std.specs.Prelude.{◌↔◌, IsTrue};
+ghost use Rattle.std.specs.Prelude.{◌↔◌, All, IsTrue};
 ghost use Rattle.line_law.specs.Lines.{IsLineOf};
 ghost use Rattle.line_plan.specs.Sections.{IsSection};
-ghost use Rattle.line_report.specs.Asked.{AreFewEntries};
+ghost use Rattle.line_report.specs.Asked.{AreAsked, AreFewEntries};
+ghost use Rattle.script_text.specs.Entries.{IsSpelled};
 
-use crate::facts::{holds, holds_of};
+use crate::facts::{first_untrue, holds, none_is_wrong};
 use crate::journals::is_merged_as;
 use crate::lines::{absolute, permissive};
 use block_words::Way;
@@ -15,7 +16,6 @@ use line_plan::{Plan, Section};
 use line_report::{Verdict, judge, may_judge, most_trains, read_journal};
 use rail_text::{NoMemory, ReadError};
 use std::alloc::Global;
-use std::process::Abort;
 use std::test::Fail;
 
 const NO_CALL: &str = "journal 1\nend\n";
@@ -134,106 +134,138 @@ fn most_held(alloc: Global, plan: &Plan, journal: &Journal) -> Result<Option<u32
     }
 }
 
-// Makes these calls in turn on a line, and compares each reply with the one that stands beside it.
-fn perform_all(rt: &impl Abort, plan: &Plan, line: &mut Plain, entries: &[Entry])
+// Makes a call on a line, where it may be made. Are its answer and its reply the one that stands beside it?
+fn gets_reply(plan: &Plan, line: &mut Plain, entry: &Entry) -> bool
     requires { IsLineOf plan.now line.old }
     ensures { IsLineOf plan.now line.new }
 {
-    for entry in entries {
-        assert!(rt; line.calls() < 1000 && line.may_call(plan, entry.box_no, &entry.call));
-        let answer = line.answer(plan, entry.box_no, &entry.call);
-        let reply = line.perform(plan, entry.box_no, &entry.call);
-        holds_of(rt, entry, answer.is(&entry.reply) & reply.is(&entry.reply));
+    if line.calls() >= 1000 || !line.may_call(plan, entry.box_no, &entry.call) {
+        return false;
     }
-    assert!(rt; line.calls() == entries.len() as u64);
+    let answer = line.answer(plan, entry.box_no, &entry.call);
+    let reply = line.perform(plan, entry.box_no, &entry.call);
+    answer.is(&entry.reply) & reply.is(&entry.reply)
 }
 
-// Makes these calls on the line of a plan as it opens. Tells how many trains the section holds then.
-fn held_after(
-    rt: &impl Abort,
-    alloc: Global,
-    plan: &Plan,
-    entries: &[Entry],
-) -> Result<u32, NoMemory> {
+// Makes these calls in turn on a line. Are their answers and replies those that stand beside them?
+fn get_replies(plan: &Plan, line: &mut Plain, entries: &[Entry]) -> bool
+    requires { IsLineOf plan.now line.old }
+    ensures { IsLineOf plan.now line.new }
+{
+    let mut are_so = true;
+    for entry in entries {
+        are_so = gets_reply(plan, line, entry) & are_so;
+    }
+    are_so & (line.calls() == entries.len() as u64)
+}
+
+// Makes these calls on the line of a plan as it opens. Tells how many trains the section holds then, where each call is
+// answered so.
+fn held_after(alloc: Global, plan: &Plan, entries: &[Entry]) -> Result<Option<u32>, NoMemory> {
     plan.meets_conditions();
     let mut line = Plain::open(alloc, plan)?;
-    perform_all(rt, plan, &mut line, entries);
+    let are_so = get_replies(plan, &mut line, entries);
     let held = line.held(plan, DOWN);
     drop(line);
-    Ok(held)
+    Ok(if are_so { Some(held) } else { None })
 }
 
-// Makes the calls of the journal that a text spells. The section then holds so many trains, and held so many at most;
-// and the journal is merged again from its registers.
-fn works(
-    rt: &impl Abort,
+// Makes the calls of a journal. Does the section then hold so many trains, held it so many at most, and is the journal
+// merged again from its registers?
+fn is_worked(
     alloc: Global,
     plan: &Plan,
-    text: &str,
+    journal: &Journal,
     held: u32,
     most: u32,
-) -> Result<(), ReadError> {
+) -> Result<bool, NoMemory>
+    requires asked { AreAsked plan.now journal.now.entries }
+    requires few { AreFewEntries journal.now.entries }
+    requires spelled { All (IsSpelled plan.now) journal.now.entries }
+{
+    let in_the_end = held_after(alloc, plan, journal.entries.as_slice())?;
+    let at_most = most_held(alloc, plan, journal)?;
+    let is_merged = is_merged_as(alloc, plan, journal, journal)?;
+    Ok((in_the_end == Some(held)) & (at_most == Some(most)) & is_merged)
+}
+
+// The same of the journal that a text spells.
+fn works(alloc: Global, plan: &Plan, text: &str, held: u32, most: u32) -> Result<bool, ReadError> {
     let journal = read_journal(alloc, plan, text.as_bytes())?;
-    let in_the_end = held_after(rt, alloc, plan, journal.entries.as_slice());
-    let at_most = most_held(alloc, plan, &journal);
-    let is_merged = is_merged_as(alloc, plan, &journal, &journal);
+    let is_so = is_worked(alloc, plan, &journal, held, most);
     drop(journal);
-    holds(rt, text, in_the_end? == held && at_most? == Some(most));
-    holds(rt, text, is_merged?);
-    Ok(())
+    Ok(is_so?)
 }
 
-// The journals of an absolute line.
-fn each_works(rt: &impl Abort, alloc: Global, plan: &Plan) -> Result<(), ReadError> {
-    let table = [
-        (NO_CALL, 0, 0),
-        (SECOND_CODE_WHILE_THE_FIRST_IS_UNHEARD, 0, 0),
-        (A_TRAIN_GOES_THROUGH, 0, 1),
-        (A_DIVIDED_TRAIN, 1, 3),
-        (ONE_TRAIN_ON_AN_ABSOLUTE_LINE, 1, 1),
-    ];
-    for (journal, held, most) in table {
-        works(rt, alloc, plan, journal, held, most)?;
+// The journals of an absolute line, with the trains that its section holds in the end, and the most that it held.
+const ON_AN_ABSOLUTE_LINE: [(&str, u32, u32); 5] = [
+    (NO_CALL, 0, 0),
+    (SECOND_CODE_WHILE_THE_FIRST_IS_UNHEARD, 0, 0),
+    (A_TRAIN_GOES_THROUGH, 0, 1),
+    (A_DIVIDED_TRAIN, 1, 3),
+    (ONE_TRAIN_ON_AN_ABSOLUTE_LINE, 1, 1),
+];
+
+// The first of them that isn't worked so.
+fn first_unworked(alloc: Global, plan: &Plan) -> Result<Option<&'static str>, ReadError> {
+    for (journal, held, most) in &ON_AN_ABSOLUTE_LINE {
+        if !works(alloc, plan, journal, *held, *most)? {
+            return Ok(Some(journal));
+        }
     }
-    Ok(())
+    Ok(None)
 }
 
-// The calls that a plan knows: at its first moment, and in the last of a day and behind it.
-fn knows_calls(rt: &impl Abort, plan: &Plan) {
-    let (up, down) = (Way::Up, Way::Down);
-    let table = [
-        (0, 0, Act::Pull { lever: 8 }, true),
-        (0, 0, Act::Pull { lever: 9 }, false),
-        (0, 0, Act::Put { lever: 0 }, false),
-        (0, 0, Act::Pass { lever: 8 }, true),
-        (0, 0, Act::Overrun { lever: 1 }, false),
-        (0, 0, Act::Bring { train: 6 }, true),
-        (0, 0, Act::Bring { train: 7 }, false),
-        (0, 0, Act::Bring { train: 0 }, false),
-        (1, 0, Act::Bring { train: 1 }, false),
-        (1, 0, Act::Berth { way: down }, true),
-        (1, 0, Act::Wind { way: up }, false),
-        (0, 0, Act::AwaitTrain { way: up }, false),
-        (0, 0, Act::Hear { side: up }, false),
-        (2, 0, Act::Hear { side: up }, false),
-        (0, 1439, Act::Hear { side: down }, true),
-        (0, 1440, Act::Hear { side: down }, false),
-    ];
-    for (box_no, moment, act, wanted) in table {
-        let call = Call { moment, act };
-        holds_of(rt, &call, knows(plan, box_no, &call) == wanted);
+const UP: Way = Way::Up;
+
+// Calls of boxes, and whether the plan of an absolute line knows them: at its first moment, and in the last of a day and
+// behind it.
+const CALLS: [(u32, u32, Act, bool); 16] = [
+    (0, 0, Act::Pull { lever: 8 }, true),
+    (0, 0, Act::Pull { lever: 9 }, false),
+    (0, 0, Act::Put { lever: 0 }, false),
+    (0, 0, Act::Pass { lever: 8 }, true),
+    (0, 0, Act::Overrun { lever: 1 }, false),
+    (0, 0, Act::Bring { train: 6 }, true),
+    (0, 0, Act::Bring { train: 7 }, false),
+    (0, 0, Act::Bring { train: 0 }, false),
+    (1, 0, Act::Bring { train: 1 }, false),
+    (1, 0, Act::Berth { way: Way::Down }, true),
+    (1, 0, Act::Wind { way: UP }, false),
+    (0, 0, Act::AwaitTrain { way: UP }, false),
+    (0, 0, Act::Hear { side: UP }, false),
+    (2, 0, Act::Hear { side: UP }, false),
+    (0, 1439, Act::Hear { side: Way::Down }, true),
+    (0, 1440, Act::Hear { side: Way::Down }, false),
+];
+
+// Does a plan know a call of a box?
+fn knows_call(plan: &Plan, box_no: u32, moment: u32, act: Act) -> bool {
+    let call = Call { moment, act };
+    knows(plan, box_no, &call)
+}
+
+// Does it know those of the table that it is to know?
+fn knows_calls(plan: &Plan) -> bool {
+    let mut are_so = true;
+    for (box_no, moment, act, wanted) in &CALLS {
+        are_so = are_so & (knows_call(plan, *box_no, *moment, *act) == *wanted);
     }
+    are_so
 }
 
 #[test]
 fn an_absolute_line_is_worked(rt: HostRuntime) -> Result<(), Fail> {
     let plan = absolute(rt.alloc())?;
-    knows_calls(&rt, &plan);
+    let knows_calls = knows_calls(&plan);
     let is_section = comes_to_beech(&plan, 1);
-    let worked = each_works(&rt, rt.alloc(), &plan);
+    let unworked = first_unworked(rt.alloc(), &plan);
     drop(plan);
-    holds(&rt, "a section of one train", is_section);
-    worked?;
+    let facts = [
+        ("the calls that it knows", knows_calls),
+        ("a section of one train", is_section),
+    ];
+    none_is_wrong(&rt, first_untrue(&facts).or(unworked?));
     Ok(())
 }
 
@@ -241,16 +273,9 @@ fn an_absolute_line_is_worked(rt: HostRuntime) -> Result<(), Fail> {
 fn a_permissive_line_is_worked(rt: HostRuntime) -> Result<(), Fail> {
     let plan = permissive(rt.alloc())?;
     let is_section = comes_to_beech(&plan, 2);
-    let worked = works(
-        &rt,
-        rt.alloc(),
-        &plan,
-        TWO_TRAINS_ON_A_PERMISSIVE_LINE,
-        2,
-        2,
-    );
+    let text = TWO_TRAINS_ON_A_PERMISSIVE_LINE;
+    let is_worked = works(rt.alloc(), &plan, text, 2, 2);
     drop(plan);
-    holds(&rt, "a section of two trains", is_section);
-    worked?;
+    holds(&rt, "a section of two trains", is_section & is_worked?);
     Ok(())
 }
