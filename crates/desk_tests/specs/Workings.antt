@@ -6,7 +6,7 @@ use Rattle.line_law.specs.History.{IsLegal, state_of}
 use Rattle.line_law.specs.Lines.{IsLineOf, PlainState}
 use Rattle.line_law.specs.States.{no_state}
 use Rattle.box_desk.specs.Desks.{DeskFields}
-use Rattle.desk_tests.specs.declared.line.DeskLine.{DeskLine}
+use Rattle.desk_tests.specs.declared.desk_line.DeskLine.{DeskLine}
 use Rattle.desk_tests.specs.DeskLines.{HoldNumbers, IsDeskAfter}
 
 -- the desk of no box

@@ -2,13 +2,20 @@
 //! one hand. And tests of the signalmen of a line, one call after another and on threads of their own.
 #![tactic(auto)]
 
+pub mod desk_line;
+#[cfg(test)]
 pub mod endings;
 #[cfg(test)]
 mod facts;
+#[cfg(test)]
 pub mod hands;
+#[cfg(test)]
 pub mod line;
+#[cfg(test)]
 pub mod operations;
+#[cfg(test)]
 pub mod pull;
 #[cfg(test)]
 mod tests;
+#[cfg(test)]
 pub mod work;

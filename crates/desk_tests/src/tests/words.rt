@@ -2,8 +2,9 @@
 
 ghost use Rattle.desk_tests.specs.Workings.{IsWorked};
 
+use crate::desk_line::DeskLine;
 use crate::facts::holds;
-use crate::line::DeskLine;
+use crate::line::open;
 use crate::pull::pull_first;
 use crate::tests::plans::ABSOLUTE;
 use crate::work::Worked;
@@ -61,7 +62,7 @@ fn gives_line_clear(line: &mut DeskLine, plan: &Plan) -> bool
 
 // The same on the line as it opens.
 fn line_clear_is_given(alloc: Global, plan: &Plan) -> Result<bool, NoMemory> {
-    let mut line = DeskLine::open(alloc, plan)?;
+    let mut line = open(alloc, plan)?;
     let is_given = gives_line_clear(&mut line, plan);
     drop(line);
     Ok(is_given)

@@ -3,7 +3,7 @@
 
 use crate::facts::holds;
 use crate::hands::are_performed;
-use crate::line::DeskLine;
+use crate::line::open;
 use crate::tests::journals::{
     ON_A_LONG_LINE, ON_A_MADE_LINE, ON_A_PERMISSIVE_LINE, ON_AN_ABSOLUTE_LINE,
     ON_AN_ABSOLUTE_LINE_IN_SECONDS, ON_BELLS, ON_BELLS_AFTER_ONE_LOOK, ON_BELLS_IN_SECONDS,
@@ -25,7 +25,7 @@ use std::test::Fail;
 
 // Makes the calls of entries on the line of a plan as it opens. Do all get their replies?
 fn are_repeated(alloc: Global, plan: &Plan, entries: &[Entry]) -> Result<bool, NoMemory> {
-    let mut line = DeskLine::open(alloc, plan)?;
+    let mut line = open(alloc, plan)?;
     let are_so = line.repeats_all(plan, entries);
     drop(line);
     Ok(are_so)

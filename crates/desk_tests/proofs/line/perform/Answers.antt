@@ -3,11 +3,11 @@ use Rattle.std.proofs.lemmas.List.{with_items_is}
 use Rattle.desk_tests.specs.DeskLines.{HoldNumbers, then_called}
 use Rattle.desk_tests.specs.Workings.{IsAfter}
 use Rattle.desk_tests.proofs.Lines.{alike, desk_read, goes_on, in_desks, ready}
-use Rattle.desk_tests.proofs.line.DeskLine.perform.Goals as goal
+use Rattle.desk_tests.proofs.line.perform.Goals as goal
 
 pub index_mut-desk-requires : goal.index_mut-desk-requires
 index_mut-desk-requires c =
-    let line = c.args.self.now in
+    let line = c.args.line.now in
     let w = c.requires.worked in
     let there = in_desks c.args.plan.now w.0 line.boxes line.desks.items line.words.items line.plain c.args.box_no
     c.args.call.now c.meets_conditions.ensures w.1 c.requires.call c.requires.few in
@@ -16,7 +16,7 @@ index_mut-desk-requires c =
 
 pub work-by_desk-requires : goal.work-by_desk-requires
 work-by_desk-requires c =
-    let line = c.args.self.now in
+    let line = c.args.line.now in
     let w = c.requires.worked in (
       c.args.plan.now,
       w.0,
@@ -32,7 +32,7 @@ work-by_desk-requires c =
 pub returns-clause-worked : goal.returns-clause-worked
 returns-clause-worked c =
     let plan = c.args.plan.now in
-    let line = c.args.self.now in
+    let line = c.args.line.now in
     let w = c.requires.worked in
     let may_follow = ready plan w.0 line.boxes line.desks.items line.words.items line.plain c.args.box_no
     c.args.call.now c.meets_conditions.ensures w.1 c.requires.call c.requires.few in
@@ -57,7 +57,7 @@ returns-clause-worked c =
 pub returns-clause-alike : goal.returns-clause-alike
 returns-clause-alike c =
     let plan = c.args.plan.now in
-    let line = c.args.self.now in
+    let line = c.args.line.now in
     let w = c.requires.worked in
     let may_follow = ready plan w.0 line.boxes line.desks.items line.words.items line.plain c.args.box_no
     c.args.call.now c.meets_conditions.ensures w.1 c.requires.call c.requires.few in
