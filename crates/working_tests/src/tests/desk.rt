@@ -1,10 +1,14 @@
 //! The line of the tests, what its men have told, and the one assertion.
 
+ghost use Rattle.working_tests.specs.Scripts.{AreForBoxes};
+
 use crate::line::{read_scripts, worked};
 use line_law::{Entry, Reply};
+use line_plan::Plan;
 use line_working::Gate;
 use plan_text::read_plan;
-use rail_text::ReadError;
+use rail_text::{NoMemory, ReadError};
+use script_text::Script;
 use signalman_seats::Signalman;
 use std::alloc::Global;
 use std::process::Abort;
@@ -20,7 +24,7 @@ pub fn holds(rt: &impl Abort, fact: &str, is_so: bool) {
 }
 
 // Are the replies of these entries these?
-fn are_told(entries: &[Entry], replies: &[Reply]) -> bool {
+fn are_entries(entries: &[Entry], replies: &[Reply]) -> bool {
     entries.len() == replies.len()
         && entries
             .iter()
@@ -34,7 +38,42 @@ fn have_told(men: &[Signalman], replies: &[&[Reply]]) -> bool {
         && men
             .iter()
             .zip(replies)
-            .all(|(man, told)| are_told(man.entries(), told))
+            .all(|(man, told)| are_entries(man.entries(), told))
+}
+
+// Works scripts of a plan's boxes, with three looks an await. Do the men have these replies?
+fn are_told_by<R: Threads + Wait + Sync, G: Gate>(
+    rt: &R,
+    alloc: Global,
+    plan: &Plan,
+    scripts: &[Script],
+    gate: &G,
+    replies: &[&[Reply]],
+) -> Result<bool, NoMemory>
+    requires { AreForBoxes plan.now scripts.now }
+{
+    let men = worked(rt, alloc, plan, scripts, 3, gate)?;
+    let are_so = have_told(&men, replies);
+    drop(men);
+    Ok(are_so)
+}
+
+// The same of the scripts that texts spell.
+fn are_told<R: Threads + Wait + Sync, G: Gate>(
+    rt: &R,
+    alloc: Global,
+    plan: &Plan,
+    texts: &[&str],
+    gate: &G,
+    replies: &[&[Reply]],
+) -> Result<bool, ReadError> {
+    if texts.len() != plan.boxes.len() {
+        return Ok(false);
+    }
+    let scripts = read_scripts(alloc, plan, texts)?;
+    let are_so = are_told_by(rt, alloc, plan, &scripts, gate, replies);
+    drop(scripts);
+    Ok(are_so?)
 }
 
 /// Works scripts of the two boxes, with three looks an await. Do the men have these replies?
@@ -50,15 +89,7 @@ pub fn are_replies<R: Threads + Wait + Sync, G: Gate>(
     replies: &[&[Reply]],
 ) -> Result<bool, ReadError> {
     let plan = read_plan(alloc, BELLS.as_bytes())?;
-    if texts.len() != plan.boxes.len() {
-        drop(plan);
-        return Ok(false);
-    }
-    let scripts = read_scripts(alloc, &plan, texts)?;
-    let men = worked(rt, alloc, &plan, &scripts, 3, gate)?;
-    let are_so = have_told(&men, replies);
-    drop(men);
-    drop(scripts);
+    let are_so = are_told(rt, alloc, &plan, texts, gate, replies);
     drop(plan);
-    Ok(are_so)
+    are_so
 }
