@@ -2,8 +2,11 @@
 //! line.
 #![tactic(auto)]
 
+#[cfg(test)]
 pub mod busy;
+#[cfg(test)]
 pub mod line;
+#[cfg(test)]
 pub mod shown;
 #[cfg(test)]
 mod tests;
