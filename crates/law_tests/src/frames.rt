@@ -1,16 +1,16 @@
 //! The lever frame of a box: what its levers are answered, and how they and their arms move.
 
-ghost use Rattle.std.specs.Prelude.{◌≡◌, length};
+ghost use Rattle.std.specs.Prelude.{◌≡◌, ◌<◌, length};
 ghost use Rattle.line_law.specs.Sound.{IsSound};
 ghost use Rattle.lever_frame.specs.LeverFrames.{IsFrameOf};
 
-use crate::facts::{first_untrue, none_is_wrong};
+use crate::facts::holds;
 use crate::lines::absolute;
 use lever_frame::{LeverFrame, LeverReply, answer_law, frame_law};
 use line_plan::{BoxPlan, Plan};
 use locking_table::End;
-use rail_text::NoMemory;
 use std::alloc::Global;
+use std::process::Abort;
 use std::test::Fail;
 use track_circuits::Tracks;
 
@@ -72,14 +72,15 @@ fn first_box(plan: &Plan) -> &BoxPlan
     &plan.boxes.as_slice()[0]
 }
 
-// Pulls a lever, or puts it back; nothing is answered where the frame has none of this number.
+// Pulls a lever, or puts it back.
 fn work(
+    rt: &impl Abort,
     plan: &BoxPlan,
     frame: &mut LeverFrame,
     tracks: &Tracks,
     lever: u32,
     pulls: bool,
-) -> Option<LeverReply>
+) -> LeverReply
     requires sound { IsSound plan.now }
     requires frame { IsFrameOf plan.now frame.old }
     requires tracks { length tracks.now ≡ length plan.now.places }
@@ -87,168 +88,138 @@ fn work(
 {
     answer_law();
     frame_law();
-    if lever < 1 || plan.frame_size() < lever {
-        return None;
-    }
+    assert!(rt; 1 <= lever && lever <= plan.frame_size());
     if pulls {
-        Some(frame.pull_local(lever, tracks))
+        frame.pull_local(lever, tracks)
     } else {
-        Some(frame.put_local(lever, tracks))
+        frame.put_local(lever, tracks)
     }
 }
 
-// Works the levers of a frame in turn. The first move that isn't answered so.
+// Works the levers of a frame in turn.
 fn work_all(
+    rt: &impl Abort,
     plan: &BoxPlan,
     frame: &mut LeverFrame,
     tracks: &Tracks,
     moves: &[Move],
-) -> Option<&'static str>
+)
     requires sound { IsSound plan.now }
     requires frame { IsFrameOf plan.now frame.old }
     requires tracks { length tracks.now ≡ length plan.now.places }
 {
     for (name, pulls, lever, wanted) in moves {
-        if work(plan, frame, tracks, *lever, *pulls) != Some(*wanted) {
-            return Some(name);
-        }
+        let reply = work(rt, plan, frame, tracks, *lever, *pulls);
+        holds(rt, name, reply == *wanted);
     }
-    None
 }
 
-// The same of a new frame.
-fn work_new(
-    alloc: Global,
-    plan: &BoxPlan,
-    tracks: &Tracks,
-    moves: &[Move],
-) -> Result<Option<&'static str>, NoMemory>
+// Works the levers of a new frame in turn.
+fn work_new(rt: &impl Abort, alloc: Global, plan: &BoxPlan, tracks: &Tracks, moves: &[Move])
     requires sound { IsSound plan.now }
     requires tracks { length tracks.now ≡ length plan.now.places }
 {
-    let mut frame = LeverFrame::new(alloc, plan)?;
-    let wrong = work_all(plan, &mut frame, tracks, moves);
+    let mut frame = LeverFrame::new(alloc, plan).expect(rt, "memory");
+    work_all(rt, plan, &mut frame, tracks, moves);
     drop(frame);
-    Ok(wrong)
 }
 
 // Does a lever stand reversed, and is its arm off?
-fn state(plan: &BoxPlan, frame: &LeverFrame, lever: u32) -> Option<(bool, bool)>
+fn state(rt: &impl Abort, plan: &BoxPlan, frame: &LeverFrame, lever: u32) -> (bool, bool)
     requires { IsFrameOf plan.now frame.now }
 {
-    if lever < 1 || plan.frame_size() < lever {
-        return None;
-    }
-    Some((frame.end(lever) == End::Reversed, frame.arm_off(lever)))
+    assert!(rt; 1 <= lever && lever <= plan.frame_size());
+    (frame.end(lever) == End::Reversed, frame.arm_off(lever))
 }
 
-// A train passes the signal of a lever, if the frame has one of this number.
-fn pass(plan: &BoxPlan, frame: &mut LeverFrame, lever: u32)
+// A train passes the signal of a lever.
+fn pass(rt: &impl Abort, plan: &BoxPlan, frame: &mut LeverFrame, lever: u32)
     requires { IsFrameOf plan.now frame.old }
     ensures { IsFrameOf plan.now frame.new }
 {
     frame_law();
-    if lever < 1 || plan.frame_size() < lever {
-        return;
-    }
+    assert!(rt; 1 <= lever && lever <= plan.frame_size());
     frame.passed(lever);
 }
 
 // What would a pull be answered?
-fn tested(plan: &BoxPlan, frame: &LeverFrame, tracks: &Tracks, lever: u32) -> Option<LeverReply>
+fn tested(
+    rt: &impl Abort,
+    plan: &BoxPlan,
+    frame: &LeverFrame,
+    tracks: &Tracks,
+    lever: u32,
+) -> LeverReply
     requires sound { IsSound plan.now }
     requires frame { IsFrameOf plan.now frame.now }
     requires tracks { length tracks.now ≡ length plan.now.places }
 {
     answer_law();
-    if lever < 1 || plan.frame_size() < lever {
-        return None;
-    }
-    Some(frame.pull_test(lever, tracks))
+    assert!(rt; 1 <= lever && lever <= plan.frame_size());
+    frame.pull_test(lever, tracks)
 }
 
-// The arm of a starter goes off, then to danger; points have none. The first of these facts that doesn't hold.
-fn move_arms(plan: &BoxPlan, frame: &mut LeverFrame, tracks: &Tracks) -> Option<&'static str>
+// The arm of a starter goes off, then to danger; points have none.
+fn move_arms(rt: &impl Abort, plan: &BoxPlan, frame: &mut LeverFrame, tracks: &Tracks)
     requires sound { IsSound plan.now }
     requires frame { IsFrameOf plan.now frame.old }
     requires tracks { length tracks.now ≡ length plan.now.places }
 {
-    let tested = tested(plan, frame, tracks, 8);
-    let untouched = state(plan, frame, 8) == Some((false, false));
-    let starter = work(plan, frame, tracks, 8, true);
-    let off = state(plan, frame, 8) == Some((true, true));
-    pass(plan, frame, 8);
-    let passed = state(plan, frame, 8) == Some((true, false));
-    let points = work(plan, frame, tracks, 5, true);
-    let without_arm = state(plan, frame, 5) == Some((true, false));
-    let bridles = frame.bridles().len();
-    first_untrue(&[
-        ("a test moves nothing", untouched),
-        (
-            "the test says what the pull says",
-            tested.is_some() & (tested == starter),
-        ),
-        ("the starter's arm is off", off),
-        ("a train passed it", passed),
-        ("points are pulled", points == Some(FREE)),
-        ("points have no arm", without_arm),
-        ("three bridles", bridles == 3),
-    ])
+    let tested = tested(rt, plan, frame, tracks, 8);
+    let untouched = state(rt, plan, frame, 8);
+    let starter = work(rt, plan, frame, tracks, 8, true);
+    let off = state(rt, plan, frame, 8);
+    pass(rt, plan, frame, 8);
+    let passed = state(rt, plan, frame, 8);
+    let points = work(rt, plan, frame, tracks, 5, true);
+    let without_arm = state(rt, plan, frame, 5);
+    holds(rt, "a test moves nothing", untouched == (false, false));
+    holds(rt, "the test says what the pull says", tested == starter);
+    holds(rt, "the starter's arm is off", off == (true, true));
+    holds(rt, "a train passed it", passed == (true, false));
+    holds(rt, "points are pulled", points == FREE);
+    holds(rt, "points have no arm", without_arm == (true, false));
+    holds(rt, "three bridles", frame.bridles().len() == 3);
 }
 
 // The same of a new frame.
-fn move_new_arms(
-    alloc: Global,
-    plan: &BoxPlan,
-    tracks: &Tracks,
-) -> Result<Option<&'static str>, NoMemory>
+fn move_new_arms(rt: &impl Abort, alloc: Global, plan: &BoxPlan, tracks: &Tracks)
     requires sound { IsSound plan.now }
     requires tracks { length tracks.now ≡ length plan.now.places }
 {
-    let mut frame = LeverFrame::new(alloc, plan)?;
-    let wrong = move_arms(plan, &mut frame, tracks);
+    let mut frame = LeverFrame::new(alloc, plan).expect(rt, "memory");
+    move_arms(rt, plan, &mut frame, tracks);
     drop(frame);
-    Ok(wrong)
 }
 
-// The frames of a box: with every place empty, and then with the third train on the second place.
-fn work_frames(
-    alloc: Global,
-    plan: &BoxPlan,
-    tracks: &mut Tracks,
-) -> Result<Option<&'static str>, NoMemory>
-    requires sound { IsSound plan.now }
-    requires two { length plan.now.places ≡ 2 }
-    requires tracks { length tracks.old ≡ 2 }
+// A train comes to stand at an empty place.
+fn enter(rt: &impl Abort, tracks: &mut Tracks, place: u32, train: u32)
+    requires { place < length tracks.old }
+    ensures { length tracks.new ≡ length tracks.old }
 {
-    let one = work_new(alloc, plan, tracks, &ONE_LOCKS_THE_OTHER)?;
-    let both = work_new(alloc, plan, tracks, &BOTH_WAYS)?;
-    let when = work_new(alloc, plan, tracks, &WHEN_ANOTHER_IS_REVERSED)?;
-    let arms = move_new_arms(alloc, plan, tracks)?;
-    let is_empty = tracks.enter(1, 3).is_ok();
-    let held = work_new(alloc, plan, tracks, &WITH_A_TRAIN)?;
-    let entered = first_untrue(&[("the place is empty", is_empty)]);
-    Ok(one.or(both).or(when).or(arms).or(entered).or(held))
+    let entered = tracks.enter(place, train);
+    holds(rt, "the place is empty", entered.is_ok());
 }
 
-// The same with places of their own.
-fn work_box(alloc: Global, plan: &BoxPlan) -> Result<Option<&'static str>, NoMemory>
+// The frames of a box.
+fn work_box(rt: &impl Abort, alloc: Global, plan: &BoxPlan)
     requires { IsSound plan.now }
 {
-    if plan.places.len() != 2 {
-        return Ok(Some("the box has two places"));
-    }
-    let mut tracks = Tracks::new(alloc, 2)?;
-    let wrong = work_frames(alloc, plan, &mut tracks);
+    assert!(rt; plan.places.len() == 2);
+    let mut tracks = Tracks::new(alloc, 2).expect(rt, "memory");
+    work_new(rt, alloc, plan, &tracks, &ONE_LOCKS_THE_OTHER);
+    work_new(rt, alloc, plan, &tracks, &BOTH_WAYS);
+    work_new(rt, alloc, plan, &tracks, &WHEN_ANOTHER_IS_REVERSED);
+    move_new_arms(rt, alloc, plan, &tracks);
+    enter(rt, &mut tracks, 1, 3);
+    work_new(rt, alloc, plan, &tracks, &WITH_A_TRAIN);
     drop(tracks);
-    wrong
 }
 
 #[test]
 fn levers_of_a_box_are_worked(rt: HostRuntime) -> Result<(), Fail> {
     let plan = absolute(rt.alloc())?;
-    let wrong = work_box(rt.alloc(), first_box(&plan));
+    work_box(&rt, rt.alloc(), first_box(&plan));
     drop(plan);
-    none_is_wrong(&rt, wrong?);
     Ok(())
 }
