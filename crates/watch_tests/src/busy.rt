@@ -1,7 +1,7 @@
 //! A busy line of 32 boxes, worked without an await: each man turns his instruments and pulls his starters over and
 //! over.
 
-ghost use Rattle.std.specs.Prelude.{◌≡◌, ◌<◌, [], IfOk, length};
+ghost use Rattle.std.specs.Prelude.{◌<◌, IfOk, length};
 ghost use Rattle.line_maker.specs.MadeCalls.{AreLineScripts};
 ghost use Rattle.script_text.specs.Scripts.{IsScriptOf};
 
@@ -55,13 +55,8 @@ fn put_plan(text: &mut String) -> Result<(), AllocError> {
 
 fn plan_text(alloc: Global) -> Result<String, NoMemory> {
     let mut text = String::new(alloc);
-    match put_plan(&mut text) {
-        Ok(()) => Ok(text),
-        Err(AllocError) => {
-            drop(text);
-            Err(NoMemory)
-        }
-    }
+    put_plan(&mut text)?;
+    Ok(text)
 }
 
 /// The plan of the line.
@@ -96,13 +91,8 @@ fn script_text(alloc: Global, plan: &Plan, box_no: u32, times: u32) -> Result<St
     requires { box_no < length plan.now.boxes }
 {
     let mut text = String::new(alloc);
-    match put_script(&mut text, plan, box_no, times) {
-        Ok(()) => Ok(text),
-        Err(AllocError) => {
-            drop(text);
-            Err(NoMemory)
-        }
-    }
+    put_script(&mut text, plan, box_no, times)?;
+    Ok(text)
 }
 
 // The script of a box that does this so many times.
@@ -116,24 +106,6 @@ fn script_of(alloc: Global, plan: &Plan, box_no: u32, times: u32) -> Result<Scri
     script
 }
 
-// Puts the scripts of the boxes of a plan into a list that is empty.
-fn push_scripts(
-    scripts: &mut Vec<Script>,
-    alloc: Global,
-    plan: &Plan,
-    times: u32,
-) -> Result<(), ReadError>
-    requires none { scripts.old.items ≡ [] }
-    ensures { IfOk result (λ done. AreLineScripts plan.now scripts.new.items) }
-{
-    plan.meets_conditions();
-    for box_no in 0..plan.boxes.len() as u32 {
-        let script = script_of(alloc, plan, box_no, times)?;
-        scripts.push(script)?;
-    }
-    Ok(())
-}
-
 /// The scripts of the boxes of a plan, in each of which this is done so many times; none of them has a call where that
 /// is 0.
 ///
@@ -143,12 +115,11 @@ fn push_scripts(
 pub fn busy_scripts(alloc: Global, plan: &Plan, times: u32) -> Result<Vec<Script>, ReadError>
     ensures { IfOk result (λ scripts. AreLineScripts plan.now scripts.items) }
 {
+    plan.meets_conditions();
     let mut scripts = Vec::new(alloc);
-    match push_scripts(&mut scripts, alloc, plan, times) {
-        Ok(()) => Ok(scripts),
-        Err(error) => {
-            drop(scripts);
-            Err(error)
-        }
+    for box_no in 0..plan.boxes.len() as u32 {
+        let script = script_of(alloc, plan, box_no, times)?;
+        scripts.push(script)?;
     }
+    Ok(scripts)
 }

@@ -1,7 +1,6 @@
 //! A line that is opened, and worked by scripts behind a gate.
 
-ghost use Rattle.std.specs.Prelude.{◌≡◌, ◌<◌, ◌≤◌, [], IfOk, length, replicate};
-ghost use Rattle.script_text.specs.Scripts.{IsScriptOf};
+ghost use Rattle.std.specs.Prelude.{◌≡◌, ◌≤◌, IfOk, length, replicate};
 ghost use Rattle.signalman_seats.specs.Lines.{AreFresh};
 ghost use Rattle.working_tests.specs.Scripts.{AreForBoxes};
 
@@ -15,34 +14,6 @@ use std::alloc::Global;
 use std::sync::Wait;
 use std::thread::Threads;
 
-// The script of a box, as a text spells it.
-fn script_of(alloc: Global, plan: &Plan, box_no: u32, text: &str) -> Result<Script, ReadError>
-    requires { box_no < length plan.now.boxes }
-    ensures { IfOk result (λ script. IsScriptOf plan.now box_no script) }
-{
-    read_script(alloc, plan, box_no, text.as_bytes())
-}
-
-// Puts the scripts of a line's boxes, in order, as texts spell them, into a list that is empty.
-fn push_scripts(
-    scripts: &mut Vec<Script>,
-    alloc: Global,
-    plan: &Plan,
-    texts: &[&str],
-) -> Result<(), ReadError>
-    requires none { scripts.old.items ≡ [] }
-    requires texts { length texts.now ≡ length plan.now.boxes }
-    ensures { IfOk result (λ done. AreForBoxes plan.now scripts.new.items) }
-{
-    plan.meets_conditions();
-    for text in texts {
-        let box_no = scripts.len() as u32;
-        let script = script_of(alloc, plan, box_no, text)?;
-        scripts.push(script)?;
-    }
-    Ok(())
-}
-
 /// The scripts of a line's boxes, in order, as texts spell them.
 ///
 /// # Errors
@@ -52,14 +23,14 @@ pub fn read_scripts(alloc: Global, plan: &Plan, texts: &[&str]) -> Result<Vec<Sc
     requires { length texts.now ≡ length plan.now.boxes }
     ensures { IfOk result (λ scripts. AreForBoxes plan.now scripts.items) }
 {
+    plan.meets_conditions();
     let mut scripts = Vec::new(alloc);
-    match push_scripts(&mut scripts, alloc, plan, texts) {
-        Ok(()) => Ok(scripts),
-        Err(error) => {
-            drop(scripts);
-            Err(error)
-        }
+    for text in texts {
+        let box_no = scripts.len() as u32;
+        let script = read_script(alloc, plan, box_no, text.as_bytes())?;
+        scripts.push(script)?;
     }
+    Ok(scripts)
 }
 
 /// A line of a plan with its men, each with room for as many entries as a script may have calls.

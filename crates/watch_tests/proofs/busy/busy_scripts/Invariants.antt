@@ -1,7 +1,7 @@
 use Rattle.std.proofs.Common.{◌≡◌, ℕ, Some, length, slice_get}
 use Rattle.script_text.specs.Scripts.{IsScriptOf}
 use Rattle.script_text.specs.declared.script.Script.{Script}
-use Rattle.watch_tests.proofs.busy.push_scripts.Given as goal
+use Rattle.watch_tests.proofs.busy.busy_scripts.Given as goal
 
 abbrev pub invariant-loop-box_no : goal.invariant-loop-box_no
 invariant-loop-box_no l = record {

@@ -2,7 +2,7 @@ use Rattle.std.proofs.Common.{◌≡◌, ℕ, zero, suc, List, [], ◌∷◌, �
 use Rattle.std.proofs.Common.{sym, ap, ◌∙◌, subst, arith}
 use Rattle.script_text.specs.Scripts.{IsScriptOf}
 use Rattle.script_text.specs.declared.script.Script.{Script}
-use Rattle.watch_tests.proofs.busy.push_scripts.Goals as goal
+use Rattle.watch_tests.proofs.busy.busy_scripts.Goals as goal
 
 -- one script more, behind the others
 own_behind : (P : ℕ → Script → Type 0) (done : List Script) (last : Script)
