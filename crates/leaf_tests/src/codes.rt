@@ -1,89 +1,17 @@
-//! Words that are codes and words that aren't, and the code table in use.
+//! Codes and code tables in use. Words that are codes and words that aren't are worked rows.
 
-use crate::facts::{all_hold, are_equal, hold, is_debugged, is_shown};
+use crate::facts::{all_hold, are_equal, is_debugged, is_shown};
 use bell_codes::{
     AddFault, BadCode, CALL_ATTENTION, CANCELLING, Code, CodeNo, CodeTable, EMPTY, EXPRESS, LIGHT,
     NoMemory, OBSTRUCTION_DANGER, ORDINARY, TESTING, TRAIN_ENTERING_SECTION, TRAIN_OUT_OF_SECTION,
-    opening_numbers, print_code, printed_is_read, read_code, read_is_spelled, text_is_a_word,
+    opening_numbers, printed_is_read, read_code, read_is_spelled, text_is_a_word,
 };
 use std::alloc::Global;
 use std::collections::HashSet;
 use std::process::Abort;
-use std::test::Fail;
-
-// The opening table, in order.
-const OPENING: [(CodeNo, &str); 10] = [
-    (CALL_ATTENTION, "1"),
-    (EXPRESS, "4"),
-    (ORDINARY, "3-1"),
-    (EMPTY, "2-2-1"),
-    (LIGHT, "2-3"),
-    (TRAIN_ENTERING_SECTION, "2"),
-    (TRAIN_OUT_OF_SECTION, "2-1"),
-    (CANCELLING, "3-5"),
-    (OBSTRUCTION_DANGER, "6"),
-    (TESTING, "16"),
-];
 
 fn code_of(rt: &impl Abort, word: &str) -> Code {
     read_code(word.as_bytes()).expect(rt, "a code")
-}
-
-const GOOD: [(&str, &[u8]); 9] = [
-    ("1", &[1]),
-    ("9", &[9]),
-    ("10", &[10]),
-    ("16", &[16]),
-    ("3-1", &[3, 1]),
-    ("2-2-1", &[2, 2, 1]),
-    ("16-1-16", &[16, 1, 16]),
-    ("1-1-1-1-1", &[1, 1, 1, 1, 1]),
-    ("16-15-14-13-12", &[16, 15, 14, 13, 12]),
-];
-
-const BAD: [&str; 21] = [
-    "",
-    "0",
-    "17",
-    "20",
-    "100",
-    "0-1",
-    "1-0",
-    "01",
-    "1-",
-    "-1",
-    "-",
-    "1--1",
-    "1-17",
-    "1-1-1-1-1-1",
-    "1-1-1-1-1-",
-    "a",
-    "1a",
-    "3 1",
-    "3_1",
-    " 1",
-    "1\n",
-];
-
-// The word is read as a code of these groups, and that is printed as the word.
-fn is_read_and_printed(rt: &impl Abort, alloc: Global, word: &str, groups: &[u8]) -> bool {
-    let code = code_of(rt, word);
-    let text = print_code(alloc, code).expect(rt, "memory");
-    code.groups() == groups && text.as_slice() == word.as_bytes()
-}
-
-#[test]
-fn reads_codes_and_no_other_words(rt: HostRuntime) {
-    for (word, groups) in GOOD.iter() {
-        hold(
-            &rt,
-            word,
-            is_read_and_printed(&rt, rt.alloc(), word, groups),
-        );
-    }
-    for word in BAD.iter() {
-        hold(&rt, word, read_code(word.as_bytes()) == Err(BadCode));
-    }
 }
 
 fn number_of(rt: &impl Abort, table: &CodeTable, word: &str) -> Option<CodeNo> {
@@ -94,42 +22,23 @@ fn add(rt: &impl Abort, table: &mut CodeTable, word: &str) -> Result<CodeNo, Add
     table.add(code_of(rt, word))
 }
 
-// Whether the table has the code of this word under this number.
-fn has_code(rt: &impl Abort, table: &CodeTable, no: CodeNo, word: &str) -> bool {
-    1 <= no
-        && no as usize <= table.len()
-        && number_of(rt, table, word) == Some(no)
-        && table.code(no) == code_of(rt, word)
-}
+// The numbers of the opening table's codes, in order.
+const OPENING: [CodeNo; 10] = [
+    CALL_ATTENTION,
+    EXPRESS,
+    ORDINARY,
+    EMPTY,
+    LIGHT,
+    TRAIN_ENTERING_SECTION,
+    TRAIN_OUT_OF_SECTION,
+    CANCELLING,
+    OBSTRUCTION_DANGER,
+    TESTING,
+];
 
-fn is_opening(rt: &impl Abort, table: &CodeTable, copy: &CodeTable) {
-    let mut next = 1;
-    for (no, word) in OPENING.iter() {
-        hold(rt, word, *no == next && has_code(rt, table, *no, word));
-        next = no.saturating_add(1);
-    }
-    assert!(rt; table.len() == 10);
-    all_hold(
-        rt,
-        &[
-            ("the code of a number", table.code(10) == code_of(rt, "16")),
-            ("some codes", !table.is_empty()),
-            ("room", !table.is_full()),
-            ("no five", number_of(rt, table, "5").is_none()),
-            ("a clone is the same", *copy == *table),
-        ],
-    );
-}
-
-#[test]
-fn a_table_opens_with_ten_codes(rt: HostRuntime) -> Result<(), Fail> {
-    let table = CodeTable::opening(rt.alloc())?;
-    let copy = table.clone()?;
-    is_opening(&rt, &table, &copy);
-    Ok(())
-}
-
+// A copy of the opening table, to which two codes are added.
 fn is_added(rt: &impl Abort, table: &mut CodeTable, opening: &CodeTable) {
+    let is_copied = *table == *opening;
     let known = add(rt, table, "3-1");
     let is_kept = *table == *opening;
     let added = add(rt, table, "5");
@@ -137,6 +46,10 @@ fn is_added(rt: &impl Abort, table: &mut CodeTable, opening: &CodeTable) {
     all_hold(
         rt,
         &[
+            ("the numbers", OPENING == [1, 2, 3, 4, 5, 6, 7, 8, 9, 10]),
+            ("ten codes", opening.len() == 10 && !opening.is_empty()),
+            ("room", !opening.is_full()),
+            ("a clone is the same", is_copied),
             ("a known code", known == Err(AddFault::Known { no: 3 })),
             ("a known code adds nothing", is_kept),
             ("a new code", added == Ok(11)),
@@ -144,14 +57,6 @@ fn is_added(rt: &impl Abort, table: &mut CodeTable, opening: &CodeTable) {
             ("it stands last", last == Some(code_of(rt, "5"))),
         ],
     );
-}
-
-#[test]
-fn adds_new_codes(rt: HostRuntime) -> Result<(), Fail> {
-    let opening = CodeTable::opening(rt.alloc())?;
-    let mut table = CodeTable::opening(rt.alloc())?;
-    is_added(&rt, &mut table, &opening);
-    Ok(())
 }
 
 fn add_groups(rt: &impl Abort, table: &mut CodeTable, groups: [u8; 3]) -> Result<CodeNo, AddFault> {
@@ -194,10 +99,12 @@ fn is_filled(rt: &impl Abort, table: &mut CodeTable) {
 }
 
 #[test]
-fn holds_two_hundred_codes(rt: HostRuntime) -> Result<(), Fail> {
-    let mut table = CodeTable::opening(rt.alloc())?;
-    is_filled(&rt, &mut table);
-    Ok(())
+fn tables_hold_two_hundred_codes(rt: HostRuntime) {
+    let mut opening = CodeTable::opening(rt.alloc()).expect(&rt, "memory");
+    let mut table = opening.clone().expect(&rt, "memory");
+    is_added(&rt, &mut table, &opening);
+    drop(table);
+    is_filled(&rt, &mut opening);
 }
 
 fn is_new(rt: &impl Abort, codes: &mut HashSet<Code>, word: &str) -> bool {

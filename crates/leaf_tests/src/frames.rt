@@ -6,7 +6,6 @@ use locking_table::{End, Stand};
 use std::alloc::{AllocError, Global};
 use std::process::Abort;
 use std::slice;
-use std::test::Fail;
 
 /// A bridle of this row, with these dogs.
 pub fn bridle(alloc: Global, row: u32, dogs: &[(u32, Notches)]) -> Result<Bridle, AllocError> {
@@ -83,12 +82,13 @@ fn compare(rt: &impl Abort, bar: &Bridle, other: &Bridle) {
 }
 
 #[test]
-fn bridles_compare(rt: HostRuntime) -> Result<(), Fail> {
-    let alloc = rt.alloc();
-    let bar = bridle(alloc, 4, &[(1, Notches::Reversed), (2, Notches::Normal)])?;
-    let other = bridle(alloc, 4, &[(1, Notches::Reversed), (2, Notches::Both)])?;
+fn bridles_compare(rt: HostRuntime) {
+    let dogs = [(1, Notches::Reversed), (2, Notches::Normal)];
+    let others = [(1, Notches::Reversed), (2, Notches::Both)];
+    let bar = bridle(rt.alloc(), 4, &dogs).expect(&rt, "memory");
+    let other = bridle(rt.alloc(), 4, &others).expect(&rt, "memory");
     compare(&rt, &bar, &other);
+    drop(other);
     let count = bar.dogs.into_vec().len();
     assert!(rt; count == 2);
-    Ok(())
 }

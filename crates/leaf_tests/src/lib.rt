@@ -1,11 +1,11 @@
-//! Tests of the lowest crates: texts and words, bell codes, locking tables, frames, shared words, places and
-//! controls.
+//! Tests of the lowest crates, where they need values made by hand: texts and words, bell codes, locking tables,
+//! frames, charts, shared words, places and controls. What maps a text to a text is a worked row.
 #![tactic(auto)]
 
 #[cfg(test)]
-mod codes;
+mod charts;
 #[cfg(test)]
-mod compiled;
+mod codes;
 #[cfg(test)]
 mod controls;
 #[cfg(test)]

@@ -1,11 +1,11 @@
-//! Texts by the formats: the causes as they are printed, numbers, names, lines and words; shelves and sinks.
+//! Causes, words of a line that stand in a row, numbered names, shelves and sinks. Numbers, names, lines and their words
+//! are worked rows.
 
 use crate::facts::{all_hold, hold};
 use rail_text::{
-    Cause, FetchFault, FileShelf, KeptEnds, LineFault, LineForm, LineWords, Lines, MemShelf,
-    MemSink, Names, NoMemory, OutSink, ReadError, Shelf, Sink, SinkFault, TextLine, cause_text,
-    first_word, has_keyword, is_name, name_in, no_word, number_in, one_word, put_all, read_number,
-    text_error,
+    Cause, FetchFault, FileShelf, KeptEnds, LineFault, LineWords, MemShelf, MemSink, Names,
+    NoMemory, OutSink, ReadError, Shelf, Sink, SinkFault, TextLine, cause_text, has_keyword,
+    put_all, text_error,
 };
 use std::alloc::Global;
 use std::io::Write;
@@ -19,6 +19,12 @@ fn causes_are_printed(rt: HostRuntime) {
     let line = 5;
     let cause = Cause::Cut;
     let refused = ReadError::Refused { line, cause };
+    let delay = TextLine {
+        number: 1,
+        text: b"delay 60",
+        ended: true,
+    };
+    let taken = LineFault::from(Cause::Taken);
     all_hold(
         &rt,
         &[
@@ -28,97 +34,12 @@ fn causes_are_printed(rt: HostRuntime) {
             ),
             ("memory", ReadError::from(NoMemory) == ReadError::NoMemory),
             ("at its line", text_error(line, cause) == refused),
-        ],
-    );
-}
-
-const NUMBERS: [(&str, Option<u64>); 13] = [
-    ("0", Some(0)),
-    ("7", Some(7)),
-    ("120", Some(120)),
-    ("4294967296", Some(4_294_967_296)),
-    ("9999999999", Some(9_999_999_999)),
-    ("10000000000", None),
-    ("00", None),
-    ("01", None),
-    ("", None),
-    ("-1", None),
-    ("+1", None),
-    ("1 ", None),
-    ("1a", None),
-];
-
-#[test]
-fn numbers_are_read(rt: HostRuntime) {
-    for (word, number) in NUMBERS.iter() {
-        hold(&rt, word, read_number(word.as_bytes()) == *number);
-    }
-}
-
-fn is_next(lines: &mut Lines<'_>, number: u32, text: &[u8], ended: bool) -> bool {
-    match lines.next() {
-        Some(line) => line.number == number && line.text == text && line.ended == ended,
-        None => false,
-    }
-}
-
-#[test]
-fn lines_are_cut_at_their_ends(rt: HostRuntime) {
-    let mut lines = Lines::new(b"plan 1\n\nend");
-    let first = is_next(&mut lines, 1, b"plan 1", true);
-    let second = is_next(&mut lines, 2, b"", true);
-    let last = is_next(&mut lines, 3, b"end", false);
-    let is_end = lines.next().is_none();
-    let is_empty = Lines::new(b"").next().is_none();
-    all_hold(
-        &rt,
-        &[
-            ("the first line", first),
-            ("an empty line", second),
-            ("a line with no end", last),
-            ("the end", is_end),
-            ("no line in an empty text", is_empty),
-        ],
-    );
-}
-
-fn line_of(text: &[u8], ended: bool) -> TextLine<'_> {
-    TextLine {
-        number: 1,
-        text,
-        ended,
-    }
-}
-
-fn is_word(line: &TextLine<'_>, i: usize, word: &[u8]) -> bool {
-    match line.word(i) {
-        Some(found) => found == word,
-        None => false,
-    }
-}
-
-fn is_behind(line: &TextLine<'_>, i: usize, rest: &[u8]) -> bool {
-    match line.behind(i) {
-        Some(found) => found == rest,
-        None => false,
-    }
-}
-
-#[test]
-fn words_stand_between_spaces(rt: HostRuntime) {
-    let line = line_of(b"over P  Q", true);
-    all_hold(
-        &rt,
-        &[
-            ("word 0", is_word(&line, 0, b"over")),
-            ("word 1", is_word(&line, 1, b"P")),
-            ("word 2 is empty", is_word(&line, 2, b"")),
-            ("word 3", is_word(&line, 3, b"Q")),
-            ("no word 4", line.word(4).is_none()),
-            ("four words", line.word_count() == 4),
-            ("one empty word", line_of(b"", true).word_count() == 1),
-            ("behind the first word", is_behind(&line, 0, b"P  Q")),
-            ("nothing behind the last word", line.behind(3).is_none()),
+            ("from a cause", taken == LineFault::Cause(Cause::Taken)),
+            (
+                "from want of memory",
+                LineFault::from(NoMemory) == LineFault::NoMemory,
+            ),
+            ("another keyword", !has_keyword(&delay, b"looks")),
         ],
     );
 }
@@ -130,73 +51,11 @@ fn is_found(found: Option<&[u8]>, word: &[u8]) -> bool {
     }
 }
 
-fn begins(text: &[u8], word: &[u8], rest: &[u8]) -> bool {
-    let (found, after) = first_word(text);
-    found == word && is_found(after, rest)
-}
-
 // Ten words, of which one is empty.
 const MANY_WORDS: &[u8] = b"clear up a b c d  f g h";
 
-#[test]
-fn words_are_cut_once(rt: HostRuntime) {
-    let mut ends = KeptEnds::none();
-    let many = LineWords::new(MANY_WORDS, &mut ends);
-    all_hold(
-        &rt,
-        &[
-            ("the keyword", many.keyword() == b"clear".as_slice()),
-            ("word 0", is_found(many.word(0), b"clear")),
-            ("word 6 is empty", is_found(many.word(6), b"")),
-            ("word 7", is_found(many.word(7), b"f")),
-            ("word 8", is_found(many.word(8), b"g")),
-            ("word 9", is_found(many.word(9), b"h")),
-            ("no word 10", many.word(10).is_none()),
-            ("ten words", many.word_count() == 10),
-            ("behind word 1", is_found(many.behind(1), b"a b c d  f g h")),
-            ("behind word 8", is_found(many.behind(8), b"h")),
-            ("nothing behind word 9", many.behind(9).is_none()),
-            (
-                "the first word",
-                begins(MANY_WORDS, b"clear", b"up a b c d  f g h"),
-            ),
-            ("an empty first word", begins(b" up", b"", b"up")),
-            (
-                "nothing behind the only word",
-                first_word(b"end").1.is_none(),
-            ),
-        ],
-    );
-}
-
-#[test]
-fn few_words_are_cut_once(rt: HostRuntime) {
-    let (mut of_delay, mut of_end, mut of_none) = (
-        KeptEnds::none(),
-        KeptEnds::none(),
-        KeptEnds::none(),
-    );
-    let delay = LineWords::new(b"delay 60", &mut of_delay);
-    let end = LineWords::new(b"end", &mut of_end);
-    let none = LineWords::new(b"", &mut of_none);
-    all_hold(
-        &rt,
-        &[
-            ("word 1", is_found(delay.word(1), b"60")),
-            ("no word 2", delay.word(2).is_none()),
-            ("two words", delay.word_count() == 2),
-            ("one word", is_found(delay.one_word().ok(), b"60")),
-            ("a word for none", delay.no_word() == Err(Cause::WordCount)),
-            (
-                "no word for one",
-                end.one_word().err() == Some(Cause::WordCount),
-            ),
-            ("no word", end.no_word() == Ok(())),
-            ("an empty keyword", none.keyword().is_empty()),
-            ("one empty word", none.word_count() == 1),
-        ],
-    );
-}
+// Eighteen words.
+const LONG_LINE: &[u8] = b"0 1 2 3 4 5 6 7 8 9 a b c d e f g h";
 
 // Words of some others in a row, if there are so many.
 fn words_between<'a>(words: &LineWords<'a>, from: usize, to: usize) -> Option<LineWords<'a>> {
@@ -236,9 +95,6 @@ fn some_words_stand_in_a_row(rt: HostRuntime) {
     );
 }
 
-// Eighteen words.
-const LONG_LINE: &[u8] = b"0 1 2 3 4 5 6 7 8 9 a b c d e f g h";
-
 #[test]
 fn words_behind_the_first_are_sought(rt: HostRuntime) {
     // What was kept of another text doesn't matter.
@@ -257,200 +113,6 @@ fn words_behind_the_first_are_sought(rt: HostRuntime) {
             ("the number of the last", long.number_of(b"h") == Some(17)),
         ],
     );
-}
-
-fn are_formed(text: &[u8], count: usize) -> bool {
-    match line_of(text, true).formed(true, &mut KeptEnds::none()) {
-        Ok(Some(words)) => words.word_count() == count,
-        _ => false,
-    }
-}
-
-fn is_passed_over(text: &[u8], skips: bool) -> bool {
-    matches!(
-        line_of(text, true).formed(skips, &mut KeptEnds::none()),
-        Ok(None)
-    )
-}
-
-fn formed_fault(text: &[u8]) -> Option<Cause> {
-    let mut ends = KeptEnds::none();
-    line_of(text, true).formed(true, &mut ends).err()
-}
-
-#[test]
-fn formed_lines_have_words(rt: HostRuntime) {
-    all_hold(
-        &rt,
-        &[
-            ("two words", are_formed(b"box Ash", 2)),
-            ("ten words", are_formed(b"clear up a b c d e f g h", 10)),
-            ("a note", is_passed_over(b"# a  note", true)),
-            ("an empty line", is_passed_over(b"", true)),
-            ("a note where none is skipped", !is_passed_over(b"#", false)),
-            (
-                "a bad byte",
-                formed_fault(b"box \x07 Ash") == Some(Cause::BadByte),
-            ),
-            (
-                "an empty word among the first",
-                formed_fault(b"box  Ash") == Some(Cause::Spacing),
-            ),
-            (
-                "an empty word behind them",
-                formed_fault(b"clear up a b c d e f g  h") == Some(Cause::Spacing),
-            ),
-            (
-                "a bad byte behind them",
-                formed_fault(b"clear up a b c d e f g \x7f") == Some(Cause::BadByte),
-            ),
-            (
-                "no word at the end",
-                formed_fault(b"box ") == Some(Cause::Spacing),
-            ),
-        ],
-    );
-}
-
-const LONG: [u8; 201] = [b'a'; 201];
-
-// The text of a line, whether it is ended, whether lines are skipped, and the line's form.
-const FORMS: [(&str, &[u8], bool, bool, Result<LineForm, Cause>); 12] = [
-    ("a cut line", b"box \x07Ash", false, true, Err(Cause::Cut)),
-    (
-        "a bad byte in a note",
-        b"#\x7f",
-        true,
-        true,
-        Err(Cause::BadByte),
-    ),
-    ("a bad byte alone", b"\x1f", true, true, Err(Cause::BadByte)),
-    ("201 bytes", &LONG, true, true, Err(Cause::LongLine)),
-    ("an empty line", b"", true, true, Ok(LineForm::Skipped)),
-    ("a note", b"# a  note", true, true, Ok(LineForm::Skipped)),
-    (
-        "an empty line where none is skipped",
-        b"",
-        true,
-        false,
-        Err(Cause::Spacing),
-    ),
-    (
-        "a note where none is skipped",
-        b"#",
-        true,
-        false,
-        Ok(LineForm::Words),
-    ),
-    (
-        "a space before",
-        b" box Ash",
-        true,
-        true,
-        Err(Cause::Spacing),
-    ),
-    ("two spaces", b"box  Ash", true, true, Err(Cause::Spacing)),
-    (
-        "a space behind",
-        b"box Ash ",
-        true,
-        true,
-        Err(Cause::Spacing),
-    ),
-    ("words", b"box Ash ~", true, true, Ok(LineForm::Words)),
-];
-
-#[test]
-fn first_fault_of_a_line_decides(rt: HostRuntime) {
-    for (name, text, ended, skips, form) in FORMS.iter() {
-        hold(&rt, name, line_of(text, *ended).form(*skips) == *form);
-    }
-    let longest = line_of(&LONG[..200], true).form(true);
-    hold(&rt, "200 bytes", longest == Ok(LineForm::Words));
-}
-
-// Does this word alone stand behind a line's keyword?
-fn is_one_word(text: &[u8], word: &[u8]) -> bool {
-    match one_word(&line_of(text, true)) {
-        Ok(found) => found == word,
-        Err(_) => false,
-    }
-}
-
-#[test]
-fn words_behind_a_keyword_are_counted(rt: HostRuntime) {
-    let delay = line_of(b"delay 60", true);
-    let fault = LineFault::Cause(Cause::WordCount);
-    let missing = one_word(&line_of(b"delay", true)).err();
-    let crowded = one_word(&line_of(b"delay 6 0", true)).err();
-    all_hold(
-        &rt,
-        &[
-            ("the keyword", has_keyword(&delay, b"delay")),
-            ("another keyword", !has_keyword(&delay, b"looks")),
-            ("a word for none", no_word(&delay) == Err(fault)),
-            ("no word", no_word(&line_of(b"end", true)) == Ok(())),
-            ("one word", is_one_word(b"delay 60", b"60")),
-            ("no word for one", missing == Some(fault)),
-            ("two words for one", crowded == Some(fault)),
-        ],
-    );
-}
-
-const OUTSIDE: LineFault = LineFault::Cause(Cause::OutOfRange);
-
-const IN_RANGE: [(&str, Result<u32, LineFault>); 6] = [
-    ("2", Ok(2)),
-    ("32", Ok(32)),
-    ("1", Err(OUTSIDE)),
-    ("33", Err(OUTSIDE)),
-    ("9999999999", Err(OUTSIDE)),
-    ("02", Err(LineFault::Cause(Cause::BadNumber))),
-];
-
-#[test]
-fn numbers_are_read_in_their_range(rt: HostRuntime) {
-    for (word, number) in IN_RANGE.iter() {
-        hold(&rt, word, number_in(word.as_bytes(), 2, 32) == *number);
-    }
-    let taken = LineFault::from(Cause::Taken) == LineFault::Cause(Cause::Taken);
-    let memory = LineFault::from(NoMemory) == LineFault::NoMemory;
-    all_hold(
-        &rt,
-        &[("from a cause", taken), ("from want of memory", memory)],
-    );
-}
-
-fn is_read_as_name(word: &str) -> bool {
-    match name_in(word.as_bytes()) {
-        Ok(name) => name == word,
-        Err(_) => false,
-    }
-}
-
-fn is_refused_as_name(word: &str) -> bool {
-    match name_in(word.as_bytes()) {
-        Ok(_) => false,
-        Err(fault) => fault == LineFault::Cause(Cause::BadName),
-    }
-}
-
-const NAMES: [&str; 4] = ["a", "Ash", "t1-b_C", "abcdefghijklmnop"];
-
-const OTHER_WORDS: [&str; 5] = ["abcdefghijklmnopq", "", "1a", "_a", "a.b"];
-
-#[test]
-fn names_begin_with_a_letter(rt: HostRuntime) {
-    for word in NAMES.iter() {
-        hold(&rt, word, is_name(word.as_bytes()) && is_read_as_name(word));
-    }
-    for word in OTHER_WORDS.iter() {
-        hold(
-            &rt,
-            word,
-            !is_name(word.as_bytes()) && is_refused_as_name(word),
-        );
-    }
 }
 
 fn add(rt: &impl Abort, names: &mut Names, name: &str) -> Option<u32> {

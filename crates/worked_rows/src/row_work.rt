@@ -1,0 +1,37 @@
+//! The work of a row.
+
+use crate::answers::put_answer;
+use crate::row_fault::RowFault;
+use crate::row_line::RowLine;
+use crate::spelling::spell;
+use std::alloc::Global;
+use std::str;
+
+// Puts the answer of a call behind a text, where its argument is a text.
+fn answer_to(alloc: Global, out: &mut String, call: &str, argument: &[u8]) -> Result<(), RowFault> {
+    match str::from_utf8(argument) {
+        Ok(argument) => put_answer(alloc, out, call, argument),
+        Err(_) => Err(RowFault::Argument),
+    }
+}
+
+/// Puts the answer to a row behind a text.
+pub fn answer(alloc: Global, out: &mut String, row: RowLine<'_>) -> Result<(), RowFault> {
+    let mut argument = Vec::new(alloc);
+    let mut done = spell(&mut argument, row.argument);
+    if done.is_ok() {
+        done = answer_to(alloc, out, row.call, &argument);
+    }
+    drop(argument);
+    done
+}
+
+/// Whether a row wants this answer.
+pub fn is_wanted(alloc: Global, row: RowLine<'_>, came: &str) -> Result<bool, RowFault> {
+    let mut wanted = Vec::new(alloc);
+    let done = spell(&mut wanted, row.wanted);
+    let is_so = wanted.as_slice() == came.as_bytes();
+    drop(wanted);
+    done?;
+    Ok(is_so)
+}
