@@ -3,6 +3,8 @@
 use crate::charts::{put_chart, put_judged};
 use crate::codes::{put_code, put_opening_code};
 use crate::frames::{put_bridles, put_worked};
+use crate::moments::{put_day_moment, put_ready};
+use crate::plans::put_answer_on_plan;
 use crate::putting::Done;
 use crate::row_fault::RowFault;
 use crate::tables::{put_holder, put_row, table_of};
@@ -14,6 +16,7 @@ use crate::words::{
 use bridle_frame::Bridle;
 use locking_table::Table;
 use std::alloc::Global;
+use std::rt::Files;
 use tappet_compiler::compile;
 
 // The answer of a call on the bridles of a table.
@@ -70,8 +73,8 @@ fn put_answer_on_rows(alloc: Global, out: &mut String, call: &str, argument: &st
     done
 }
 
-/// Puts the answer of a call of this word behind a text.
-pub fn put_answer(alloc: Global, out: &mut String, call: &str, argument: &str) -> Done {
+// The answer of a call that has no plan.
+fn put_answer_alone(alloc: Global, out: &mut String, call: &str, argument: &str) -> Done {
     match call {
         "code" => put_code(alloc, out, argument),
         "opening_code" => put_opening_code(alloc, out, argument),
@@ -90,9 +93,27 @@ pub fn put_answer(alloc: Global, out: &mut String, call: &str, argument: &str) -
         "one_word" => put_one_word(out, argument),
         "no_word" => put_no_word(out, argument),
         "row" => put_row(alloc, out, argument),
+        "moment" => put_day_moment(out, argument),
+        "ready" => put_ready(out, argument),
         "holder" | "moves" | "throws" | "bridles" | "chart" | "chart_holds" => {
             put_answer_on_rows(alloc, out, call, argument)
         }
         _ => Err(RowFault::UnknownCall),
+    }
+}
+
+/// Puts the answer of a call of this word behind a text. The plans lie in the folder of this name.
+pub fn put_answer<R: Files + AllocGlobal>(
+    rt: &R,
+    out: &mut String,
+    plans: &str,
+    call: &str,
+    argument: &str,
+) -> Done {
+    match call {
+        "plan" | "call" | "reply" | "script" => {
+            put_answer_on_plan(rt, out, plans, call, argument)
+        }
+        _ => put_answer_alone(rt.alloc(), out, call, argument),
     }
 }

@@ -7,6 +7,8 @@ mod charts;
 mod codes;
 mod files;
 mod frames;
+mod moments;
+mod plans;
 mod putting;
 mod row_fault;
 mod row_line;
@@ -26,14 +28,22 @@ use std::rt::Files;
 use std::{env, fs, io};
 use tally::Tally;
 
+// Where a row stands, and the folder of the plans.
+#[derive(Clone, Copy)]
+struct Place<'a> {
+    plans: &'a str,
+    path: &'a str,
+    number: usize,
+}
+
 // Tells what came where another answer is wanted.
 fn tell_difference<R: Print + Alloc>(
     rt: &R,
-    place: (&str, usize),
+    place: Place<'_>,
     row: RowLine<'_>,
     came: &str,
 ) -> io::Result<()> {
-    let (path, number) = place;
+    let Place { path, number, .. } = place;
     println!(rt; "differs: {path} line {number}")?;
     let wanted = row.wanted;
     println!(rt; "  wanted: {wanted}")?;
@@ -43,7 +53,7 @@ fn tell_difference<R: Print + Alloc>(
 // Compares what came with what is wanted, and tells it where it differs. Whether it agrees.
 fn compare<R: Print + AllocGlobal>(
     rt: &R,
-    place: (&str, usize),
+    place: Place<'_>,
     row: RowLine<'_>,
     came: &str,
 ) -> Result<bool> {
@@ -58,20 +68,20 @@ fn compare<R: Print + AllocGlobal>(
 }
 
 // A line that isn't written as it has to be.
-fn refuse(place: (&str, usize), fault: RowFault) -> Result<bool> {
-    let (path, number) = place;
+fn refuse(place: Place<'_>, fault: RowFault) -> Result<bool> {
+    let Place { path, number, .. } = place;
     let what = fault_text(fault);
     bail!("{path} line {number}: {what}")
 }
 
 // Works a row. Whether it agrees.
-fn row_agrees<R: Print + AllocGlobal>(
+fn row_agrees<R: Files + Print + AllocGlobal>(
     rt: &R,
-    place: (&str, usize),
+    place: Place<'_>,
     row: RowLine<'_>,
 ) -> Result<bool> {
     let mut came = String::new(rt.alloc());
-    let agrees = match answer(rt.alloc(), &mut came, row) {
+    let agrees = match answer(rt, &mut came, place.plans, row) {
         Ok(()) => compare(rt, place, row, came.as_str()),
         Err(fault) => refuse(place, fault),
     };
@@ -80,9 +90,9 @@ fn row_agrees<R: Print + AllocGlobal>(
 }
 
 // Works the row of a line, if it has one, and counts it.
-fn work_line<R: Print + AllocGlobal>(
+fn work_line<R: Files + Print + AllocGlobal>(
     rt: &R,
-    place: (&str, usize),
+    place: Place<'_>,
     line: &str,
     tally: &mut Tally,
 ) -> Result<()> {
@@ -97,22 +107,34 @@ fn work_line<R: Print + AllocGlobal>(
 }
 
 // Works the rows of a text.
-fn work_text<R: Print + AllocGlobal>(
+fn work_text<R: Files + Print + AllocGlobal>(
     rt: &R,
+    plans: &str,
     path: &str,
     text: &str,
     tally: &mut Tally,
 ) -> Result<()> {
     for (before, line) in text.split('\n').enumerate() {
-        work_line(rt, (path, before.saturating_add(1)), line, tally)?;
+        let number = before.saturating_add(1);
+        let place = Place {
+            plans,
+            path,
+            number,
+        };
+        work_line(rt, place, line, tally)?;
     }
     Ok(())
 }
 
 // Works the rows of a file.
-fn work_file<R: Files + Print + AllocGlobal>(rt: &R, path: &str, tally: &mut Tally) -> Result<()> {
+fn work_file<R: Files + Print + AllocGlobal>(
+    rt: &R,
+    plans: &str,
+    path: &str,
+    tally: &mut Tally,
+) -> Result<()> {
     let text = fs::read_to_string(rt, path).context(format_args!("{path}"))?;
-    let done = work_text(rt, path, text.as_str(), tally);
+    let done = work_text(rt, plans, path, text.as_str(), tally);
     drop(text);
     done
 }
@@ -120,12 +142,13 @@ fn work_file<R: Files + Print + AllocGlobal>(rt: &R, path: &str, tally: &mut Tal
 // Works the rows of the files of a folder.
 fn work_folder<R: Files + Print + AllocGlobal + Clone + Drop>(
     rt: &R,
-    folder: &str,
+    plans: &str,
+    rows: &str,
     tally: &mut Tally,
 ) -> Result<()> {
-    for name in files::names_in(rt, folder)? {
-        let path = files::path_of(rt.alloc(), folder, name.as_str())?;
-        work_file(rt, path.as_str(), tally)?;
+    for name in files::names_in(rt, rows)? {
+        let path = files::path_of(rt.alloc(), rows, name.as_str())?;
+        work_file(rt, plans, path.as_str(), tally)?;
     }
     Ok(())
 }
@@ -141,9 +164,10 @@ fn data_folder(rt: &HostRuntime) -> Result<String> {
 
 fn main(rt: HostRuntime) -> Result<ExitCode> {
     let folder = data_folder(&rt)?;
+    let plans = files::path_of(rt.alloc(), folder.as_str(), "plans")?;
     let rows = files::path_of(rt.alloc(), folder.as_str(), "rows")?;
     let mut tally = Tally::new();
-    work_folder(&rt, rows.as_str(), &mut tally)?;
+    work_folder(&rt, plans.as_str(), rows.as_str(), &mut tally)?;
     let Tally { rows, agree } = tally;
     println!(rt; "rows {rows} agree {agree}")?;
     if rows == agree {

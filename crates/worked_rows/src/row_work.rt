@@ -5,22 +5,34 @@ use crate::row_fault::RowFault;
 use crate::row_line::RowLine;
 use crate::spelling::spell;
 use std::alloc::Global;
+use std::rt::Files;
 use std::str;
 
 // Puts the answer of a call behind a text, where its argument is a text.
-fn answer_to(alloc: Global, out: &mut String, call: &str, argument: &[u8]) -> Result<(), RowFault> {
+fn answer_to<R: Files + AllocGlobal>(
+    rt: &R,
+    out: &mut String,
+    plans: &str,
+    call: &str,
+    argument: &[u8],
+) -> Result<(), RowFault> {
     match str::from_utf8(argument) {
-        Ok(argument) => put_answer(alloc, out, call, argument),
+        Ok(argument) => put_answer(rt, out, plans, call, argument),
         Err(_) => Err(RowFault::Argument),
     }
 }
 
-/// Puts the answer to a row behind a text.
-pub fn answer(alloc: Global, out: &mut String, row: RowLine<'_>) -> Result<(), RowFault> {
-    let mut argument = Vec::new(alloc);
+/// Puts the answer to a row behind a text. The plans lie in the folder of this name.
+pub fn answer<R: Files + AllocGlobal>(
+    rt: &R,
+    out: &mut String,
+    plans: &str,
+    row: RowLine<'_>,
+) -> Result<(), RowFault> {
+    let mut argument = Vec::new(rt.alloc());
     let mut done = spell(&mut argument, row.argument);
     if done.is_ok() {
-        done = answer_to(alloc, out, row.call, &argument);
+        done = answer_to(rt, out, plans, row.call, &argument);
     }
     drop(argument);
     done
