@@ -1,5 +1,5 @@
-//! Causes, words of a line that stand in a row, numbered names, shelves and sinks. Numbers, names, lines and their words
-//! are worked rows.
+//! Causes, words of a line that stand in a row, numbered names, shelves and sinks. Numbers, names, lines and their
+//! words are worked rows.
 
 use crate::facts::{all_hold, hold};
 use rail_text::{

@@ -93,8 +93,8 @@ fn put_told_form(
     }
 }
 
-/// `form LINE` where lines may be skipped, and `form_unskipped LINE` where none may: the form of the line and the number
-/// of its words. The line is cut where it has no end.
+/// `form LINE` where lines may be skipped, and `form_unskipped LINE` where none may: the form of the line and the
+/// number of its words. The line is cut where it has no end.
 pub fn put_form(out: &mut String, skips: bool, line: &str) -> Done {
     let ended = line.ends_with('\n');
     let text = line.strip_suffix('\n').unwrap_or(line);
