@@ -1,4 +1,5 @@
-//! Tests of the readers and printers of plans, scripts, calls, replies and journals.
+//! Tests of plans, scripts, calls, replies and journals, where they need values made by hand. What maps a text to a
+//! text is a worked row.
 #![tactic(auto)]
 
 #[cfg(test)]

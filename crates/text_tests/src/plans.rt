@@ -1,6 +1,6 @@
-//! Plans: what is asked of them, and their printing in version 1.
+//! Plans: what is asked of them. As what they are printed are worked rows.
 
-use crate::facts::{all_hold, is_text};
+use crate::facts::all_hold;
 use crate::lines::{NAMES, plan_of_three};
 use block_words::Way;
 use line_plan::{
@@ -8,19 +8,11 @@ use line_plan::{
     most_boxes, most_delay, way_word,
 };
 use plan_text::{
-    into_upgraded, print_plan, printed_is_read, read_is_a_plan, read_plan, spelled_is_read, upgrade,
+    into_upgraded, printed_is_read, read_is_a_plan, read_plan, spelled_is_read, upgrade,
 };
-use rail_text::{NoMemory, ReadError};
+use rail_text::NoMemory;
 use std::alloc::Global;
 use std::process::Abort;
-use std::test::Fail;
-
-const FRAMES: &str = "plan 1\nboxes 2\ndelay 2\nlooks 1000000000\n\
-box Ash\nplace P\nplace Q\nlever 1 signal\nlever 2 signal\nlever 3 points\nlever 4 points\n\
-lever 5 points\nlever 6 points\nlever 7 spare\nlever 8 signal\nstarter down 8 P\ntrack 3 Q\n\
-row 2 locks 5 normal\nrow 3 locks 4 both ways\nrow 1 locks 2 normal when 6 reversed\n\
-box Beech\nplace B\nplace M\nlever 1 signal\nsignal 1 B M\nberth down B\nclear down M\n\
-train t1 ordinary Ash P\ntrain t2 express Ash P\ntrain t3 light Ash Q\ntrain t4 empty Ash P\nend\n";
 
 // The numbers of a plan: its version, delay and looks, and how many codes and boxes it has.
 fn numbers_of(plan: &Plan) -> [usize; 5] {
@@ -55,54 +47,30 @@ fn has_two_names(plan: &Plan) -> bool {
 }
 
 #[test]
-fn plan_of_two_names_is_read(rt: HostRuntime) -> Result<(), Fail> {
-    let plan = read_plan(rt.alloc(), NAMES.as_bytes())?;
+fn plan_of_two_names_is_read(rt: HostRuntime) {
+    let plan = read_plan(rt.alloc(), NAMES.as_bytes()).expect(&rt, "a plan");
     let has_names = has_two_names(&plan);
     let numbers = numbers_of(&plan);
     let newer = upgraded_numbers(rt.alloc(), &plan);
     let taken = numbers_once_upgraded(plan);
-    let newer = newer?;
     all_hold(
         &rt,
         &[
             ("two names", has_names),
             ("numbers", numbers == [1, 2, 1_000_000_000, 10, 2]),
-            ("upgraded", newer == [2, 120, 1_000_000_000, 10, 2]),
+            ("upgraded", newer == Ok([2, 120, 1_000_000_000, 10, 2])),
             ("taken", taken == [2, 120, 1_000_000_000, 10, 2]),
         ],
     );
-    Ok(())
 }
 
-// Whether a text is read as a plan that is printed so.
-fn is_printed_back(alloc: Global, text: &str) -> Result<bool, ReadError> {
-    let plan = read_plan(alloc, text.as_bytes())?;
-    let printed = print_plan(alloc, &plan);
-    drop(plan);
-    Ok(is_text(printed?, text))
-}
-
-#[test]
-fn plans_in_minutes_are_printed_back(rt: HostRuntime) -> Result<(), Fail> {
-    let names = is_printed_back(rt.alloc(), NAMES)?;
-    let frames = is_printed_back(rt.alloc(), FRAMES)?;
-    all_hold(&rt, &[("names", names), ("frames", frames)]);
-    Ok(())
-}
-
-// What the middle box tells of its levers.
-fn lever_facts(beech: &BoxPlan) -> [(&'static str, bool); 4] {
+// What the middle box tells of its levers, signals and tracks.
+fn box_facts(beech: &BoxPlan) -> [(&'static str, bool); 10] {
     [
         ("lever 7 works points", beech.kind(7) == Some(Kind::Points)),
         ("there is a lever 120", beech.lever(120).is_some()),
         ("there is no lever 5", beech.lever(5).is_none()),
         ("lever 120 is the last", beech.frame_size() == 120),
-    ]
-}
-
-// What it tells of its signals and tracks.
-fn signal_facts(beech: &BoxPlan) -> [(&'static str, bool); 6] {
-    [
         ("lever 3 works a signal", beech.signal(3).is_some()),
         ("an up starter", beech.starter(Way::Up).is_some()),
         ("a down berth", beech.berth(Way::Down).is_some()),
@@ -121,8 +89,7 @@ fn ends_with_train(plan: &Plan, name: &str) -> bool {
 fn middle_holds(rt: &impl Abort, plan: &Plan) -> bool {
     match plan.boxes.as_slice() {
         [_, beech, _] => {
-            all_hold(rt, &lever_facts(beech));
-            all_hold(rt, &signal_facts(beech));
+            all_hold(rt, &box_facts(beech));
             true
         }
         _ => false,
@@ -130,8 +97,8 @@ fn middle_holds(rt: &impl Abort, plan: &Plan) -> bool {
 }
 
 #[test]
-fn boxes_and_trains_are_told(rt: HostRuntime) -> Result<(), Fail> {
-    let plan = plan_of_three(rt.alloc(), 1)?;
+fn boxes_and_trains_are_told(rt: HostRuntime) {
+    let plan = plan_of_three(rt.alloc(), 1).expect(&rt, "a plan");
     let has_three = middle_holds(&rt, &plan);
     let ends_with_none = ends_with_train(&plan, "none");
     drop(plan);
@@ -142,11 +109,10 @@ fn boxes_and_trains_are_told(rt: HostRuntime) -> Result<(), Fail> {
             ("the third train is the last", ends_with_none),
         ],
     );
-    Ok(())
 }
 
 #[test]
-fn lines_leave_and_come_in(rt: HostRuntime) {
+fn ways_words_and_limits(rt: HostRuntime) {
     let facts = [
         ("up of the middle box", has_neighbour(3, 1, Way::Up)),
         ("down of the last box", !has_neighbour(3, 2, Way::Down)),
@@ -154,13 +120,6 @@ fn lines_leave_and_come_in(rt: HostRuntime) {
         ("the up line doesn't", !leaves(3, 0, Way::Up)),
         ("the up line comes in there", comes_in(3, 0, Way::Up)),
         ("the down line doesn't", !comes_in(3, 0, Way::Down)),
-    ];
-    all_hold(&rt, &facts);
-}
-
-#[test]
-fn words_and_limits(rt: HostRuntime) {
-    let facts = [
         ("up", way_word(Way::Up) == "up"),
         ("down", way_word(Way::Down) == "down"),
         ("lock", kind_word(Kind::Lock) == "lock"),
@@ -173,8 +132,8 @@ fn words_and_limits(rt: HostRuntime) {
 }
 
 #[test]
-fn lists_keep_their_items(rt: HostRuntime) -> Result<(), Fail> {
-    let mut items = Items::from_vec([7, 8].to_vec(rt.alloc())?);
+fn lists_keep_their_items(rt: HostRuntime) {
+    let mut items = Items::from_vec([7, 8].to_vec(rt.alloc()).expect(&rt, "memory"));
     let has_two = items.len() == 2 && !items.is_empty();
     items.set(1, 9);
     let is_set = items.as_slice() == [7, 9].as_slice();
@@ -189,33 +148,33 @@ fn lists_keep_their_items(rt: HostRuntime) -> Result<(), Fail> {
             ("given back", is_given_back),
         ],
     );
-    Ok(())
 }
 
 #[test]
-fn labels_keep_their_text(rt: HostRuntime) -> Result<(), Fail> {
-    let label = Label::from_string(String::from_str(rt.alloc(), "Ash")?);
+fn labels_keep_their_text(rt: HostRuntime) {
+    let label = Label::from_string(String::from_str(rt.alloc(), "Ash").expect(&rt, "memory"));
     let is_ash = label.as_str() == "Ash";
     let text = label.into_string();
     let is_given_back = text.as_str() == "Ash";
     drop(text);
     all_hold(&rt, &[("the text", is_ash), ("given back", is_given_back)]);
-    Ok(())
 }
 
 #[test]
-fn numbers_have_their_places(rt: HostRuntime) -> Result<(), Fail> {
+fn numbers_have_their_places(rt: HostRuntime) {
     let mut numbers = Numbers::new(rt.alloc());
-    let added = numbers.add(8);
+    let is_added = numbers.add(8).is_ok();
     let is_first = numbers.place_of(8) == Some(0);
     let is_nowhere = numbers.place_of(9).is_none();
     drop(numbers);
-    added?;
     all_hold(
         &rt,
-        &[("8 is the first", is_first), ("9 is nowhere", is_nowhere)],
+        &[
+            ("8 is added", is_added),
+            ("8 is the first", is_first),
+            ("9 is nowhere", is_nowhere),
+        ],
     );
-    Ok(())
 }
 
 #[test]
