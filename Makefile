@@ -13,11 +13,10 @@ demo:
 build:
 	cd crates/box_main && rt run -- $(example)
 
-# Works the worked cases and the worked rows without proofs, in about three minutes, and tells each that differs. The
-# largest texts take minutes in a build that tests each step, so the files named *_limits are left to `make test`.
+# Works the worked cases without proofs, in about two minutes, and tells each that differs. The largest texts take
+# minutes in a build that tests each step, so the files named *_limits are left to `make test`.
 cases:
 	cd crates/worked_cases && rt try $$(find data -type f ! -name '*_limits' -printf '--data %p=%p ') -- data
-	cd crates/worked_rows && rt try $$(find data -type f -printf '--data %p=%p ') -- data
 
 # Works the worked rows without proofs: calls of the libraries with their arguments and answers.
 rows:
