@@ -6,7 +6,6 @@ use bell_codes::{
     NoMemory, OBSTRUCTION_DANGER, ORDINARY, TESTING, TRAIN_ENTERING_SECTION, TRAIN_OUT_OF_SECTION,
     opening_numbers, printed_is_read, read_code, read_is_spelled, text_is_a_word,
 };
-use std::alloc::Global;
 use std::collections::HashSet;
 use std::process::Abort;
 
