@@ -57,7 +57,7 @@ planted:
 	python3 hostile/planted.py
 
 # Lists each contract of a public function, and each definition, that differs from those of an earlier commit.
-SINCE = HEAD
+SINCE = 21dd880
 
 contracts:
 	python3 hostile/contracts.py $(SINCE)

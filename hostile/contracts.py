@@ -2,8 +2,9 @@
 """Lists each contract of a public function that differs from another commit's: contracts.py COMMIT
 
 A function is public where it is `pub`, in a trait, or in the impl of one. Of each the clauses are compared, `requires`,
-`ensures` and `ghost`, whatever blanks stand in them, and so are the files of specs/, which clauses cite. What differs,
-is gone or is new is told; the exit status is 1 where a clause or a definition differs or is gone.
+`ensures` and `ghost`, whatever blanks stand in them, and so are the files of specs/, which clauses cite. What differs or
+is gone is told with its clauses and with its reason in contracts.txt: a line has the name as it is told here, a tab and the
+reason. What is new is told by its name alone. The exit status is 1 where a reason is missing.
 """
 
 import os
@@ -104,26 +105,42 @@ def told_name(name):
     return " ".join(part for part in (name[0], name[1], f"fn {name[2]}") if part)
 
 
-def main(commit):
-    before, now = files_of(commit), files_of(None)
-    old, new = all_contracts(before), all_contracts(now)
-    differing = 0
-    for name in sorted(set(old) | set(new)):
-        gone = [it for clauses in old.get(name, []) for it in clauses]
+def read_reasons():
+    """The reasons of what differs, by the name as it is told."""
+    with open(f"{ROOT}/hostile/contracts.txt", encoding="utf-8") as file:
+        lines = [line.split("\t") for line in file.read().splitlines() if line and not line.startswith("#")]
+    return {line[0]: line[1] for line in lines}
+
+
+def differing_contracts(old, new):
+    """The names of the functions whose clauses differ or are gone, each with its clauses then and now."""
+    for name in sorted(old):
+        gone = [it for clauses in old[name] for it in clauses]
         come = [it for clauses in new.get(name, []) for it in clauses]
         if name not in new or sorted(gone) != sorted(come):
-            differing += 1
-            print(f"{told_name(name)}{' is gone' if name not in new else '' if name in old else ' is new'}")
-            for it in [it for it in gone if it not in come]:
-                print(f"    - {it}")
-            for it in [it for it in come if it not in gone]:
-                print(f"    + {it}")
-    for path in sorted({it for it in [*before, *now] if it.endswith(".antt")}):
-        if before.get(path) != now.get(path):
-            differing += path in before
-            print(f"{path}{' is gone' if path not in now else ' is new' if path not in before else ' differs'}")
-    print(f"contracts {sum(map(len, old.values()))} then, {sum(map(len, new.values()))} now; different {differing}")
-    return 1 if differing else 0
+            yield name, [it for it in gone if it not in come], [it for it in come if it not in gone]
+
+
+def main(commit):
+    before, now, reasons = files_of(commit), files_of(None), read_reasons()
+    old, new, differing, missing = all_contracts(before), all_contracts(now), 0, 0
+
+    def tell(what, is_gone, gone, come):
+        nonlocal differing, missing
+        differing += 1
+        missing += what not in reasons
+        print(f"{what}{' is gone' if is_gone else ''}: {reasons.get(what, 'NO REASON IS TOLD')}")
+        print("".join(f"    - {it}\n" for it in gone) + "".join(f"    + {it}\n" for it in come), end="")
+
+    for name, gone, come in differing_contracts(old, new):
+        tell(told_name(name), name not in new, gone, come)
+    for path in sorted(it for it in before if it.endswith(".antt") and before[it] != now.get(it)):
+        tell(path, path not in now, [], [])
+    fresh = [told_name(it) for it in new if it not in old] + [it for it in now if it.endswith(".antt") and it not in before]
+    print("".join(f"new: {it}\n" for it in sorted(fresh)), end="")
+    count = f"{sum(map(len, old.values()))} then, {sum(map(len, new.values()))} now"
+    print(f"functions {count}; different {differing}, without a reason {missing}")
+    return 1 if missing else 0
 
 
 if __name__ == "__main__":
