@@ -23,7 +23,7 @@ rows:
 	cd crates/worked_rows && rt try $$(find data -type f -printf '--data %p=%p ') -- data
 
 # What a newcomer runs first: the worked cases, the worked rows and all tests, without proofs. It works as many at once as
-# there are processors, and takes some ten minutes on four.
+# there are processors, and takes some five minutes on four.
 quick:
 	$(MAKE) --no-print-directory --keep-going --output-sync -j$$(nproc) cases rows $(TESTS)
 
@@ -52,7 +52,7 @@ edge:
 sizes:
 	python3 hostile/sizes.py crates/box_main/out/box_main
 
-# Tries the wrong bodies of hostile/planted.txt, which the contracts must refuse, on a copy: half an hour on four processors.
+# Tries the wrong bodies of hostile/planted.txt, which the contracts must refuse, on a copy: an hour on four processors.
 planted:
 	python3 hostile/planted.py
 
@@ -65,6 +65,6 @@ contracts:
 # The gate: every proof, the must-fail edits, the tests, and the program as two compilers make it.
 test:
 	@echo "make test proves all crates and their tests, tries the must-fail edits, and runs the tests and the programs."
-	@echo "From nothing that takes about an hour on four processors, and two hours on two; here there are $$(nproc)."
+	@echo "From nothing that takes some 70 minutes on four processors, and twice that on two; here there are $$(nproc)."
 	@echo "What an earlier run on this machine passed is kept. The last line is 'N passed, M failed'. (make quick: no proofs)"
 	rt ci

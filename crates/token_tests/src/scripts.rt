@@ -4,7 +4,8 @@ use crate::facts::none_is_wrong;
 use rail_text::{Cause, ReadError};
 use std::alloc::{AllocError, Global};
 use std::test::Fail;
-use token_text::read_tokens;
+use token_law::{TokenAct, TokenCall};
+use token_text::{TokenScript, read_tokens, token_scripts_law};
 
 /// A text, and the line and the cause of its first fault.
 type Refused = (&'static str, u32, Cause);
@@ -154,5 +155,49 @@ fn first_beyond(alloc: Global, limits: &[Limit]) -> Result<Option<&'static str>,
 fn texts_at_the_limits(rt: HostRuntime) -> Result<(), Fail> {
     let beyond = first_beyond(rt.alloc(), LIMITS)?;
     none_is_wrong(&rt, beyond);
+    Ok(())
+}
+
+const LOOK: TokenCall = TokenCall {
+    box_no: 1,
+    act: TokenAct::Look,
+};
+
+const OFF_THE_LINE: TokenCall = TokenCall {
+    box_no: 2,
+    act: TokenAct::Look,
+};
+
+// The tokens and calls of a script that is made of these calls; nothing where they don't fit.
+fn made_of(calls: Vec<TokenCall>) -> Option<(u32, u32, Vec<TokenCall>)> {
+    if TokenScript::fits(50, 1, &calls) {
+        let script = TokenScript::new(50, 1, calls);
+        Some((script.at_0, script.at_1, script.into_calls()))
+    } else {
+        drop(calls);
+        None
+    }
+}
+
+// Whether a script of this call alone gives it back.
+fn gives_back(alloc: Global, call: TokenCall) -> Result<bool, AllocError> {
+    let calls = vec![in alloc; call]?;
+    Ok(match made_of(calls) {
+        Some((at_0, at_1, calls)) => {
+            let is_back = at_0 == 50 && at_1 == 1 && calls.as_slice() == [call].as_slice();
+            drop(calls);
+            is_back
+        }
+        None => false,
+    })
+}
+
+#[test]
+fn scripts_are_made_of_calls(rt: HostRuntime) -> Result<(), Fail> {
+    token_scripts_law();
+    let is_back = gives_back(rt.alloc(), LOOK)?;
+    let is_off = !gives_back(rt.alloc(), OFF_THE_LINE)?;
+    let are_few = !TokenScript::fits(51, 0, &[]) && TokenScript::fits(0, 50, &[]);
+    assert!(rt; is_back && is_off && are_few);
     Ok(())
 }

@@ -11,24 +11,41 @@ use std::sync::atomic::{AtomicU64, Ordering};
 use std::test::Fail;
 use std::thread::Threads;
 
-// A section from Ash to Beech, and trains at Ash; awaits are soon given up.
-const PLAN: &[u8] = b"plan 1\nboxes 2\ndelay 2\nlooks 3\n\
-    box Ash\nplace P\nplace Q\nlever 8 signal\nstarter down 8 P\n\
+// A section from Ash to Beech, with six trains at Ash.
+const PLAN: &[u8] = b"plan 1\nboxes 2\ndelay 2\nlooks 1000000000\n\
+    box Ash\nplace P\nplace Q\nlever 1 signal\nlever 2 signal\nlever 3 points\nlever 4 points\n\
+    lever 5 points\nlever 6 points\nlever 7 spare\nlever 8 signal\nstarter down 8 P\ntrack 3 Q\n\
+    row 2 locks 5 normal\nrow 3 locks 4 both ways\nrow 1 locks 2 normal when 6 reversed\n\
     box Beech\nplace B\nplace M\nlever 1 signal\nsignal 1 B M\nberth down B\nclear down M\n\
-    train t1 ordinary Ash P\ntrain t2 express Ash P\ntrain t4 empty Ash P\ntrain t5 light Ash P\n\
-    train t6 ordinary Ash P\nend\n";
+    train t1 ordinary Ash P\ntrain t2 express Ash P\ntrain t3 light Ash Q\ntrain t4 empty Ash P\n\
+    train t5 light Ash P\ntrain t6 ordinary Ash P\nend\n";
 
 // The scripts of Ash and Beech, and what the judge says: how many calls they have.
 type Bad = (&'static [u8], &'static [u8], &'static [u8]);
 
-const BAD: [Bad; 5] = [
+const BAD: [Bad; 7] = [
     // Beech gives Line Clear again and again, and releases the line by hand.
+    (
+        b"script Ash\nend\n",
+        b"script Beech\n10:00 turn down line_clear\n10:00 turn down line_clear\n10:00 wind down\n\
+            10:00 turn down normal\n10:00 turn down line_clear\n10:00 wind down\n10:00 wind down\n\
+            10:01 release down\n10:02 release down\n10:02 release down\n10:02 turn down line_clear\nend\n",
+        b"legal 11\n",
+    ),
+    // The same while Ash sends a train as soon as he sees Line Clear.
     (
         b"script Ash\n10:00 bring t1\n10:00 await_block down line_clear\n10:00 pull 8\n10:00 pass 8\nend\n",
         b"script Beech\n10:00 turn down line_clear\n10:00 turn down line_clear\n10:00 wind down\n\
             10:00 turn down normal\n10:00 turn down line_clear\n10:00 wind down\n10:00 wind down\n\
             10:01 release down\n10:02 release down\n10:02 release down\n10:02 turn down line_clear\nend\n",
         b"legal 15\n",
+    ),
+    // The arm is at danger behind a train.
+    (
+        b"script Ash\n10:00 bring t1\n10:00 await_block down line_clear\n10:00 pull 8\n10:00 pass 8\n\
+            10:00 bring t2\n10:00 pass 8\nend\n",
+        b"script Beech\n10:00 turn down line_clear\nend\n",
+        b"legal 7\n",
     ),
     // A second train overruns the starter behind the first.
     (
