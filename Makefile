@@ -52,7 +52,8 @@ edge:
 sizes:
 	python3 hostile/sizes.py crates/box_main/out/box_main
 
-# Tries the wrong bodies of hostile/planted.txt, which the contracts must refuse, on a copy: an hour on four processors.
+# Tries the wrong bodies of hostile/planted.txt, which the contracts must refuse, on a copy. It needs the libraries,
+# and some half a minute of a processor for each edit.
 planted:
 	python3 hostile/planted.py
 
@@ -65,6 +66,6 @@ contracts:
 # The gate: every proof, the must-fail edits, the tests, and the program as two compilers make it.
 test:
 	@echo "make test proves all crates and their tests, tries the must-fail edits, and runs the tests and the programs."
-	@echo "From nothing that takes some 70 minutes on four processors, and twice that on two; here there are $$(nproc)."
+	@echo "From nothing that took 70 minutes on four processors, and takes over two hours on two; here there are $$(nproc)."
 	@echo "What an earlier run on this machine passed is kept. The last line is 'N passed, M failed'. (make quick: no proofs)"
 	rt ci
