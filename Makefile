@@ -23,7 +23,7 @@ rows:
 	cd crates/worked_rows && rt try $$(find data -type f -printf '--data %p=%p ') -- data
 
 # What a newcomer runs first: the worked cases, the worked rows and all tests, without proofs. It works as many at once as
-# there are processors, and takes some five minutes on four.
+# there are processors, and takes some seven minutes on four.
 quick:
 	$(MAKE) --no-print-directory --keep-going --output-sync -j$$(nproc) cases rows $(TESTS)
 
