@@ -508,7 +508,7 @@ module _ (plan : PlanFields) (is : IsPlan plan) where
               (get_or s.words (word_place (length plan.boxes)
               (op_word (caller_of me.0.posts) call.act op)) 0) found h in
               let x : View = seeing me.0 (k.log ++ entry_of plan (state_of plan k.log) (caller_of me.0.posts) call ∷ [])
-              (looks_by call.act op) None in (
+              (looks_by call.act op) 0 None in (
                 x,
                 keeps,
                 tt,
@@ -546,7 +546,7 @@ module _ (plan : PlanFields) (is : IsPlan plan) where
               sym (same _) ∙ undecided_stays (box_plan_of plan (caller_of me.0.posts)) call.act
               (here_at plan me.0.seen (caller_of me.0.posts) call) op last _ h in
               let room = room_seen (box_plan_of plan (caller_of me.0.posts)) call.act me.0.room in
-              let x : View = seeing me.0 k.log (looks_by call.act op) room in (
+              let x : View = seeing me.0 k.log (looks_by call.act op) 0 room in (
                 x,
                 keeps,
                 tt,
@@ -555,7 +555,7 @@ module _ (plan : PlanFields) (is : IsPlan plan) where
                     (op_word (caller_of me.0.posts) call.act op)) m id me.1 x keeps)) (sym stays)
                     (looks_on plan s k id me.0
                     (word_place (length plan.boxes) (op_word (caller_of me.0.posts) call.act op))
-                    (looks_by call.act op) room me.1 at sits.0
+                    (looks_by call.act op) 0 room me.1 at sits.0
                     (may_room plan is call op last me.0 may fits k.log (get_or s.words 0 0) k.legal k.short fit
                     (get_or s.words (word_place (length plan.boxes)
                     (op_word (caller_of me.0.posts) call.act op)) 0) found h)),
@@ -633,10 +633,10 @@ pub glances : (plan : PlanFields) (slots id : ℕ) (me : M) (w : Word) (i : ℕ)
 glances plan slots id me w i st is sits within place = subst
     (λ (j : ℕ). Allows (Kept plan) slots id me j (λ n. n) (glanced plan w st me)) (sym place)
     (λ s k wide at small. let fit : Fits plan k.log (get_or s.words 0 0) me.0 = k.fits id me.0 at in (
-      seeing me.0 k.log 1 me.0.room,
+      seeing me.0 k.log 1 1 me.0.room,
       keeps,
       tt,
-      looks_on plan s k id me.0 (word_place (length plan.boxes) w) 1 me.0.room me.1 at sits.0 fit.roomy,
+      looks_on plan s k id me.0 (word_place (length plan.boxes) w) 1 1 me.0.room me.1 at sits.0 fit.roomy,
       (
         refl,
         refl,

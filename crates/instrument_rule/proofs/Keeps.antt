@@ -28,7 +28,7 @@ use Rattle.word_laws.proofs.WordsInPlace.{one_place, place_within}
 use Rattle.instrument_rule.specs.declared.view.View.{View}
 use Rattle.instrument_rule.specs.Rule.{Fits, Kept, LaneFree, Roomy, most_entries}
 use Rattle.instrument_rule.specs.Told.{taken}
-use Rattle.instrument_rule.specs.Views.{first_view, held, holders, seeing, with_post}
+use Rattle.instrument_rule.specs.Views.{first_view, held, holders, missed, seeing, with_post}
 use Rattle.instrument_rule.proofs.Parts.{eqb_no, eqb_yes, part-append, part_grows, part_stays}
 use Rattle.instrument_rule.proofs.Views.{at_here, held_first, held_not, held_one, held_yes, holders_none, holders_set}
 use Rattle.instrument_rule.proofs.Views.{holders_two, longer_prefix, set_same, whole_set}
@@ -143,7 +143,7 @@ module _ (plan : PlanFields) where
       (e : Entry)
       → get_elem? s.views id ≡ some v → v.plan ≡ Some plan
       → 0 < held e.box_no v.posts → Grows k.log e w n
-      → Kept plan (stepped s (word_place (length plan.boxes) w) n id c (seeing v (k.log ++ e ∷ []) l None) keeps)
+      → Kept plan (stepped s (word_place (length plan.boxes) w) n id c (seeing v (k.log ++ e ∷ []) l 0 None) keeps)
   extends s k id v w n l c e at has_plan holds g = record {
     log = grown;
     wide = length-set s.words i n ∙ k.wide;
@@ -183,7 +183,7 @@ module _ (plan : PlanFields) where
       inside = place_within (length plan.boxes) w g.is_word
 
       new : View
-      new = seeing v (k.log ++ e ∷ []) l None
+      new = seeing v (k.log ++ e ∷ []) l 0 None
 
       first_same : get_or (set s.words i n) 0 0 ≡ get_or s.words 0 0
       first_same = set_zero s.words i n inside.0
@@ -251,11 +251,12 @@ module _ (plan : PlanFields) where
       }
 
   -- a look at the whole history
-  pub looks_on : (s : St) (k : Kept plan s) (id : ℕ) (v : View) (i l : ℕ) (room : Option Way) (c : List (ℕ × Unit {0}))
+  pub looks_on : (s : St) (k : Kept plan s) (id : ℕ) (v : View) (i l g : ℕ) (room : Option Way)
+      (c : List (ℕ × Unit {0}))
       → get_elem? s.views id ≡ some v → v.plan ≡ Some plan → Roomy plan k.log v.posts room
-      → Kept plan (stepped s i (get_or s.words i 0) id c (seeing v k.log l room) keeps)
-  looks_on s k id v i l room c at has_plan roomy = let f : Fits plan k.log
-      (get_or s.words 0 0) v = k.fits id v at in stays s k id v (seeing v k.log l room) i c at (λ p. refl)
+      → Kept plan (stepped s i (get_or s.words i 0) id c (seeing v k.log l g room) keeps)
+  looks_on s k id v i l g room c at has_plan roomy = let f : Fits plan k.log
+      (get_or s.words 0 0) v = k.fits id v at in stays s k id v (seeing v k.log l g room) i c at (λ p. refl)
       (λ e. refl) record {
         same_plan = inl has_plan;
         seen = record { begins = ([], append-nil k.log); own = λ p h. refl };
@@ -346,6 +347,17 @@ module _ (plan : PlanFields) where
         roomy = f.roomy;
       }
 
+  -- a draw that found another number keeps the view's fit
+  still_fits : (s : St) (k : Kept plan s) (id : ℕ) (v : View) (n : ℕ) → get_elem? s.views id ≡ some v
+      → v.plan ≡ Some plan → Fits plan k.log (get_or s.words 0 0) (missed v n)
+  still_fits s k id v n at has_plan = let f : Fits plan k.log (get_or s.words 0 0) v = k.fits id v at in record {
+    same_plan = inl has_plan;
+    seen = f.seen;
+    below = f.below;
+    olds = f.olds;
+    roomy = f.roomy;
+  }
+
   pub takes : (slots id : ℕ) (me : M) (b : ℕ) → me.0.plan ≡ Some plan → me.0.posts ≡ [] → b < length plan.boxes
       → Allows (Kept plan) slots id me 0 (λ n. either (eqb n b) (b + 1) n) (taken (step slots 0 b (b + 1) none) me)
   takes slots id me b has_plan free is_box s k _ at _ = let n : ℕ = get_or s.words 0 0 in
@@ -360,10 +372,12 @@ module _ (plan : PlanFields) where
         (refl, (λ _. refl), (λ miss. absurd (miss hit)), counted),
       ))
       (λ miss. (
-        me.0,
+        missed me.0 n,
         keeps,
         tt,
-        subst (λ (h : Bool). Kept plan (stepped s 0 (either h (b + 1) n) id me.1 me.0 keeps)) (sym (eqb_no n b miss))
-            (stays plan s k id me.0 me.0 0 me.1 at (λ p. refl) (λ e. e) (k.fits id me.0 at)),
+        subst (λ (h : Bool). Kept plan (stepped s 0 (either h (b + 1) n) id me.1 (missed me.0 n) keeps))
+            (sym (eqb_no n b miss))
+            (stays plan s k id me.0 (missed me.0 n) 0 me.1 at (λ p. refl) (λ e. e)
+            (still_fits s k id me.0 n at has_plan)),
         (refl, (λ hit. absurd (miss hit)), (λ _. refl), counted),
       ))

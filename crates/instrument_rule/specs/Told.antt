@@ -14,7 +14,7 @@ use Rattle.word_laws.specs.WordNumbers.{Word, number_after, word_of}
 use Rattle.instrument_rule.specs.declared.view.View.{View}
 use Rattle.instrument_rule.specs.Calls.{DecidedAt, here_at, looks_by, op_word, room_seen}
 use Rattle.instrument_rule.specs.Rule.{AllSeen, Seen}
-use Rattle.instrument_rule.specs.Views.{caller_of, seeing, settled, with_post}
+use Rattle.instrument_rule.specs.Views.{caller_of, missed, seeing, settled, with_post}
 
 -- ---- what a word shows
 
@@ -34,20 +34,20 @@ pub record Made (plan : PlanFields) (b : ℕ) (call : Call) (op : WordOp) (v : V
   pub legal : IsLegal plan (log ++ entry_of plan (state_of plan log) b call ∷ [])
   pub its_word : op_word b call.act op ≡ word_of plan (entry_of plan (state_of plan log) b call)
   pub sure : DecidedAt plan b call op v.seen n
-  pub now : w ≡ seeing v (log ++ entry_of plan (state_of plan log) b call ∷ []) (looks_by call.act op) None
+  pub now : w ≡ seeing v (log ++ entry_of plan (state_of plan log) b call ∷ []) (looks_by call.act op) 0 None
 
--- a look at a word met such a history, which the seat has then seen
-pub record Saw (plan : PlanFields) (word : Word) (looks : ℕ) (room : Option Way) (v : View) (n : ℕ) (w : View)
+-- a look at a word met such a history, which the seat has then seen; so many looks were counted, so many as glances
+pub record Saw (plan : PlanFields) (word : Word) (looks glances : ℕ) (room : Option Way) (v : View) (n : ℕ) (w : View)
     : Type 0 where
   pub log : List Entry
   pub met : Met plan log word v n
-  pub now : w ≡ seeing v log looks room
+  pub now : w ≡ seeing v log looks glances room
 
 -- an operation for a call of the seat's first box makes its entry, or sees
 abbrev pub MadeOrSaw : Bool → PlanFields → Call → WordOp → View → ℕ → View → Type 0
 MadeOrSaw true plan call op v n w = Made plan (caller_of v.posts) call op v n w
 MadeOrSaw false plan call op v n w =
-    Saw plan (op_word (caller_of v.posts) call.act op) (looks_by call.act op)
+    Saw plan (op_word (caller_of v.posts) call.act op) (looks_by call.act op) 0
     (room_seen (box_plan_of plan (caller_of v.posts)) call.act v.room) v n w
 
 -- the entry is made exactly where the call is decided
@@ -65,10 +65,10 @@ LegalFor None log = Unit {0}
 -- ---- what each step on the table tells: by the step, the seat before it, the number found and the seat after it
 
 -- a draw of a post: it found at most as many posts drawn as the line has boxes; the seat holds the box exactly where
--- that was its number, and else it is as it was
+-- that was its number, and else it is as it was but for what the draw found
 abbrev pub taken : Step (Unit {0}) → Me (Unit {0}) View → ℕ → Me (Unit {0}) View → Type 0
 taken st m n m' =
-    (m'.1 ≡ m.1) × (n ≡ st.first → m'.0 ≡ with_post m.0 st.first) × (n ≢ st.first → m'.0 ≡ m.0)
+    (m'.1 ≡ m.1) × (n ≡ st.first → m'.0 ≡ with_post m.0 st.first) × (n ≢ st.first → m'.0 ≡ missed m.0 n)
     × IfSome m.0.plan (λ plan. n ≤ length plan.boxes)
 
 -- an operation for a call
@@ -78,7 +78,7 @@ done plan call op last st m n m' = (m'.1 ≡ m.1) × (m'.0.posts ≡ m.0.posts) 
 
 -- a look at a word for no call
 abbrev pub glanced : PlanFields → Word → Step (Unit {0}) → Me (Unit {0}) View → ℕ → Me (Unit {0}) View → Type 0
-glanced plan word st m n m' = (m'.1 ≡ m.1) × (m'.0.posts ≡ m.0.posts) × Saw plan word 1 m.0.room m.0 n m'.0
+glanced plan word st m n m' = (m'.1 ≡ m.1) × (m'.0.posts ≡ m.0.posts) × Saw plan word 1 1 m.0.room m.0 n m'.0
 
 -- the second look of a join: what the two views had seen, and that what the seat has now seen is legal
 abbrev pub settles : Step (Unit {0}) → Me (Unit {0}) View → ℕ → Me (Unit {0}) View → Type 0

@@ -11,25 +11,31 @@ use Rattle.instrument_rule.specs.declared.view.View.{View}
 
 -- the first seat has the plan, and has seen nothing
 abbrev pub first_view : PlanFields → View
-first_view plan = record { plan = Some plan; posts = []; seen = []; looks = 0; room = None; olds = [] }
+first_view plan =
+    record { plan = Some plan; posts = []; seen = []; looks = 0; glances = 0; drawn = None; room = None; olds = [] }
 
 -- what a join leaves of the seat that was taken in: nothing
 abbrev pub spent_view : View
-spent_view = record { plan = None; posts = []; seen = []; looks = 0; room = None; olds = [] }
+spent_view =
+    record { plan = None; posts = []; seen = []; looks = 0; glances = 0; drawn = None; room = None; olds = [] }
 
--- a second seat that has seen as much, and holds no box
+-- a second seat that has seen as much, holds no box, and has neither looked nor drawn
 abbrev pub twin_view : View → View
-twin_view v = record { plan = v.plan; posts = []; seen = v.seen; looks = 0; room = None; olds = [] }
+twin_view v =
+    record { plan = v.plan; posts = []; seen = v.seen; looks = 0; glances = 0; drawn = None; room = None; olds = [] }
 
--- the view of a seat that held no box, once it has drawn box b
+-- the view of a seat that held no box, once it has drawn box b, where b posts were drawn before
 abbrev pub with_post : View → ℕ → View
-with_post v b =
-    record { plan = v.plan; posts = b ∷ []; seen = v.seen; looks = v.looks; room = v.room; olds = v.olds }
+with_post v b = record v { posts = b ∷ []; drawn = Some b }
 
--- the view once this history was seen, after so many looks more, and with this room
-abbrev pub seeing : View → List Entry → ℕ → Option Way → View
-seeing v seen looks room =
-    record { plan = v.plan; posts = v.posts; seen = seen; looks = v.looks + looks; room = room; olds = [] }
+-- the view of a seat whose draw found so many posts drawn, and not the number of its box
+abbrev pub missed : View → ℕ → View
+missed v found = record v { drawn = Some found }
+
+-- the view once this history was seen, after so many looks more, so many of them glances, and with this room
+abbrev pub seeing : View → List Entry → ℕ → ℕ → Option Way → View
+seeing v seen looks glances room =
+    record v { seen = seen; looks = v.looks + looks; glances = v.glances + glances; room = room; olds = [] }
 
 -- ---- two views in one
 
@@ -49,13 +55,15 @@ both_views v w =
       posts = v.posts ++ w.posts;
       seen = longer v.seen w.seen;
       looks = v.looks;
+      glances = v.glances;
+      drawn = v.drawn;
       room = v.room;
       olds = old_of v ∷ old_of w ∷ [];
     }
 
 -- the view once the second look of a join has told what each of the two had seen
 abbrev pub settled : View → View
-settled v = record { plan = v.plan; posts = v.posts; seen = v.seen; looks = v.looks; room = v.room; olds = [] }
+settled v = record v { olds = [] }
 
 -- ---- the boxes that a seat holds
 

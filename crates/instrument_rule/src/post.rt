@@ -1,7 +1,7 @@
 //! The posts of a line.
-ghost use Rattle.std.specs.Prelude.{◌≡◌, ◌≢◌, ◌<◌, ◌≤◌, ℕ, [], length, IfOk, replicate};
+ghost use Rattle.std.specs.Prelude.{◌≡◌, ◌≢◌, ◌<◌, ◌≤◌, ℕ, [], length, IfOk, Some, replicate};
 ghost use Rattle.instrument_rule.specs.Calls.{Sits};
-ghost use Rattle.instrument_rule.specs.Views.{first_of, first_view, or_zero, with_post};
+ghost use Rattle.instrument_rule.specs.Views.{first_of, first_view, missed, or_zero, with_post};
 
 use crate::line::Line;
 use crate::plays::Take;
@@ -62,15 +62,16 @@ pub(crate) fn or_zero(box_no: Option<u32>) -> u32
 
 impl Post {
     /// Draws the post of a box, by one compare and exchange of the count of posts drawn. It gives the count that it
-    /// found, which is at most the number of boxes. Exactly where that is the number of the box, this post then holds
-    /// the box; else it is as it was.
+    /// found, which is at most the number of boxes and which the post then knows. Exactly where that is the number of
+    /// the box, this post then holds the box; else it is as it was but for that.
     pub fn take(&mut self, line: &Line, box_no: u32) -> u64
         requires line { self.old.seat.table_id ≡ line.now.table.shared.table_id }
         requires free { Sits line.now.table.shared.key self.old.seat.me.0 × (self.old.seat.me.0.posts ≡ []) }
         requires known { box_no < length line.now.table.shared.key.boxes }
         ensures same { self.new.seat.table_id ≡ self.old.seat.table_id }
         ensures drew { result ≡ box_no → self.new.seat.me.0 ≡ with_post self.old.seat.me.0 box_no }
-        ensures lost { result ≢ box_no → self.new.seat.me.0 ≡ self.old.seat.me.0 }
+        ensures lost { result ≢ box_no → self.new.seat.me.0 ≡ missed self.old.seat.me.0 result }
+        ensures found { self.new.seat.me.0.drawn ≡ Some result }
         ensures counted { result ≤ length line.now.table.shared.key.boxes }
     {
         let old = box_no as u64;

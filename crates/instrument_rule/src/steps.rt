@@ -87,22 +87,23 @@ impl Post {
         requires section { IsSection line.now.table.shared.key section }
         ensures same { self.new.seat.table_id ≡ self.old.seat.table_id }
         ensures posts { self.new.seat.me.0.posts ≡ self.old.seat.me.0.posts }
-        ensures told { Saw J.plan J.word 1 self.old.seat.me.0.room self.old.seat.me.0 result self.new.seat.me.0 }
+        ensures told { Saw J.plan J.word 1 1 self.old.seat.me.0.room self.old.seat.me.0 result self.new.seat.me.0 }
     {
         let word = line.block(section.rear, Link::Out(section.way));
         line.table.shared.load::<Glance<J>>(&mut self.seat, word)
     }
 
-    /// Looks at the instrument of a section, for no call; the post need hold no box. It has then seen all that was done
-    /// on the line until the look, and the word that it gives is the instrument's after that. It makes no entry, takes
-    /// no memory and waits for nobody.
+    /// Looks at the instrument of a section, for no call; the post need hold no box. It has then seen a legal history of
+    /// the line that begins with all that it had seen and has no other entry of its boxes, and the word that it gives is
+    /// the instrument's after that. It counts as a look and as a glance. It makes no entry, takes no memory and waits
+    /// for nobody.
     pub fn glance(&mut self, line: &Line, section: Section) -> u64
         requires line { self.old.seat.table_id ≡ line.now.table.shared.table_id }
         requires sits { Sits line.now.table.shared.key self.old.seat.me.0 }
         requires section { IsSection line.now.table.shared.key section }
         ensures same { self.new.seat.table_id ≡ self.old.seat.table_id }
         ensures posts { self.new.seat.me.0.posts ≡ self.old.seat.me.0.posts }
-        ensures told { Saw line.now.table.shared.key (block_on section.rear (Out section.way)) 1
+        ensures told { Saw line.now.table.shared.key (block_on section.rear (Out section.way)) 1 1
             self.old.seat.me.0.room self.old.seat.me.0 result self.new.seat.me.0 }
     {
         self.glance_as::<Brand>(line, section)

@@ -19,8 +19,12 @@ pub struct View {
     pub posts: LinkedList<u32>,
     /// The beginning of the line's history that it has seen.
     pub seen: LinkedList<Entry>,
-    /// How many looks its awaits have taken.
+    /// How many looks it has taken: those of its awaits, and its glances.
     pub looks: u64,
+    /// How many of them were glances, for no call.
+    pub glances: u64,
+    /// How many posts were drawn when it last drew one, before that draw; none where it never drew.
+    pub drawn: Option<u64>,
     /// The way of a section in which it saw room for the next train.
     pub room: Option<Way>,
     /// Between the two looks of a join, what each of the two had seen.
