@@ -22,7 +22,7 @@ use Rattle.token_block.specs.declared.view.Tokens.{Tokens}
 use Rattle.token_block.specs.declared.view.TokenView.{TokenView}
 use Rattle.token_block.specs.Rule.{AllSeen, Fits, IsHistoryOf, Kept, Marks, held_at, most_box_calls, shown_after}
 use Rattle.token_block.specs.Steps.{entry_after, taken, with_call}
-use Rattle.token_block.specs.Views.{first_view, held, holders, seeing, with_post}
+use Rattle.token_block.specs.Views.{first_view, held, holders, missed, seeing, with_post}
 use Rattle.token_block.specs.Words.{IsLineWord, IsShown, LineWord, TallyOf, TokenShown, number_after}
 use Rattle.token_block.specs.Words.{place_of}
 use Rattle.token_block.proofs.Changes.{coming_kept, hand_kept, none_held}
@@ -344,6 +344,17 @@ module _ (tokens : Tokens) where
         olds = f.olds;
       }
 
+  -- a draw that found another number keeps the view's fit
+  still_fits : (s : St) (k : Kept tokens s) (id : ℕ) (v : TokenView) (n : ℕ) → get_elem? s.views id ≡ some v
+      → v.opened ≡ Some tokens → Fits tokens k.log (get_or s.words 0 0) (missed v n)
+  still_fits s k id v n at has_line = let f : Fits tokens k.log (get_or s.words 0 0) v = k.fits id v at in record {
+    same_line = inl has_line;
+    seen = f.seen;
+    below = f.below;
+    marks = f.marks;
+    olds = f.olds;
+  }
+
   pub takes : (slots id : ℕ) (me : M) (b : ℕ) → me.0.opened ≡ Some tokens → me.0.olds ≡ None → me.0.post ≡ None
       → b < 2
       → Allows (Kept tokens) slots id me 0 (λ n. either (n == b) (b + 1) n) (taken (step slots 0 b (b + 1) none) me)
@@ -359,11 +370,11 @@ module _ (tokens : Tokens) where
         (refl, (λ _. refl), (λ miss. absurd (miss hit)), k.drawn),
       ))
       (λ miss. (
-        me.0,
+        missed me.0 n,
         keeps,
         tt,
         subst (λ (h : Bool).
-            Kept tokens (stepped s 0 (either h (b + 1) n) id me.1 me.0 keeps)) (sym (eqb_no n b miss))
-            (stays s k id me.0 me.0 0 me.1 at (λ p. refl) (λ e. e) (k.fits id me.0 at)),
+            Kept tokens (stepped s 0 (either h (b + 1) n) id me.1 (missed me.0 n) keeps)) (sym (eqb_no n b miss))
+            (stays s k id me.0 (missed me.0 n) 0 me.1 at (λ p. refl) (λ e. e) (still_fits s k id me.0 n at has_line)),
         (refl, (λ hit. absurd (miss hit)), (λ _. refl), k.drawn),
       ))

@@ -48,10 +48,12 @@ pub record IsDrawn (tokens : Tokens) (b : ℕ) (v : TokenView) : Type 0 where
   pub came : v.came ≡ None
   pub olds : v.olds ≡ None
 
--- The box is one of the line, and its post wasn't drawn: so many posts were drawn, which is not the number of the box
--- and no more than there are.
+-- The box is one of the line, and its post wasn't drawn: the draw of this seat found so many posts drawn, which is not
+-- the number of the box and no more than there are. The seat holds no post.
 abbrev pub WasTaken : TokenOpenError → Type 0
-WasTaken (PostTaken box_no found) = (box_no < 2) × (found ≢ box_no) × (found ≤ 2)
+WasTaken (PostTaken box_no found post) =
+    (box_no < 2) × (found ≢ box_no) × (found ≤ 2) × (post.seat.me.0.drawn ≡ Some found)
+    × (post.seat.me.0.post ≡ None)
 WasTaken NoMemory = Unit {0}
 
 -- ---- what the type of a man keeps

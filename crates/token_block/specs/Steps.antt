@@ -17,7 +17,7 @@ use Rattle.token_block.specs.declared.words.TokenOp.TheVariants as ops
 use Rattle.token_block.specs.declared.view.Tokens.{Tokens}
 use Rattle.token_block.specs.declared.view.TokenView.{TokenView}
 use Rattle.token_block.specs.Rule.{AllSeen, IsHistoryOf, held_at, most_box_calls, shown_after}
-use Rattle.token_block.specs.Views.{seeing, settled, with_post}
+use Rattle.token_block.specs.Views.{missed, seeing, settled, with_post}
 use Rattle.token_block.specs.Words.{IsShown, LineWord, TallyOf, TokenShown, number_after, token_word}
 
 -- ---- operations
@@ -142,10 +142,11 @@ LegalFor None log = Unit {0}
 -- ---- what each step on the table tells: by the step, the seat before it, the number found and the seat after it
 
 -- a draw of a post: it found at most 2 posts drawn; the seat holds the post exactly where that was its number, and else
--- it is as it was
+-- it is as it was but for what the draw found
 abbrev pub taken : Step (Unit {0}) → Me (Unit {0}) TokenView → ℕ → Me (Unit {0}) TokenView → Type 0
 taken st m n m' =
-    (m'.1 ≡ m.1) × (n ≡ st.first → m'.0 ≡ with_post m.0 st.first) × (n ≢ st.first → m'.0 ≡ m.0) × (n ≤ 2)
+    (m'.1 ≡ m.1) × (n ≡ st.first → m'.0 ≡ with_post m.0 st.first) × (n ≢ st.first → m'.0 ≡ missed m.0 n)
+    × (n ≤ 2)
 
 -- an operation for a call
 abbrev pub done : Tokens → ℕ → TokenAct → Step (Unit {0}) → Me (Unit {0}) TokenView → ℕ → Me (Unit {0}) TokenView

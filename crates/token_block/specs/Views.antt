@@ -10,26 +10,28 @@ use Rattle.token_block.specs.declared.view.TokenView.{TokenView}
 -- the first seat knows the tokens at the opening, and has seen nothing
 abbrev pub first_view : Tokens → TokenView
 first_view tokens =
-    record { opened = Some tokens; post = None; seen = []; hand = None; came = None; olds = None }
+    record { opened = Some tokens; post = None; seen = []; hand = None; came = None; drawn = None; olds = None }
 
 -- what a join leaves of the seat that was taken in: nothing
 abbrev pub spent_view : TokenView
-spent_view = record { opened = None; post = None; seen = []; hand = None; came = None; olds = None }
+spent_view = record { opened = None; post = None; seen = []; hand = None; came = None; drawn = None; olds = None }
 
--- a second seat that has seen as much, and holds no post
+-- a second seat that has seen as much, holds no post, and has drawn none
 abbrev pub twin_view : TokenView → TokenView
 twin_view v =
-    record { opened = v.opened; post = None; seen = v.seen; hand = None; came = None; olds = None }
+    record { opened = v.opened; post = None; seen = v.seen; hand = None; came = None; drawn = None; olds = None }
 
--- the view of a seat that held no post, once it has drawn that of box b
+-- the view of a seat that held no post, once it has drawn that of box b, where b posts were drawn before
 abbrev pub with_post : TokenView → ℕ → TokenView
-with_post v b =
-    record { opened = v.opened; post = Some b; seen = v.seen; hand = v.hand; came = v.came; olds = v.olds }
+with_post v b = record v { post = Some b; drawn = Some b }
+
+-- the view of a seat whose draw found so many posts drawn, and not the number of its box
+abbrev pub missed : TokenView → ℕ → TokenView
+missed v found = record v { drawn = Some found }
 
 -- the view once this history was seen, with these two marks
 abbrev pub seeing : TokenView → List TokenEntry → Option ℕ → Option ℕ → TokenView
-seeing v seen hand came =
-    record { opened = v.opened; post = v.post; seen = seen; hand = hand; came = came; olds = None }
+seeing v seen hand came = record v { seen = seen; hand = hand; came = came; olds = None }
 
 -- ---- two views in one
 
@@ -46,13 +48,13 @@ both_views v w =
       seen = longer v.seen w.seen;
       hand = v.hand;
       came = v.came;
+      drawn = v.drawn;
       olds = Some (record { mine = v.seen; theirs = w.seen });
     }
 
 -- the view once the second look of a join has told what each of the two had seen
 abbrev pub settled : TokenView → TokenView
-settled v =
-    record { opened = v.opened; post = v.post; seen = v.seen; hand = v.hand; came = v.came; olds = None }
+settled v = record v { olds = None }
 
 -- ---- posts
 

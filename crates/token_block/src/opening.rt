@@ -12,10 +12,14 @@ use crate::post::{TokenPost, open_words};
 use std::alloc::{AllocError, Global};
 
 /// Why no single line was opened.
-#[derive(Debug, Drop)]
+#[derive(Drop)]
 pub enum TokenOpenError {
-    /// A draw of the post of a box found that so many posts were drawn.
-    PostTaken { box_no: u32, found: u64 },
+    /// A draw of the post of a box found that so many posts were drawn. The seat that drew knows it.
+    PostTaken {
+        box_no: u32,
+        found: u64,
+        post: TokenPost,
+    },
     /// Memory ran out.
     NoMemory,
 }
@@ -50,8 +54,11 @@ fn seat_man(
     let mut post = first.split(line);
     let found = post.take(line, box_no);
     if found != box_no as u64 {
-        drop(post);
-        return Err(TokenOpenError::PostTaken { box_no, found });
+        return Err(TokenOpenError::PostTaken {
+            box_no,
+            found,
+            post,
+        });
     }
     Ok(TokenMan::at_post(post, box_no, tokens))
 }
@@ -85,9 +92,9 @@ fn seat_men(
 ///
 /// # Errors
 ///
-/// `PostTaken` where a draw of this call found another number of posts drawn than the number of its box; the line is
-/// then given up. Its contract says of the two numbers that they differ, that the first is a box of the line and that
-/// the second is at most 2. That a draw met the second, and that a line which opens loses no draw, is tested alone.
+/// `PostTaken` where a draw of this call found another number of posts drawn than the number of its box, which is a box
+/// of the line; the line is then given up, and the seat that lost the draw comes with the two numbers. That a line which
+/// opens loses no draw is tested alone.
 /// `NoMemory` where memory runs out.
 pub fn open_token(
     alloc: Global,

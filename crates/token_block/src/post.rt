@@ -1,11 +1,11 @@
 //! Seats at the shared words of a single line, and their steps.
-ghost use Rattle.std.specs.Prelude.{◌≡◌, ◌≢◌, ◌≤◌, ◌<◌, ◌+◌, [], None, IfOk};
+ghost use Rattle.std.specs.Prelude.{◌≡◌, ◌≢◌, ◌≤◌, ◌<◌, ◌+◌, [], None, IfOk, Some};
 ghost use mathlib.Core.List.{IsPrefix};
 ghost use Rattle.token_law.specs.States.{most_tokens};
 ghost use Rattle.token_law.specs.declared.calls.TokenAct.TheVariants as acts;
 ghost use Rattle.token_block.specs.Rule.{Seen};
 ghost use Rattle.token_block.specs.Steps.{LegalFor, MayStep, Sits, Stepped, op_by};
-ghost use Rattle.token_block.specs.Views.{both_views, first_view, settled, twin_view, with_post};
+ghost use Rattle.token_block.specs.Views.{both_views, first_view, missed, settled, twin_view, with_post};
 
 use crate::line::TokenLine;
 use crate::plays::{Calling, Do, Merge, Settle, Take, Twin};
@@ -38,14 +38,16 @@ pub fn open_words(alloc: Global, at_0: u32, at_1: u32) -> Result<(TokenLine, Tok
 
 impl TokenPost {
     /// Draws the post of a box, by one compare and exchange of the number of posts drawn. It gives the number that it
-    /// found. Exactly where that is the box's, the seat then holds the post; else it is as it was.
+    /// found, which the seat then knows. Exactly where that is the box's, the seat then holds the post; else it is as it
+    /// was but for that.
     pub fn take(&mut self, line: &TokenLine, box_no: u32) -> u64
         requires line { self.old.seat.table_id ≡ line.now.table.shared.table_id }
         requires free { Sits line.now.table.shared.key self.old.seat.me.0 × (self.old.seat.me.0.post ≡ None) }
         requires known { box_no < 2 }
         ensures same { self.new.seat.table_id ≡ self.old.seat.table_id }
         ensures drew { result ≡ box_no → self.new.seat.me.0 ≡ with_post self.old.seat.me.0 box_no }
-        ensures lost { result ≢ box_no → self.new.seat.me.0 ≡ self.old.seat.me.0 }
+        ensures lost { result ≢ box_no → self.new.seat.me.0 ≡ missed self.old.seat.me.0 result }
+        ensures found { self.new.seat.me.0.drawn ≡ Some result }
         ensures counted { result ≤ 2 }
     {
         let old = box_no as u64;

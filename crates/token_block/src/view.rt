@@ -28,6 +28,8 @@ pub struct TokenView {
     pub hand: Option<u16>,
     /// A train that it saw on the line to its post.
     pub came: Option<u16>,
+    /// How many posts were drawn when it last drew one, before that draw; none where it never drew.
+    pub drawn: Option<u64>,
     /// Between the two looks of a join, what each of the two had seen.
     pub olds: Option<SeenBefore>,
 }
