@@ -105,9 +105,9 @@ module _ (plan : PlanFields) (is : IsPlan plan) (v : View) (r n : ℕ) (k : Know
       ap (λ (es : List Entry). length es) (seen.own (caller_of v.posts) (caller_held v.posts k.holds)) ∙ k.counted
 
   -- a look that makes no entry
-  pub saw : (word : Word) (l : ℕ) (room : Option Way) (m : ℕ) (w : View) → Saw plan word l room v m w
+  pub saw : (word : Word) (l g : ℕ) (room : Option Way) (m : ℕ) (w : View) → Saw plan word l g room v m w
       → Knows plan w r n
-  saw word l room m w s = subst (λ (u : View). Knows plan u r n) (sym s.now) record {
+  saw word l g room m w s = subst (λ (u : View). Knows plan u r n) (sym s.now) record {
     sits = (k.sits.0, refl);
     holds = k.holds;
     early = ap (λ (b : BoxState). b.moment) (same_own s.log s.met.seen s.met.legal) ∙ k.early;
@@ -263,7 +263,7 @@ module _ (plan : PlanFields) (is : IsPlan plan) (v : View) (r n : ℕ) (k : Know
       keeps_box (await_call side code) (ops.LookBell side) m w refl t
       (subst (λ (c : ℕ). KnowsCall plan c (await_call side code)) (sym whose) known)
       (awaited_here _ code _ _)
-  looks_on false b code m side w whose known t = saw plan is v r n k _ _ _ m w t
+  looks_on false b code m side w whose known t = saw plan is v r n k _ _ _ _ m w t
 
   pub looks : (last : Bool) (b code m : ℕ) (side : Way) (w : View) → caller_of v.posts ≡ b
       → KnowsCall plan b (await_call side code)

@@ -245,7 +245,7 @@ module _ (plan : PlanFields) (is : IsPlan plan) (v : View) (lever place s n : �
       → IsStanding plan w place s n × (w.room ≡ Some Down) × (caller_of w.posts ≡ caller_of v.posts)
   sees last m w free t = (
     record {
-      knows = saw plan is v 0 n f.knows _ _ _ m w seen;
+      knows = saw plan is v 0 n f.knows _ _ _ _ m w seen;
       stands = subst (λ (u : View). Stands (box_at (state_of plan u.seen) (caller_of u.posts)) place s) (sym seen.now)
           (subst (λ (h : BoxState). Stands h place s)
           (sym (same_own plan is v 0 n f.knows seen.log seen.met.seen seen.met.legal)) f.stands);
