@@ -36,6 +36,7 @@ new_man plan b room v desk register notes within most drawn fit = record {
   calls = fit.calls ∙ sym (ap (λ (r : RegisterFields). length r.entries) fit.empty);
   looks = sym drawn.looks;
   few_looks = omega arith;
+  glances = drawn.glances;
   noted = subst (λ (o : Option PlanFields). IfSome o (λ p. AreNotesOf p b notes)) (sym drawn.plan_is) fit.noted;
 }
 

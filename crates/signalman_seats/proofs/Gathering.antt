@@ -52,6 +52,7 @@ takes_in plan v w other b desk register taken notes is has man view bare seen le
   calls = man.calls;
   looks = man.looks ∙ sym (ap (λ (x : View). x.looks) view);
   few_looks = man.few_looks;
+  glances = ap (λ (x : View). x.glances) view ∙ man.glances;
   noted = subst (λ (o : Option PlanFields). IfSome o (λ p. AreNotesOf p b notes)) (sym (ap (λ (x : View). x.plan) view))
       man.noted;
 }
@@ -79,6 +80,7 @@ pub record Gathered (v : View) (man : Man) : Type 0 where
   pub holds : (p : ℕ) → 0 < held p man.view.posts → 0 < held p v.posts
   pub post : man.view.posts ≡ man.box_no ∷ []
   pub entries : man.entries ≡ part_of man.box_no man.view.seen
+  pub glances : man.view.glances ≡ 0
 
 -- the same of all these men, whose registers are these
 abbrev pub Joined : View → List Man → List RegisterFields → Type 0
@@ -97,14 +99,15 @@ still v w man new g s posts = record {
       let o = g.holds p h in omega arith);
   post = g.post;
   entries = g.entries;
+  glances = g.glances;
 }
 
 pub gathers : (v w : View) (men : List Man) (registers : List RegisterFields) (man : Man) (register : RegisterFields)
     → Joined v men registers → length registers ≡ length men
     → Seen w.seen v.posts v.seen → Seen w.seen man.view.posts man.view.seen → w.posts ≡ v.posts ++ man.view.posts
     → register ≡ register_of man → man.view.posts ≡ man.box_no ∷ [] → man.entries ≡ part_of man.box_no man.view.seen
-    → Joined w (men ++ man ∷ []) (registers ++ register ∷ [])
-gathers v w men registers man register all len mine theirs posts is post part_is k d h = ⊎_elim
+    → man.view.glances ≡ 0 → Joined w (men ++ man ∷ []) (registers ++ register ∷ [])
+gathers v w men registers man register all len mine theirs posts is post part_is bare k d h = ⊎_elim
     (λ (t : ((k == length men) ≡ true) × (k ≡ length men)).
     let e : get_or (men ++ man ∷ []) k d ≡ man = get_or_push men man d k (sym t.1) in
     let f : get_or (registers ++ register ∷ []) k no_register ≡ register = get_or_push registers register
@@ -129,6 +132,7 @@ gathers v w men registers man register all len mine theirs posts is post part_is
           omega arith);
       post = post;
       entries = part_is;
+      glances = bare;
     }
 
 some_man : (men : List Man) → 0 < length men → Man
@@ -153,6 +157,7 @@ closes table_id plan v men registers is are all len has legal = record {
         ∙ ap (λ (c : ℕ). part_of c v.seen) no));
   };
   entries = λ b d h. ap (λ (r : RegisterFields). r.entries) (all b d h).1;
+  glances = λ b d h. (all b d h).0.glances;
 }
   where
     there : (b : ℕ) → b < length plan.boxes → b < length men

@@ -1,6 +1,7 @@
 -- What looks at a word tell of the view before, and what may follow them.
 use Rattle.std.proofs.Common.{◌≡◌, ◌≢◌, ℕ, ◌+◌, ◌<◌, ◌≤◌, Bool, true, false, inr, List, [], ◌∷◌, ◌++◌, length}
 use Rattle.std.proofs.Common.{Option, Some, None, sym, refl, ap, ◌∙◌, subst, arith, append_assoc, append-nil}
+use Rattle.std.proofs.Common.{length-append}
 use Rattle.std.specs.Prelude.{◌==◌}
 use Rattle.std.proofs.lemmas.Bool.Decides.{nat_tests}
 use mathlib.Core.List.{IsPrefix}
@@ -37,7 +38,8 @@ use Rattle.instrument_rule.specs.Views.{caller_of, held, seeing}
 use Rattle.instrument_rule.proofs.Doing.{caller_held}
 use Rattle.instrument_rule.proofs.OpWords.{first_word, second_always, second_is}
 use Rattle.instrument_rule.proofs.Parts.{own_box}
-use Rattle.signalman_seats.specs.Asking.{AsksAt, Decided, Watched}
+use Rattle.signalman_seats.specs.Asking.{AsksAt, Decided, Waited, Watched, look_word}
+use Rattle.signalman_seats.specs.Looks.{InVain, WereInVain}
 use Rattle.signalman_seats.proofs.Deciding.{alone, at_last, first_counted, look_one, looks_few, second_none, sure_met}
 use Rattle.signalman_seats.proofs.Deciding.{undecided, waits}
 
@@ -94,7 +96,7 @@ pub made_is : (plan : PlanFields) (call : Call) (op : WordOp) (last : Bool) (v :
 made_is plan call op last v n w told h = subst (λ (d : Bool). MadeOrSaw d plan call op v n w) h told
 
 pub watched : (plan : PlanFields) (word : Word) (l : ℕ) (room : Option Way) (v : View) (n : ℕ) (w : View) → IsPlan plan
-    → v.posts ≢ [] → Saw plan word l room v n w → Watched plan v l w
+    → v.posts ≢ [] → Saw plan word l 0 room v n w → Watched plan v l w
 watched plan word l room v n w is holds s = subst (Watched plan v l) (sym s.now) record {
   seen = s.met.seen;
   same_box = own_box plan (caller_of v.posts) v.seen s.log is s.met.seen.begins s.met.legal
@@ -103,6 +105,7 @@ watched plan word l room v n w is holds s = subst (Watched plan v l) (sym s.now)
   posts = refl;
   olds = refl;
   looked = refl;
+  glances = omega arith;
 }
 
 -- after looks the same may follow as before
@@ -147,7 +150,7 @@ same_code m n h = grind (arith, nat_tests)
 was_seen_by : (plan : PlanFields) (b : ℕ) (v : View) (act : Act) (here : BoxState) (n : ℕ) (log : List Entry) (l : ℕ)
     (op : WordOp) → second_by (box_plan_of plan b) act here ≡ Some op → met_by (box_plan_of plan b) act here n ≡ true
     → n ≡ number_after plan log (op_word b act (first_by (box_plan_of plan b) act here))
-    → WasSeen plan b (seeing v log l (room_seen (box_plan_of plan b) act v.room)) act
+    → WasSeen plan b (seeing v log l 0 (room_seen (box_plan_of plan b) act v.room)) act
 was_seen_by plan b v (acts.Ring side code) here n log l op e h found = absurd cc
 was_seen_by plan b v (acts.Hear side) here n log l op e h found = absurd cc
 was_seen_by plan b v (acts.AwaitBell side code) here n log l op e h found = ap bell_code (sym found)
@@ -170,7 +173,7 @@ was_seen : (plan : PlanFields) (b : ℕ) (v : View) (act : Act) (here : BoxState
     (l : ℕ) (op : WordOp) → second_on k (second_by (box_plan_of plan b) act here) ≡ Some op
     → met_by (box_plan_of plan b) act here n ≡ true → n ≡ number_after plan log
     (op_word b act (first_on k (first_by (box_plan_of plan b) act here)))
-    → WasSeen plan b (seeing v log l (room_seen (box_plan_of plan b) act v.room)) act
+    → WasSeen plan b (seeing v log l 0 (room_seen (box_plan_of plan b) act v.room)) act
 was_seen plan b v act here Tally n log l op e h found = absurd cc
 was_seen plan b v act here BellWord n log l op e h found = was_seen_by plan b v act here n log l op e h found
 was_seen plan b v act here BlockWord n log l op e h found = was_seen_by plan b v act here n log l op e h found
@@ -234,11 +237,15 @@ module _ (plan : PlanFields) (ask : WordAsk) (last : Bool) (v : View) (n : ℕ) 
 
 -- the call is decided after looks
 pub decided : (plan : PlanFields) (call : Call) (op : WordOp) (last : Bool) (v w x : View) (l n looks : ℕ)
-    → l + looks_by call.act op ≤ looks → (awaits_of call.act ≡ true → l + looks_by call.act op ≡ looks) → v.posts ≢ []
-    → Watched plan v l w → Tells plan call op last w n x
+    → l + looks_by call.act op ≤ looks
+    → (awaits_of call.act ≡ true → met_by (box_plan_of plan (caller_of v.posts)) call.act
+    (here_at plan v.seen (caller_of v.posts) call) n ≡ false
+    → (l + looks_by call.act op ≡ looks)
+    × InVain plan (caller_of v.posts) call (look_word plan v call) looks v.seen x.seen)
+    → v.posts ≢ [] → Watched plan v l w → Tells plan call op last w n x
     → op_decides (box_plan_of plan (caller_of w.posts)) call.act (here_at plan w.seen (caller_of w.posts) call) op last
     n ≡ true → Decided plan call looks v n x
-decided plan call op last v w x l n looks most all_looks holds h told sure =
+decided plan call op last v w x l n looks most vain holds h told sure =
     let m = made_is plan call op last w n x told sure in
     let same : caller_of w.posts ≡ caller_of v.posts = ap caller_of h.posts in
     record {
@@ -267,8 +274,10 @@ decided plan call op last v w x l n looks most all_looks holds h told sure =
         (let a : x.looks ≡ w.looks + looks_by call.act op = ap (λ (z : View). z.looks)
             m.now in let b = h.looked in omega arith),
         most,
-        λ await vain. all_looks await,
+        vain,
       );
+      glances = let a : x.glances ≡ w.glances + 0 = ap (λ (z : View). z.glances) m.now in let b = h.glances in
+          omega arith;
     }
 
 -- nothing was looked at yet
@@ -281,6 +290,7 @@ not_yet plan v none_old = record {
   posts = refl;
   olds = none_old;
   looked = omega arith;
+  glances = refl;
 }
 
 -- a second operation decides the call
@@ -299,11 +309,43 @@ pub await_yes : (t a l : Bool) → t ≡ a → (a ≡ false → l ≡ true) → 
 await_yes true a l e h more = refl
 await_yes false a l e h more = let must : l ≡ true = h (sym e) in absurd cc
 
+-- the box stays as the post has seen it in every history that an operation meets
+pub met_here : (plan : PlanFields) (log : List Entry) (word : Word) (v : View) (n : ℕ) → IsPlan plan → v.posts ≢ []
+    → Met plan log word v n
+    → box_at (state_of plan log) (caller_of v.posts) ≡ box_at (state_of plan v.seen) (caller_of v.posts)
+met_here plan log word v n is holds met = own_box plan (caller_of v.posts) v.seen log is met.seen.begins met.legal
+    (met.seen.own (caller_of v.posts) (caller_held v.posts holds))
+
+-- one look that has not met what its call looks for
+pub one_in_vain : (plan : PlanFields) (call : Call) (op : WordOp) (v : View) (n : ℕ) (log after : List Entry)
+    → IsPlan plan → v.posts ≢ [] → Met plan log (op_word (caller_of v.posts) call.act op) v n
+    → first_op plan (box_plan_of plan (caller_of v.posts)) call.act (here_at plan v.seen (caller_of v.posts) call) ≡ op
+    → IsPrefix log after
+    → met_by (box_plan_of plan (caller_of v.posts)) call.act (here_at plan v.seen (caller_of v.posts) call) n ≡ false
+    → InVain plan (caller_of v.posts) call (look_word plan v call) 1 v.seen after
+one_in_vain plan call op v n log after is holds met first ends miss = (
+  log ∷ [],
+  refl,
+  (
+    ends,
+    met.legal,
+    (λ i. met_by (box_plan_of plan (caller_of v.posts)) call.act (here i) (number i)) ∙ miss,
+    met.seen.begins,
+  ),
+)
+  where
+    here : here_at plan log (caller_of v.posts) call ≡ here_at plan v.seen (caller_of v.posts) call
+    here = ap (λ (x : BoxState). at_moment x call.moment) (met_here plan log _ v n is holds met)
+
+    number : number_after plan log (look_word plan v call) ≡ n
+    number = sym (met.found
+        ∙ ap (λ (o : WordOp). number_after plan log (op_word (caller_of v.posts) call.act o)) (sym first))
+
 -- a look of an await that is not the last
 pub awaited : (plan : PlanFields) (ask : WordAsk) (last : Bool) (v : View) (n : ℕ) (w : View) → IsPlan plan
     → MayStep plan ask.call v → IsAsk plan v ask → Tells plan ask.call ask.first last v n w → last ≡ false
     → awaits_of ask.call.act ≡ true → met_by (box_plan_of plan (caller_of v.posts)) ask.call.act
-    (here_at plan v.seen (caller_of v.posts) ask.call) n ≡ false → Watched plan v 1 w
+    (here_at plan v.seen (caller_of v.posts) ask.call) n ≡ false → Waited plan ask.call v 1 w
 awaited plan ask last v n w is may asked told no_more waits_on missed =
     let box_plan : BoxFields = box_plan_of plan (caller_of v.posts) in
     let here : BoxState = here_at plan v.seen (caller_of v.posts) ask.call in
@@ -311,9 +353,13 @@ awaited plan ask last v n w is may asked told no_more waits_on missed =
     let h : op_decides box_plan ask.call.act here ask.first last n ≡ false = subst (λ (t : Bool). op_decides box_plan
     ask.call.act here ask.first t n ≡ false) (sym no_more)
     (subst (λ (o : WordOp). op_decides box_plan ask.call.act here o false n ≡ false) asked.first r.undecided) in
-    subst (λ (l : ℕ). Watched plan v l w) (ap (looks_by ask.call.act) (sym asked.first)
-    ∙ r.one) (watched plan _ (looks_by ask.call.act ask.first) _ v n w is may.holds
-    (saw_is plan ask.call ask.first last v n w told h))
+    let saw = saw_is plan ask.call ask.first last v n w told h in
+    record {
+      watched = subst (λ (l : ℕ). Watched plan v l w) (ap (looks_by ask.call.act) (sym asked.first)
+          ∙ r.one) (watched plan _ (looks_by ask.call.act ask.first) _ v n w is may.holds saw);
+      in_vain = one_in_vain plan ask.call ask.first v n saw.log w.seen is may.holds saw.met asked.first
+          ([], append-nil saw.log ∙ sym (ap (λ (x : View). x.seen) saw.now)) missed;
+    }
 
 -- looks after looks
 pub more_looks : (plan : PlanFields) (v w x : View) (l m : ℕ) → v.posts ≢ [] → Watched plan v l w → Watched plan w m x
@@ -329,14 +375,54 @@ more_looks plan v w x l m holds h k = record {
   posts = k.posts ∙ h.posts;
   olds = k.olds;
   looked = let a = h.looked in let b = k.looked in omega arith;
+  glances = k.glances ∙ h.glances;
 }
 
--- the box stays as the post has seen it in every history that an operation meets
-pub met_here : (plan : PlanFields) (log : List Entry) (word : Word) (v : View) (n : ℕ) → IsPlan plan → v.posts ≢ []
-    → Met plan log word v n
-    → box_at (state_of plan log) (caller_of v.posts) ≡ box_at (state_of plan v.seen) (caller_of v.posts)
-met_here plan log word v n is holds met = own_box plan (caller_of v.posts) v.seen log is met.seen.begins met.legal
-    (met.seen.own (caller_of v.posts) (caller_held v.posts holds))
+-- what was in vain stays so when more is seen
+later_end : (plan : PlanFields) (b : ℕ) (call : Call) (word : Word) (before : List Entry) (logs : List (List Entry))
+    (after later : List Entry) → WereInVain plan b call word before logs after → IsPrefix after later
+    → WereInVain plan b call word before logs later
+later_end plan b call word before [] after later h more = prefix_trans before after later h more
+later_end plan b call word before (log ∷ logs) after later h more =
+    (prefix_trans log after later h.0 more, h.1, h.2, h.3)
+
+both_in_vain : (plan : PlanFields) (b : ℕ) (call : Call) (word : Word) (before : List Entry)
+    (logs : List (List Entry)) (mid : List Entry) (more : List (List Entry)) (after : List Entry)
+    → WereInVain plan b call word before logs mid → WereInVain plan b call word mid more after
+    → WereInVain plan b call word before (more ++ logs) after
+both_in_vain plan b call word before logs mid [] after h k = later_end plan b call word before logs mid after h k
+both_in_vain plan b call word before logs mid (log ∷ more) after h k =
+    (k.0, k.1, k.2, both_in_vain plan b call word before logs mid more log h k.3)
+
+more_in_vain : (plan : PlanFields) (call : Call) (v w x : View) (l m : ℕ) → Watched plan v l w
+    → InVain plan (caller_of v.posts) call (look_word plan v call) l v.seen w.seen
+    → InVain plan (caller_of w.posts) call (look_word plan w call) m w.seen x.seen
+    → InVain plan (caller_of v.posts) call (look_word plan v call) (l + m) v.seen x.seen
+more_in_vain plan call v w x l m h early late = (
+  late.0 ++ early.0,
+  (let n = length-append late.0 early.0 in let a = early.1 in let c = late.1 in omega arith),
+  both_in_vain plan (caller_of v.posts) call (look_word plan v call) v.seen early.0 w.seen late.0 x.seen early.2 moved,
+)
+  where
+    back : here_at plan w.seen (caller_of w.posts) call ≡ here_at plan v.seen (caller_of v.posts) call
+    back = sym (same_here plan v w l call h)
+
+    word : look_word plan w call ≡ look_word plan v call
+    word = λ i. op_word (caller_of (h.posts i)) call.act
+        (first_op plan (box_plan_of plan (caller_of (h.posts i))) call.act (back i))
+
+    moved : WereInVain plan (caller_of v.posts) call (look_word plan v call) w.seen late.0 x.seen
+    moved = subst (λ (o : Word). WereInVain plan (caller_of v.posts) call o w.seen late.0 x.seen) word
+        (subst (λ (b : ℕ). WereInVain plan b call (look_word plan w call) w.seen late.0 x.seen)
+        (ap caller_of h.posts) late.2)
+
+-- looks in vain after looks in vain
+pub more_waits : (plan : PlanFields) (call : Call) (v w x : View) (l m : ℕ) → v.posts ≢ [] → Waited plan call v l w
+    → Waited plan call w m x → Waited plan call v (l + m) x
+more_waits plan call v w x l m holds h k = record {
+  watched = more_looks plan v w x l m holds h.watched k.watched;
+  in_vain = more_in_vain plan call v w x l m h.watched h.in_vain k.in_vain;
+}
 
 -- a word that was met for a call agrees with the box, where the call is decided on that word
 pub met_agrees : (plan : PlanFields) (log : List Entry) (word : Word) (v : View) (n : ℕ) (call : Call) → IsPlan plan
@@ -442,8 +528,9 @@ second_found plan ask v w x l n op a h asked two told =
 pub decided_after : (plan : PlanFields) (call : Call) (v w x : View) (l n few looks : ℕ) → l + few ≤ looks
     → (awaits_of call.act ≡ true → met_by (box_plan_of plan (caller_of v.posts)) call.act
     (here_at plan v.seen (caller_of v.posts) call) n ≡ false → l + few ≡ looks)
-    → v.posts ≢ [] → Watched plan v l w → Decided plan call few w n x → Decided plan call looks v n x
-decided_after plan call v w x l n few looks most vain holds h d =
+    → v.posts ≢ [] → Waited plan call v l w → Decided plan call few w n x → Decided plan call looks v n x
+decided_after plan call v w x l n few looks most vain holds waited d =
+    let h = waited.watched in
     let same : caller_of w.posts ≡ caller_of v.posts = ap caller_of h.posts in
     record {
       log = d.log;
@@ -470,8 +557,13 @@ decided_after plan call v w x l n few looks most vain holds h d =
         (let a = d.looked.1 in let b = h.looked in omega arith),
         (let a = d.looked.2 in omega arith),
         λ await miss. (let one = d.looked.3 await (same_met plan v w l call n h miss) in let all = vain await miss in
-            omega arith),
+            let few_all = one.0 in (
+              omega arith,
+              subst (λ (k : ℕ). InVain plan (caller_of v.posts) call (look_word plan v call) k v.seen x.seen) all
+                  (more_in_vain plan call v w x l few h waited.in_vain one.1),
+            )),
       );
+      glances = d.glances ∙ h.glances;
     }
 
 -- the desk asks after looks as it did before
@@ -515,7 +607,8 @@ module _ (plan : PlanFields) (v : View) (desk : DeskFields) (ask : WordAsk) (las
       let none = ask_none plan v ask op asked two in
       let few = looks_few ask.call.act ask.first in
       decided plan ask.call op true v w x (looks_by ask.call.act ask.first) m 1 (omega arith)
-      (λ a. let one = ask_one plan v ask asked a in omega arith) may.holds d.watched then_told
+      (λ a miss. (let found = second_found plan ask v w x (looks_by ask.call.act ask.first) m op a d.watched asked two
+      then_told in absurd (differ (sym found ∙ miss)))) may.holds d.watched then_told
       (second_decides plan ask w op m (ask_after plan v w (looks_by ask.call.act ask.first) ask d.watched asked) two)
 
   -- it was counted, where its call is an await
@@ -561,9 +654,16 @@ module _ (plan : PlanFields) (v : View) (desk : DeskFields) (ask : WordAsk) (las
   first_decided sure =
       let asked = is_ask plan v desk ask at in
       let few = looks_few ask.call.act ask.first in
-      decided plan ask.call ask.first last v v w 0 n 1 (omega arith) (λ a. let one = ask_one plan v ask asked a in
-      omega arith) may.holds (not_yet plan v sits.1) told
-      (by_first plan ask last v n w is sits may asked told true sure)
+      let decides = by_first plan ask last v n w is sits may asked told true sure in
+      let made = made_is plan ask.call ask.first last v n w told decides in
+      decided plan ask.call ask.first last v v w 0 n 1 (omega arith) (λ a miss. (
+        let one = ask_one plan v ask asked a in
+            omega arith,
+        one_in_vain plan ask.call ask.first v n made.log w.seen is may.holds made.met asked.first (
+          entry_of plan (state_of plan made.log) (caller_of v.posts) ask.call ∷ [],
+          sym (ap (λ (x : View). x.seen) made.now),
+        ) miss,
+      )) may.holds (not_yet plan v sits.1) told decides
 
   -- it met what the call looks for, which has no second operation
   pub alone_decided : t ≡ true → ask.second ≡ None → Decided plan ask.call 1 v n w
@@ -584,7 +684,7 @@ module _ (plan : PlanFields) (v : View) (desk : DeskFields) (ask : WordAsk) (las
       ask.call))) n (same_test plan v desk ask n t at test ∙ miss)))
 
   -- another may follow
-  pub goes_on : t ≡ false → last ≡ false → (ask.awaits ≡ false → last ≡ true) → Watched plan v 1 w
+  pub goes_on : t ≡ false → last ≡ false → (ask.awaits ≡ false → last ≡ true) → Waited plan ask.call v 1 w
   goes_on miss more once = let asked = is_ask plan v desk ask at in
       awaited plan ask last v n w is may asked told more (await_yes (awaits_of ask.call.act) ask.awaits last
       asked.awaits once more) (same_test plan v desk ask n t at test ∙ miss)

@@ -29,7 +29,7 @@ use Rattle.line_law.proofs.Outcomes.{outcome_of}
 use Rattle.line_law.proofs.Sides.{known_parts}
 use Rattle.word_laws.specs.Footprint.{Kind, Tally, BellWord, BlockWord, PlainLineWord, kind_of}
 use Rattle.word_laws.specs.Operations.{IsOnWord}
-use Rattle.word_laws.specs.WordNumbers.{Agrees, NumberAgrees, number_after, number_at, word_named}
+use Rattle.word_laws.specs.WordNumbers.{Agrees, NumberAgrees, Word, number_after, number_at, word_named, word_of}
 use Rattle.word_laws.proofs.Agreements.{met_agrees as pair_agrees}
 use Rattle.word_laws.proofs.TellsKind.{decision_tells, kind_is_told}
 use Rattle.box_desk.specs.declared.ask.Step.{Step}
@@ -43,9 +43,11 @@ use Rattle.instrument_rule.specs.Calls.{MayStep, Sits, here_at}
 use Rattle.instrument_rule.specs.Told.{Tells}
 use Rattle.instrument_rule.specs.Views.{caller_of}
 use Rattle.instrument_rule.proofs.Doing.{caller_held}
+use Rattle.instrument_rule.proofs.OpWords.{first_word}
 use Rattle.instrument_rule.proofs.Parts.{part_grows}
-use Rattle.signalman_seats.specs.Asking.{AsksAt, Decided}
-use Rattle.signalman_seats.specs.Men.{Answered, IsAtDesk, Performed, answered}
+use Rattle.signalman_seats.specs.Asking.{AsksAt, Decided, look_word}
+use Rattle.signalman_seats.specs.Looks.{InVain}
+use Rattle.signalman_seats.specs.Men.{Answered, AtOneStep, IsAtDesk, Performed, answered}
 use Rattle.signalman_seats.proofs.Looking.{decided, met_here, not_yet}
 use Rattle.signalman_seats.proofs.NotYet.{HasCode, not_yet_missed}
 
@@ -299,8 +301,9 @@ module _ (plan : PlanFields) (call : Call) (looks : ℕ) (v : View) (n : ℕ) (w
     seen_is : w.seen ≡ done.log ++ answered (caller_of v.posts) call reply ∷ []
     seen_is = done.now ∙ ap (λ (r : Reply). done.log ++ answered (caller_of v.posts) call r ∷ []) law.reply_is
 
-    -- an await that is told that it wasn't satisfied has taken all its looks
-    in_vain : is_not_yet reply ≡ true → done.looked.0 ≡ looks
+    -- an await that is told that it wasn't satisfied has taken all its looks, each in vain
+    in_vain : is_not_yet reply ≡ true → (done.looked.0 ≡ looks)
+        × InVain plan (caller_of v.posts) call (look_word plan v call) looks v.seen w.seen
     in_vain e =
         let box_plan : BoxFields = box_plan_of plan (caller_of v.posts) in
         let there : BoxState = here_at plan done.log (caller_of v.posts) call in
@@ -315,6 +318,29 @@ module _ (plan : PlanFields) (call : Call) (looks : ℕ) (v : View) (n : ℕ) (w
         done.looked.3 missed.awaits ((λ i. met_by (box_plan_of plan (caller_of v.posts)) call.act (sym own i)
         (sym number i)) ∙ missed.missed)
 
+    -- the word at which it looked is that of its entry
+    look_word_is : look_word plan v call ≡ word_of plan (answered (caller_of v.posts) call reply)
+    look_word_is =
+        let b : ℕ = caller_of v.posts in
+        let box_plan : BoxFields = box_plan_of plan b in
+        let named : Kind → Word = λ k. word_named k b (pair_of plan b call) (way_of (link_of box_plan call.act)) in
+        first_word plan box_plan b call.act (here_at plan v.seen b call) _
+        (outcome_of plan box_plan call.act (here_at plan v.seen b call))
+        ∙ (ap (λ (x : BoxState). named (kind_of (decide plan box_plan call.act x))) (sym own)
+        ∙ (ap named (sym (kind_is_told plan (state_of plan done.log) b call))
+        ∙ ap (λ (r : Reply). word_of plan (answered b call r)) law.reply_is))
+
+    at_one_step : AtOneStep plan (caller_of v.posts) call reply v w
+    at_one_step = record {
+      log = done.log;
+      op = done.op;
+      read = n;
+      met = done.met;
+      its_word = done.its_word
+          ∙ ap (λ (r : Reply). word_of plan (answered (caller_of v.posts) call r)) law.reply_is;
+      now = seen_is;
+    }
+
     pub performs : Performed plan (caller_of v.posts) call looks reply v w
     performs = record {
       begins = (
@@ -324,12 +350,15 @@ module _ (plan : PlanFields) (call : Call) (looks : ℕ) (v : View) (n : ℕ) (w
             ∙ sym seen_is),
       );
       legal = subst (IsLegal plan) (sym done.now) done.legal;
-      last = (done.log, seen_is);
+      last = at_one_step;
       grew = ap (part_of (caller_of v.posts)) seen_is ∙ (part_grows (caller_of v.posts) done.log
           (answered (caller_of v.posts) call reply) refl
           ∙ ap (λ (es : List Entry). es ++ answered (caller_of v.posts) call reply ∷ [])
           (done.met.seen.own (caller_of v.posts) (caller_held v.posts may.holds)));
-      looked = (done.looked.0, done.looked.1, done.looked.2, in_vain);
+      looked = (done.looked.0, done.looked.1, done.looked.2, λ e. (in_vain e).0);
+      glances = done.glances;
+      in_vain = λ e. subst (λ (o : Word). InVain plan (caller_of v.posts) call o looks v.seen w.seen) look_word_is
+          (in_vain e).1;
     }
 
     -- the call is answered, at a desk of the box after it
@@ -382,7 +411,7 @@ answered_here plan call looks v n w old new step reply is sits may at says local
     (at_moment old.here call.moment)) (moved_to old call.moment) s new) local
     (prepared plan (caller_of v.posts) v.seen old new call step at says)) in
     let done : Decided plan call looks v n w = decided plan call ops.Local true v v w 0 n looks (omega arith)
-    (λ a. absurd (never_here plan (box_plan_of plan (caller_of v.posts)) call.act
+    (λ a miss. absurd (never_here plan (box_plan_of plan (caller_of v.posts)) call.act
     (here_at plan v.seen (caller_of v.posts) call) t.tally a)) may.holds (not_yet plan v sits.1) told refl in
     answers plan call looks v n w is may done reply new.here
     (subst (λ (x : BoxState). IsTold PairState (on_pair (way_of (link_of (box_plan_of plan (caller_of v.posts))

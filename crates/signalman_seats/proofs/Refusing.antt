@@ -1,8 +1,9 @@
 -- What a word refuses a call with is its reply.
 use Rattle.std.proofs.Common.{◌≡◌, ◌≢◌, ⊎_elim, ℕ, ◌+◌, ◌<◌, Bool, true, false, List, [], ◌∷◌, ◌++◌, Option, Some}
 use Rattle.std.proofs.Common.{None, refl, sym, ap, ◌∙◌, subst, arith, length}
-use Rattle.std.specs.Prelude.{◌==◌, ◌^◌, not, if◌then◌else◌, IfSome}
-use Rattle.std.proofs.lemmas.Bool.Decides.{eqb_tells}
+use Rattle.std.specs.Prelude.{◌==◌, ◌^◌, nat_lt, not, if◌then◌else◌, All, IfSome, IsSome}
+use Rattle.std.proofs.lemmas.Bool.Decides.{eqb_tells, nat_tests}
+use Rattle.std.proofs.lemmas.List.Elements.{All-nil, All-cons}
 use Rattle.block_words.specs.Bells.{bell_code, bell_count, bell_word}
 use Rattle.block_words.specs.Instruments.{block_position, block_spent}
 use Rattle.block_words.specs.Sections.{lane}
@@ -34,6 +35,7 @@ use Rattle.line_law.specs.Instruments.{await_block, same_position}
 use Rattle.line_law.specs.Law.{Done, at_moment, box_plan_of, decide, link_of, pair_of, step}
 use Rattle.line_law.specs.Levers.{is_unspent_clear, pulled, pulled_under, starter_link}
 use Rattle.line_law.specs.Links.{way_of}
+use Rattle.line_law.specs.Serial.{is_not_yet}
 use Rattle.line_law.specs.Outcomes.{Moves, Outcome, Passes, Overruns, Refused, Rings, Hears, AwaitsBell, Turns}
 use Rattle.line_law.specs.Outcomes.{AwaitsBlock, Pulls, PullsStarter, Puts, Brings, GoesTo, GoesAway, Enters}
 use Rattle.line_law.specs.Outcomes.{AwaitsTrain, Berths, Parts, Clears, Winds, Releases}
@@ -44,10 +46,10 @@ use Rattle.line_law.proofs.Histories.{entry_determined, prefix_legal}
 use Rattle.line_law.proofs.Left.{step_is}
 use Rattle.line_law.proofs.Outcomes.{outcome_of}
 use Rattle.word_laws.specs.Footprint.{Kind, Tally, BellWord, BlockWord, PlainLineWord, kind_at, kind_of}
-use Rattle.word_laws.specs.Operations.{IsOnWord, caller}
+use Rattle.word_laws.specs.Operations.{IsOnWord, caller, met_by}
 use Rattle.word_laws.specs.TellsWord.{kind_told}
 use Rattle.word_laws.specs.WordNumbers.{Agrees, IsCodeNo, PlainLineAgrees, block_number, code_number, number_at}
-use Rattle.word_laws.specs.WordNumbers.{number_after, plain_line_number, word_named, word_of}
+use Rattle.word_laws.specs.WordNumbers.{Word, number_after, plain_line_number, word_named, word_of}
 use Rattle.word_laws.proofs.Agreements.{met_agrees}
 use Rattle.word_laws.proofs.Lanes.{eqb_no, eqb_yes, if_false, if_true}
 use Rattle.word_laws.proofs.TellsCount.{moved_link}
@@ -55,10 +57,12 @@ use Rattle.word_laws.proofs.WordCalls.{lane_says}
 use Rattle.word_laws.proofs.WordHistory.{kind_of_entry}
 use Rattle.box_desk.proofs.Arriving.{none_comes, one_comes}
 use Rattle.instrument_rule.specs.declared.view.View.{View}
+use Rattle.instrument_rule.specs.Calls.{here_at}
 use Rattle.instrument_rule.proofs.Parts.{part_grows}
+use Rattle.signalman_seats.specs.Looks.{WereInVain}
 use Rattle.signalman_seats.specs.Men.{Performed, answered}
 use Rattle.signalman_seats.proofs.OwnBox.{one_box}
-use Rattle.signalman_seats.specs.Refusals.{IsRefusedBy, await_bell_refusal, await_block_refusal}
+use Rattle.signalman_seats.specs.Refusals.{IsRefusedAfter, IsRefusedBy, await_bell_refusal, await_block_refusal}
 use Rattle.signalman_seats.specs.Refusals.{block_of, enter_refusal, hear_refusal, is_of_word}
 use Rattle.signalman_seats.specs.Refusals.{ring_refusal, starter_refusal, unheard_in, word_refusal}
 
@@ -358,11 +362,89 @@ pub refused_as_seen : (plan : PlanFields) (b : ℕ) (call : Call) (looks : ℕ) 
     → Performed plan b call looks reply v w → kind_told reply ≡ Tally
     → (step plan (state_of plan v.seen) b call).reply ≡ reply
 refused_as_seen plan b call looks reply v w done tally =
-    let log = done.last.0 in
+    let log = done.last.log in
     let e : Entry = answered b call reply in
-    let seen : w.seen ≡ log ++ e ∷ [] = done.last.1 in
+    let seen : w.seen ≡ log ++ e ∷ [] = done.last.now in
     let before : IsLegal plan v.seen = prefix_legal plan v.seen done.begins.0
     (subst (IsLegal plan) (sym done.begins.1) done.legal) in
     let part : part_of b v.seen ≡ part_of b log = same_before (part_of b v.seen) (part_of b log) e
     (sym done.grew ∙ (ap (part_of b) seen ∙ part_grows b log e refl)) in
     refused_in_box plan log v.seen e (subst (IsLegal plan) seen done.legal) before part tally
+
+-- ---- by what `perform` tells
+
+-- the word of his last call, as it read at the step, refuses it with its reply
+pub refused_at_step : (plan : PlanFields) (b : ℕ) (call : Call) (looks : ℕ) (reply : Reply) (v w : View)
+    → (done : Performed plan b call looks reply v w) → IsPlan plan → IsOnWord (kind_told reply)
+    → IsRefusedBy (word_refusal (box_plan_of plan b) call.act (here_at plan done.last.log b call) done.last.read) reply
+refused_at_step plan b call looks reply v w done is on =
+    let log = done.last.log in
+    let e : Entry = answered b call reply in
+    let read : number_after plan log (word_of plan e) ≡ done.last.read =
+    sym (done.last.met.found ∙ ap (number_after plan log) done.last.its_word) in
+    subst (λ (n : ℕ). IsRefusedBy (word_refusal (box_plan_of plan b) call.act (here_at plan log b call) n) reply) read
+    (refused_at_word plan log e is (subst (IsLegal plan) done.last.now done.legal) done.last.met.few on)
+
+-- a word that doesn't satisfy a call refuses it
+bell_refused : (code k n : ℕ) → (n == code) ≡ false
+    → IsSome (await_bell_refusal code k (if n == 0 then None else Some n))
+bell_refused code k n miss = ⊎_elim
+    (λ (t : ((n == 0) ≡ true) × (n ≡ 0)). subst (λ (b : Bool). IsSome (await_bell_refusal code k
+    (if b then None else Some n))) (sym t.0) refl)
+    (λ (t : ((n == 0) ≡ false) × (n ≢ 0)). subst (λ (b : Bool). IsSome (await_bell_refusal code k
+    (if b then None else Some n))) (sym t.0) (subst (λ (b : Bool). IsSome (if b then None else
+    Some (replies.BellNotYet (Some n) k))) (sym miss) refl))
+    (eqb_tells n 0)
+
+none_or : (b : Bool) (refusal : Reply) → b ≡ false → IsSome (if b then None else Some refusal)
+none_or true refusal h = absurd cc
+none_or false refusal h = refl
+
+no_train : (n j : ℕ) → nat_lt 0 n ≡ false → IsSome (if n == 0 then Some (replies.TrainNotYet j) else None)
+no_train n j h =
+    let zero : (n == 0) ≡ true = grind (arith, nat_tests) in
+    subst (λ (b : Bool). IsSome (if b then Some (replies.TrainNotYet j) else None)) (sym zero) refl
+
+missed_refused : (box_plan : BoxFields) (act : Act) (here : BoxState) (n : ℕ) → met_by box_plan act here n ≡ false
+    → IsSome (word_refusal box_plan act here n)
+missed_refused box_plan (acts.Ring side code) here n h = absurd cc
+missed_refused box_plan (acts.Hear side) here n h = absurd cc
+missed_refused box_plan (acts.AwaitBell side code) here n h = bell_refused code (bell_count n) (bell_code n) h
+missed_refused box_plan (acts.Turn way p) here n h = absurd cc
+missed_refused box_plan (acts.AwaitBlock way p) here n h = none_or (same_position (block_position n) p) _ h
+missed_refused box_plan (acts.Pull lever) here n h = absurd cc
+missed_refused box_plan (acts.Put lever) here n h = absurd cc
+missed_refused box_plan (acts.Bring train) here n h = absurd cc
+missed_refused box_plan (acts.Pass lever) here n h = none_or
+    (lane n (of_way here.sent (way_of (link_of box_plan (acts.Pass lever))) + 1) == 0) _ h
+missed_refused box_plan (acts.Overrun lever) here n h = none_or
+    (lane n (of_way here.sent (way_of (link_of box_plan (acts.Overrun lever))) + 1) == 0) _ h
+missed_refused box_plan (acts.AwaitTrain way) here n h = no_train (lane n (next_number here way)) (next_number here way)
+    h
+missed_refused box_plan (acts.Berth way) here n h = absurd cc
+missed_refused box_plan (acts.BerthPart way) here n h = absurd cc
+missed_refused box_plan (acts.ClearPortion way) here n h = absurd cc
+missed_refused box_plan (acts.Wind way) here n h = absurd cc
+missed_refused box_plan (acts.Release way) here n h = absurd cc
+
+-- and so each look that was in vain
+each_refused : (plan : PlanFields) (b : ℕ) (call : Call) (word : Word) (before : List Entry) (logs : List (List Entry))
+    (after : List Entry) → WereInVain plan b call word before logs after → All (IsRefusedAfter plan b call word) logs
+each_refused plan b call word before [] after h = All-nil (IsRefusedAfter plan b call word)
+each_refused plan b call word before (log ∷ logs) after h = All-cons (IsRefusedAfter plan b call word) log logs
+    (h.1, missed_refused (box_plan_of plan b) call.act (here_at plan log b call) (number_after plan log word) h.2)
+    (each_refused plan b call word before logs log h.3)
+
+-- an await that wasn't satisfied has taken its looks, and at each its word refused it
+pub refused_at_looks : (plan : PlanFields) (b : ℕ) (call : Call) (looks : ℕ) (reply : Reply) (v w : View)
+    → Performed plan b call looks reply v w → is_not_yet reply ≡ true
+    → (w.looks ≡ v.looks + looks) × (w.glances ≡ v.glances) × (logs : List (List Entry)) × (length logs ≡ looks)
+    × All (IsRefusedAfter plan b call (word_of plan (answered b call reply))) logs
+refused_at_looks plan b call looks reply v w done e =
+    let vain = done.in_vain e in (
+      done.looked.1 ∙ ap (λ (l : ℕ). v.looks + l) (done.looked.3 e),
+      done.glances,
+      vain.0,
+      vain.1,
+      each_refused plan b call (word_of plan (answered b call reply)) v.seen vain.0 w.seen vain.2,
+    )

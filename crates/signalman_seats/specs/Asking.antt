@@ -7,23 +7,25 @@ use Rattle.line_law.specs.declared.call.Entry.{Entry}
 use Rattle.line_law.specs.History.{IsLegal, entry_of, state_of}
 use Rattle.line_law.specs.Law.{box_plan_of}
 use Rattle.line_law.specs.States.{box_at}
-use Rattle.word_laws.specs.WordNumbers.{word_of}
+use Rattle.word_laws.specs.WordNumbers.{Word, word_of}
 use Rattle.box_desk.specs.declared.ask.WordAsk.{WordAsk}
 use Rattle.box_desk.specs.Desks.{DeskFields, IsAsked}
-use Rattle.word_laws.specs.Operations.{met_by}
+use Rattle.word_laws.specs.Operations.{first_op, met_by}
 use Rattle.box_desk.specs.Steps.{awaits_of}
 use Rattle.instrument_rule.specs.declared.view.View.{View}
 use Rattle.instrument_rule.specs.Calls.{here_at, op_word}
 use Rattle.instrument_rule.specs.Rule.{Seen}
 use Rattle.instrument_rule.specs.Told.{Met}
 use Rattle.instrument_rule.specs.Views.{caller_of}
+use Rattle.signalman_seats.specs.Looks.{InVain}
 
 -- the desk of the post's first box stands as the post has seen the box, at the moment of the call, and asks this
 pub record AsksAt (plan : PlanFields) (v : View) (desk : DeskFields) (ask : WordAsk) : Type 0 where
   pub asked : IsAsked plan (caller_of v.posts) desk ask
   pub here : desk.here ≡ here_at plan v.seen (caller_of v.posts) ask.call
 
--- so many looks were taken, at which nothing was decided: others may have moved on, and the post's own boxes stay
+-- so many looks were taken, none of them a glance, at which nothing was decided: others may have moved on, and the
+-- post's own boxes stay
 pub record Watched (plan : PlanFields) (v : View) (looks : ℕ) (w : View) : Type 0 where
   pub seen : Seen w.seen v.posts v.seen
   pub same_box : box_at (state_of plan w.seen) (caller_of v.posts) ≡ box_at (state_of plan v.seen) (caller_of v.posts)
@@ -31,17 +33,30 @@ pub record Watched (plan : PlanFields) (v : View) (looks : ℕ) (w : View) : Typ
   pub posts : w.posts ≡ v.posts
   pub olds : w.olds ≡ []
   pub looked : w.looks ≡ v.looks + looks
+  pub glances : w.glances ≡ v.glances
 
--- the call has taken so many looks at most, and all of them where an await has not met what it looked for
+-- the word of a call's first operation, at which an await looks
+abbrev pub look_word : PlanFields → View → Call → Word
+look_word plan v call =
+    op_word (caller_of v.posts) call.act
+    (first_op plan (box_plan_of plan (caller_of v.posts)) call.act (here_at plan v.seen (caller_of v.posts) call))
+
+-- so many looks of a call were all at its word, and in vain
+pub record Waited (plan : PlanFields) (call : Call) (v : View) (looks : ℕ) (w : View) : Type 0 where
+  pub watched : Watched plan v looks w
+  pub in_vain : InVain plan (caller_of v.posts) call (look_word plan v call) looks v.seen w.seen
+
+-- the call has taken so many looks at most, and all of them, each in vain, where an await has not met what it looked for
 abbrev pub Looked : PlanFields → Call → ℕ → View → ℕ → View → Type 0
 Looked plan call looks v n w =
     (l : ℕ) × (w.looks ≡ v.looks + l) × (l ≤ looks)
     × (awaits_of call.act ≡ true
     → met_by (box_plan_of plan (caller_of v.posts)) call.act (here_at plan v.seen (caller_of v.posts) call) n ≡ false
-    → l ≡ looks)
+    → (l ≡ looks) × InVain plan (caller_of v.posts) call (look_word plan v call) looks v.seen w.seen)
 
 -- The call was decided, where its word read n. The history that it met begins with all that the post had seen and has
--- no other entry of its boxes; the post has then seen it with the entry of the call, which is on that word.
+-- no other entry of its boxes; the post has then seen it with the entry of the call, which is on that word. It has not
+-- glanced.
 pub record Decided (plan : PlanFields) (call : Call) (looks : ℕ) (v : View) (n : ℕ) (w : View) : Type 0 where
   pub log : List Entry
   pub op : WordOp
@@ -54,3 +69,4 @@ pub record Decided (plan : PlanFields) (call : Call) (looks : ℕ) (v : View) (n
   pub posts : w.posts ≡ v.posts
   pub olds : w.olds ≡ []
   pub looked : Looked plan call looks v n w
+  pub glances : w.glances ≡ v.glances

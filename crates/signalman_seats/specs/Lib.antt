@@ -1,3 +1,4 @@
+pub mod Looks
 pub mod Asking
 pub mod Notes
 pub mod Men

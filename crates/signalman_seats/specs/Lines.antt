@@ -1,5 +1,5 @@
 -- A line with its men, as it opens and as it ends.
-use Rattle.std.specs.Prelude.{◌≡◌, ◌≢◌, ℕ, ◌<◌, ◌≤◌, List, length, slice_index, slice_index_or}
+use Rattle.std.specs.Prelude.{◌≡◌, ◌≢◌, ℕ, ◌<◌, ◌≤◌, List, length, slice_index, slice_index_or, Some}
 use mathlib.Core.List.{IsPrefix}
 use Rattle.atomic_table.specs.Seated.{TableId}
 use Rattle.line_plan.specs.Plans.{PlanFields}
@@ -18,11 +18,12 @@ pub record AreFresh (table_id : TableId) (plan : PlanFields) (rooms : List ℕ) 
   pub fresh : (b : ℕ) (d : Man) → b < length men
       → IsFresh table_id plan b (slice_index rooms b) (slice_index_or men b d)
 
--- The box is one of the line, and its post wasn't drawn: so many posts were drawn, which is not the number of the box
--- and no more than the line has.
+-- The box is one of the line, and its post wasn't drawn: the post that drew found so many posts drawn, which is not the
+-- number of the box and no more than the line has.
 abbrev pub WasTaken : PlanFields → OpenError → Type 0
-WasTaken plan (PostTaken box_no found) =
+WasTaken plan (PostTaken box_no found post) =
     (box_no < length plan.boxes) × (found ≢ box_no) × (found ≤ length plan.boxes)
+    × (post.seat.me.0.drawn ≡ Some found)
 WasTaken plan NoMemory = Unit {0}
 
 -- ---- the end
@@ -34,7 +35,7 @@ pub record AreMen (table_id : TableId) (plan : PlanFields) (men : List Man) : Ty
   pub box_no : (b : ℕ) (d : Man) → b < length men → (slice_index_or men b d).box_no ≡ b
 
 -- One legal history of the line: what each man had seen is a beginning of it, and each register is its box's part of it
--- and has its man's entries.
+-- and has its man's entries. No man has glanced, so that all his looks were those of his awaits.
 pub record Closed (plan : PlanFields) (men : List Man) (registers : List RegisterFields) : Type 0 where
   pub log : List Entry
   pub legal : IsLegal plan log
@@ -42,3 +43,4 @@ pub record Closed (plan : PlanFields) (men : List Man) (registers : List Registe
   pub parts : AreParts plan log registers
   pub entries : (b : ℕ) (d : Man) → b < length men
       → (register_at registers b).entries ≡ (slice_index_or men b d).entries
+  pub glances : (b : ℕ) (d : Man) → b < length men → (slice_index_or men b d).view.glances ≡ 0

@@ -1,25 +1,32 @@
 -- What refuses a call at its word, by the number that the word reads.
-use Rattle.std.specs.Prelude.{◌≡◌, ℕ, ◌+◌, ◌==◌, Bool, true, false, if◌then◌else◌, Option, Some, None}
+use Rattle.std.specs.Prelude.{◌≡◌, ℕ, ◌+◌, ◌==◌, Bool, true, false, if◌then◌else◌, Option, Some, None, IsSome}
+use Rattle.std.specs.Prelude.{List}
 use Rattle.block_words.specs.Bells.{bell_code, bell_count}
 use Rattle.block_words.specs.Instruments.{block_position, block_spent, block_turns}
 use Rattle.block_words.specs.Sections.{lane}
 use Rattle.block_words.specs.declared.Position.{Position}
 use Rattle.block_words.specs.declared.Way.{Way}
 use Rattle.line_plan.specs.Frames.{BoxFields}
+use Rattle.line_plan.specs.Plans.{PlanFields}
 use Rattle.line_law.specs.declared.call.Act.{Act}
 use Rattle.line_law.specs.declared.call.Act.TheVariants.{Ring, Hear, AwaitBell, AwaitBlock, Pull, Pass, Overrun}
 use Rattle.line_law.specs.declared.call.Act.TheVariants.{AwaitTrain, Berth, BerthPart, ClearPortion}
+use Rattle.line_law.specs.declared.call.Call.{Call}
+use Rattle.line_law.specs.declared.call.Entry.{Entry}
 use Rattle.line_law.specs.declared.call.Reply.{Reply}
 use Rattle.line_law.specs.declared.call.Reply.TheVariants.{BellBusy, Silent, BellNotYet, BlockNotYet, HeldByInstrument}
 use Rattle.line_law.specs.declared.call.Reply.TheVariants.{SectionFull, TrainNotYet, NoTrainAt}
 use Rattle.line_law.specs.declared.state.Block.{Block}
 use Rattle.line_law.specs.declared.state.BoxState.{BoxState}
 use Rattle.line_law.specs.Arrivals.{next_number}
+use Rattle.line_law.specs.History.{IsLegal}
 use Rattle.line_law.specs.Instruments.{same_position}
-use Rattle.line_law.specs.Law.{link_of}
+use Rattle.line_law.specs.Law.{box_plan_of, link_of}
 use Rattle.line_law.specs.Levers.{is_unspent_clear}
 use Rattle.line_law.specs.Links.{way_of}
 use Rattle.line_law.specs.Ways.{of_way}
+use Rattle.word_laws.specs.WordNumbers.{Word, number_after}
+use Rattle.instrument_rule.specs.Calls.{here_at}
 
 -- ---- what a word holds
 
@@ -101,6 +108,12 @@ is_of_word (SectionFull k) = true
 is_of_word (TrainNotYet j) = true
 is_of_word (NoTrainAt j) = true
 is_of_word reply = false
+
+-- after this legal history the word refuses a call of box b
+abbrev pub IsRefusedAfter : PlanFields → ℕ → Call → Word → List Entry → Type 0
+IsRefusedAfter plan b call word log =
+    IsLegal plan log
+    × IsSome (word_refusal (box_plan_of plan b) call.act (here_at plan log b call) (number_after plan log word))
 
 -- the reply is this refusal; and where there is none, it is no refusal of a word
 abbrev pub IsRefusedBy : Option Reply → Reply → Type 0

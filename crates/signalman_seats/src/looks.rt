@@ -6,7 +6,7 @@ ghost use Rattle.word_laws.specs.WordNumbers.{one_if};
 ghost use Rattle.word_laws.specs.Operations.{met_by};
 ghost use Rattle.instrument_rule.specs.Calls.{MayStep, Sits, here_at};
 ghost use Rattle.instrument_rule.specs.Views.{caller_of};
-ghost use Rattle.signalman_seats.specs.Asking.{AsksAt, Decided, Watched};
+ghost use Rattle.signalman_seats.specs.Asking.{AsksAt, Decided, Waited};
 ghost use Rattle.signalman_seats.specs.Men.{Answered, IsAtDesk};
 
 use block_words::WordOp;
@@ -33,7 +33,8 @@ fn look(post: &mut Post, line: &Line, desk: &Desk, ask: &WordAsk, last: bool) ->
         (box_plan_of line.now.table.shared.key (caller_of post.old.seat.me.0.posts)) ask.now.call.act
         (here_at line.now.table.shared.key post.old.seat.me.0.seen (caller_of post.old.seat.me.0.posts) ask.now.call)
         word ≡ true) }
-    ensures watched { IfNone result (Watched line.now.table.shared.key post.old.seat.me.0 1 post.new.seat.me.0) }
+    ensures waited { IfNone result (Waited line.now.table.shared.key ask.now.call post.old.seat.me.0 1
+        post.new.seat.me.0) }
 {
     let shown = post.step(line, &ask.call, ask.first, last);
     if desk.met(ask, shown) {

@@ -82,6 +82,7 @@ impl Signalman {
         ensures register { result.1 ≡ record { box_no = self.box_no; entries = self.entries; spare = self.spare } }
         ensures sits { (self.view.posts ≡ self.box_no ∷ []) × (self.view.olds ≡ []) }
         ensures part { self.entries ≡ part_of self.box_no self.view.seen }
+        ensures glances { self.view.glances ≡ 0 }
     {
         let Self {
             post,
@@ -110,10 +111,12 @@ impl Signalman {
         self.register.spare()
     }
 
-    /// All his calls so far with their replies, in order: his part of what he has seen.
+    /// All his calls so far with their replies, in order: his part of what he has seen. With those that his register
+    /// still has room for, they are no more than a box may have.
     pub fn entries(&self) -> &[Entry]
         ensures value { result.now ≡ self.now.entries }
         ensures part { self.now.entries ≡ part_of self.now.box_no self.now.view.seen }
+        ensures few { length self.now.entries + self.now.spare ≤ 10000 }
     {
         self.register.entries()
     }
@@ -134,26 +137,28 @@ impl Signalman {
         self.notes.knows(self.desk.box_plan(), self.box_no, call)
     }
 
-    /// How many looks his awaits have taken.
+    /// How many looks his awaits have taken: all that he took, for he glances at nothing.
     pub fn looks_taken(&self) -> u64
-        ensures { result ≡ self.now.view.looks }
+        ensures value { result ≡ self.now.view.looks }
+        ensures glances { self.now.view.glances ≡ 0 }
     {
         self.looks_taken
     }
 
-    /// One call of his box, decided at one step on one word of the line. An await looks at its word until it is
-    /// satisfied, so many times at most, and may pause between two looks. It takes no memory and waits for nobody.
+    /// One call of his box, decided at one step on one word of the line. An await looks at its word, and at no other,
+    /// until it is satisfied, so many times at most, and may pause between two looks. It takes no memory and waits for
+    /// nobody.
     ///
     /// What he has seen has grown to a legal history of the line whose last entry is his box, this call and the reply,
-    /// the one entry more of his part. So the reply is the law's after what stands before it there; of a refusal
-    /// [`refusal_law`](crate::refusal_law) says why it comes:
+    /// the one entry more of his part. So the reply is the law's after what stands before it there, after which the
+    /// word of the call read as it did at the step; of a refusal [`refusal_law`](crate::refusal_law) says why it comes:
     ///
     /// - `BellBusy` and `Silent`: at the step the bell held an unheard code, or none.
     /// - `HeldByInstrument`: his box lets the lever move, and at the step the instrument wasn't at Line Clear unspent.
     /// - `SectionFull`: his box lets the train go, and at the step its lane was taken.
     /// - `NoTrainAt`: his box lets the train come, and at the step its lane was empty.
-    /// - `BellNotYet`, `BlockNotYet` and `TrainNotYet`: the last look didn't find what the call waits for, and he took
-    ///   exactly `looks` of them.
+    /// - `BellNotYet`, `BlockNotYet` and `TrainNotYet`: he took exactly `looks` looks, all at the word of the call, and
+    ///   none of them found what the call waits for.
     /// - Any other refusal: the state of his own box, whatever the others did.
     pub fn perform(&mut self, line: &Line, call: Call, looks: u32) -> Reply
         requires line { IsOf line.now.table.shared.table_id line.now.table.shared.key self.old }

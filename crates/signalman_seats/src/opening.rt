@@ -13,10 +13,10 @@ use rail_text::NoMemory;
 use std::alloc::{AllocError, Global};
 
 /// Why no line was opened.
-#[derive(Debug, Drop)]
+#[derive(Drop)]
 pub enum OpenError {
-    /// A draw of the post of a box found that so many posts were drawn.
-    PostTaken { box_no: u32, found: u64 },
+    /// A draw of the post of a box found that so many posts were drawn; with the post that drew, which tells so.
+    PostTaken { box_no: u32, found: u64, post: Post },
     /// Memory ran out.
     NoMemory,
 }
@@ -57,8 +57,11 @@ fn draw(line: &Line, first: &mut Post, box_no: u32) -> Result<Post, OpenError>
     let mut post = first.split(line);
     let found = post.take(line, box_no);
     if found != box_no as u64 {
-        drop(post);
-        return Err(OpenError::PostTaken { box_no, found });
+        return Err(OpenError::PostTaken {
+            box_no,
+            found,
+            post,
+        });
     }
     Ok(post)
 }
@@ -128,9 +131,9 @@ fn seat_men(
 /// # Errors
 ///
 /// `PostTaken` where a draw of this call found another number of posts drawn than the number of its box; the line is
-/// then given up. Its contract says of the two numbers that they differ, that the first is a box of the line and that
-/// the second is no greater than the number of boxes. That a draw met the second, and that a line which opens loses no
-/// draw, is tested alone.
+/// then given up. The post that drew comes with the two numbers: its last draw found the second. They differ, the first
+/// is a box of the line, and the second is no greater than the number of boxes. That a line which opens loses no draw is
+/// tested alone.
 /// `NoMemory` where memory runs out.
 pub fn open_line(
     alloc: Global,

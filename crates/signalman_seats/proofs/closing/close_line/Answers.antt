@@ -49,7 +49,7 @@ loop-man-preserved c =
           (sym c.push_reserved.ensures.items)
           (gathers v w c.loop-man.yielded c.loop-man.registers.items man register now.gathered (search rules)
           c.join.ensures.mine theirs posts c.into_parts-theirs.ensures.register c.into_parts-theirs.ensures.sits.0
-          c.into_parts-theirs.ensures.part);
+          c.into_parts-theirs.ensures.part c.into_parts-theirs.ensures.glances);
     }
 
 pub returns-clause-closed : goal.returns-clause-closed

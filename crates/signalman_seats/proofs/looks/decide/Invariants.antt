@@ -1,11 +1,12 @@
 use Rattle.std.proofs.Common.{◌≡◌, ◌-◌, ◌≤◌, false}
-use Rattle.signalman_seats.specs.Asking.{Watched}
+use Rattle.signalman_seats.specs.Asking.{Waited}
 use Rattle.signalman_seats.proofs.looks.decide.Given as goal
 
 abbrev pub invariant-loop-left : goal.invariant-loop-left
 invariant-loop-left l = record {
   table : l.post.seat.table_id ≡ l.initial.post.seat.table_id;
-  watched : Watched l.line.table.shared.key l.initial.post.seat.me.0 (l.initial.left - l.left) l.post.seat.me.0;
+  waited : Waited l.line.table.shared.key l.ask.call l.initial.post.seat.me.0 (l.initial.left - l.left)
+      l.post.seat.me.0;
   most : l.left ≤ l.initial.left;
   some : 1 ≤ l.left;
   once : l.ask.awaits ≡ false → l.left ≤ 1;

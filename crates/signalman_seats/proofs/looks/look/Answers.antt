@@ -51,8 +51,8 @@ returns-then-last-clause-decided c = last_decided c.args.line.now.table.shared.k
     c.args.line.now.is_plan c.requires.sits c.requires.may c.requires.ask
     c.step-shown.ensures.told c.met.result c.met.ensures.met c.if-met.false c.if-last.true
 
-pub returns-else-last-clause-watched : goal.returns-else-last-clause-watched
-returns-else-last-clause-watched c = goes_on c.args.line.now.table.shared.key c.args.post.now.seat.me.0 c.args.desk.now
+pub returns-else-last-clause-waited : goal.returns-else-last-clause-waited
+returns-else-last-clause-waited c = goes_on c.args.line.now.table.shared.key c.args.post.now.seat.me.0 c.args.desk.now
     c.args.ask.now c.args.last c.step-shown.result c.step-shown.new.self.seat.me.0 c.args.line.now.is_plan
     c.requires.sits c.requires.may c.requires.ask
     c.step-shown.ensures.told c.met.result c.met.ensures.met c.if-met.false c.if-last.false c.requires.last
