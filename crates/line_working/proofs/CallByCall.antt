@@ -14,7 +14,7 @@ use Rattle.line_law.specs.History.{IsLegal, part_of}
 use Rattle.line_law.specs.Serial.{AreCalls, is_not_yet}
 use Rattle.instrument_rule.specs.declared.view.View.{View}
 use Rattle.signalman_seats.specs.Men.{Performed, answered}
-use Rattle.line_working.specs.Working.{Worked, count_not_yet}
+use Rattle.line_working.specs.Working.{Worked, count_not_yet, moment_after}
 
 -- a beginning of a beginning
 prefix_trans : (xs ys zs : List Entry) → IsPrefix xs ys → IsPrefix ys zs → IsPrefix xs zs
@@ -35,6 +35,7 @@ begun plan b looks v legal = record {
     omega (arith, mul-zero looks),
     omega arith,
   );
+  glances = refl;
 }
 
 -- an await that was not satisfied has taken all its looks
@@ -97,6 +98,7 @@ one_more plan b calls call looks reply v u w so_far now = record {
     subst (λ (n : ℕ). looks * n ≤ so_far.grew.3 + now.looked.0) (sym count) bounds.0,
     subst (λ (n : ℕ). so_far.grew.3 + now.looked.0 ≤ looks * n) (sym (length-append calls (call ∷ []))) bounds.1,
   );
+  glances = now.glances ∙ so_far.glances;
 }
   where
     es : List Entry
@@ -127,3 +129,18 @@ one_more_of plan b there items calls i d looks reply v u w still same within so_
     subst (λ (cs : List Call). Worked plan b cs looks v w) e
     (one_more plan b (take i calls) (get_or items i d) looks reply v u w so_far
     (subst (λ (n : ℕ). Performed plan n (get_or items i d) looks reply u w) still now))
+
+-- ---- the moment
+
+moment_of_more : (moment : ℕ) (calls : List Call) (call : Call)
+    → moment_after moment (calls ++ call ∷ []) ≡ call.moment
+moment_of_more moment [] call = refl
+moment_of_more moment (first ∷ calls) call = moment_of_more first.moment calls call
+
+-- it is that of the call at place i, where so many calls and this one are made
+pub moment_on : (moment new : ℕ) (items calls : List Call) (i : ℕ) (d : Call) → items ≡ calls → i < length items
+    → new ≡ (get_or items i d).moment → new ≡ moment_after moment (take (i + 1) calls)
+moment_on moment new items calls i d same within e =
+    e ∙ (sym (moment_of_more moment (take i items) (get_or items i d))
+    ∙ (ap (moment_after moment) (sym (take_more items i d within))
+    ∙ ap (λ (cs : List Call). moment_after moment (take (i + 1) cs)) same))

@@ -17,5 +17,4 @@ fresh_works table_id plan b room script man fresh is fits = record {
   calls = subst (λ (n : ℕ). AreCalls plan n man.moment script.calls) (sym fresh.box_no)
       (subst (λ (m : ℕ). AreCalls plan b m script.calls) (sym fresh.moment) is.calls);
   room = subst (λ (n : ℕ). length script.calls ≤ n) (sym fresh.spare) fits;
-  few = is.few;
 }

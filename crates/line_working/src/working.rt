@@ -20,8 +20,8 @@ fn work<G: Gate>(man: &mut Signalman, line: &Line, script: &Script, looks: u32, 
     requires looks { 1 ≤ looks }
     ensures { DidWork line.now.table.shared.table_id line.now.table.shared.key script.now looks man.old man.new }
 {
-    // His watch and his entries tell what his type keeps: what he has seen is legal, and they are his part of it. It is
-    // asked for the script that has no call.
+    // His watch and his entries tell what his type keeps: what he has seen is legal, and they are his part of it, which
+    // is asked for the script that has no call; and with his script they are no more than a box may have.
     drop(man.lend_watch(line));
     let _entries = man.entries();
     for (i, call) in script.calls.as_slice().iter().enumerate() {
@@ -31,10 +31,12 @@ fn work<G: Gate>(man: &mut Signalman, line: &Line, script: &Script, looks: u32, 
 }
 
 /// Each signalman works his script, on a thread of his own. Where a thread can't be started the caller does its work,
-/// with the same promise. Before each call the man passes the gate. It may wait for the threads that it started.
+/// with the same promise. Before each call the man passes the gate. It may wait for the threads that it started. Where
+/// there is no man it returns at once.
 ///
 /// The men stay in their places. What each has seen has grown to a legal history of the line, in which his part has one
-/// entry more for each call of his script, in order and no other.
+/// entry more for each call of his script, in order and no other; all his looks were those of his awaits, and his
+/// moment is that of his last call, so that he may work another script from there.
 pub fn work_line<R: Threads + Wait + Sync, G: Gate>(
     rt: &R,
     alloc: Global,
@@ -44,7 +46,6 @@ pub fn work_line<R: Threads + Wait + Sync, G: Gate>(
     looks: u32,
     gate: &G,
 )
-    requires some { 0 < length men.old }
     requires count { length scripts.now ≡ length men.old }
     requires ready { (i : ℕ) (d : Man) (e : Script) → i < length men.old
         → CanWork line.now.table.shared.table_id line.now.table.shared.key (slice_index_or scripts.now i e)
@@ -57,6 +58,9 @@ pub fn work_line<R: Threads + Wait + Sync, G: Gate>(
 {
     let _ = alloc;
     let threads = men.len();
+    if threads == 0 {
+        return;
+    }
     thread::for_each_mut(
         rt,
         men,

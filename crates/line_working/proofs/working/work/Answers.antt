@@ -4,8 +4,8 @@ use Rattle.line_law.specs.declared.call.Call.{Call}
 use Rattle.line_law.specs.History.{IsLegal, part_of}
 use Rattle.line_law.specs.Serial.{AreCalls}
 use Rattle.signalman_seats.specs.Men.{IsOf, Man}
-use Rattle.line_working.specs.Working.{DidWork, Worked}
-use Rattle.line_working.proofs.CallByCall.{begun, next_call, one_more_of}
+use Rattle.line_working.specs.Working.{DidWork, Worked, moment_after}
+use Rattle.line_working.proofs.CallByCall.{begun, moment_on, next_call, one_more_of}
 use Rattle.line_working.proofs.working.work.Goals as goal
 
 pub loop-i-init : goal.loop-i-init
@@ -22,6 +22,7 @@ loop-i-init g c =
           c.requires.ready.calls;
       entries = c.entries-entries.ensures.part;
       spare = add-zero man.spare;
+      moment = refl;
       worked = begun line.table.shared.key man.box_no c.args.looks man.view legal;
     }
 
@@ -56,6 +57,7 @@ loop-i-preserved g c =
           (next_call _ _ _ _ _ _ _ c.as_slice-call-items.ensures c.loop-i-test.true now.rest).rest);
       entries = c.perform.ensures.entries ∙ ap (λ (b : ℕ). part_of b new.view.seen) now.box_no;
       spare = (let e = c.perform.ensures.spare in let n = now.spare in omega arith);
+      moment = moment_on _ _ _ _ _ _ c.as_slice-call-items.ensures c.loop-i-test.true c.perform.ensures.moment;
       worked = one_more_of _ _ _ _ _ _ _ _ _ _ _ _ now.box_no c.as_slice-call-items.ensures c.loop-i-test.true
           now.worked c.perform.ensures.performed;
     }
@@ -77,4 +79,6 @@ returns g c =
           (take_all c.loop-i.i calls (omega arith)) now.worked;
       entries = now.entries;
       spare = subst (λ (n : ℕ). c.loop-i.man.spare + n ≡ c.lend_watch.new.self.spare) all now.spare;
+      moment = subst (λ (cs : List Call). c.loop-i.man.moment ≡ moment_after c.lend_watch.new.self.moment cs)
+          (take_all c.loop-i.i calls (omega arith)) now.moment;
     })

@@ -2,7 +2,7 @@ use Rattle.std.proofs.Common.{◌≡◌, ◌+◌, take, drop}
 use Rattle.line_law.specs.History.{part_of}
 use Rattle.line_law.specs.Serial.{AreCalls}
 use Rattle.signalman_seats.specs.Men.{IsOf}
-use Rattle.line_working.specs.Working.{Worked}
+use Rattle.line_working.specs.Working.{Worked, moment_after}
 use Rattle.line_working.proofs.working.work.Given as goal
 
 abbrev pub invariant-loop-i : goal.invariant-loop-i
@@ -12,6 +12,7 @@ invariant-loop-i g l = record {
   rest : AreCalls l.line.table.shared.key l.man.box_no l.man.moment (drop l.i l.script.calls);
   entries : l.man.entries ≡ part_of l.initial.man.box_no l.man.view.seen;
   spare : l.man.spare + l.i ≡ l.initial.man.spare;
+  moment : l.man.moment ≡ moment_after l.initial.man.moment (take l.i l.script.calls);
   worked : Worked l.line.table.shared.key l.initial.man.box_no (take l.i l.script.calls) l.looks l.initial.man.view
       l.man.view;
 }
