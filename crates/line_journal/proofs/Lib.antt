@@ -21,3 +21,4 @@ pub mod Tallies
 pub mod Steps
 pub mod Walks
 pub mod Levers
+pub mod OneOrder

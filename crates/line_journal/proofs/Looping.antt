@@ -276,7 +276,7 @@ none_part plan b (e ∷ es) is h stand =
     (λ other. part_other e es b other.0 ∙ none_part plan b es is h stand.1)
     (eqb_tells e.box_no b)
 
-no_list : (lists : List (List Entry)) (b : ℕ) → length lists ≤ b → list_at lists b ≡ []
+pub no_list : (lists : List (List Entry)) (b : ℕ) → length lists ≤ b → list_at lists b ≡ []
 no_list [] b h = refl
 no_list (l ∷ ls) zero h = absurd (omega (arith, h))
 no_list (l ∷ ls) (suc b) h = no_list ls b (omega (arith, h))
@@ -292,8 +292,8 @@ parts_by plan es registers b false e is legal parts =
     no_list (lists_of registers) b (omega (arith, above, n, parts.each))
     ∙ sym (none_part plan b es is (omega (arith, above)) (all_stand plan (opening_state plan) es is legal))
 
-lists_parts : (plan : PlanFields) (registers : List RegisterFields) → IsPlan plan → (ended : HaveEnded plan registers)
-    → (b : ℕ) → list_at (lists_of registers) b ≡ part_of b ended.history
+pub lists_parts : (plan : PlanFields) (registers : List RegisterFields) → IsPlan plan
+    → (ended : HaveEnded plan registers) → (b : ℕ) → list_at (lists_of registers) b ≡ part_of b ended.history
 lists_parts plan registers is ended b =
     parts_by plan ended.history registers b (nat_lt b (length plan.boxes)) refl is ended.legal ended.parts
 

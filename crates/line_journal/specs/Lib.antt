@@ -7,3 +7,4 @@ pub mod FitTests
 pub mod Lists
 pub mod Keepers
 pub mod Walks
+pub mod OneOrder

@@ -8,15 +8,16 @@ ghost use Rattle.line_law.specs.declared.call.Act.{Act};
 ghost use Rattle.line_law.specs.declared.call.Entry.{Entry};
 ghost use Rattle.line_law.specs.declared.state.BoxState.{BoxState};
 ghost use Rattle.line_law.specs.declared.state.PairState.{PairState};
-ghost use Rattle.line_law.specs.History.{IsLegal, IsLegalFrom, after_entry, part_of};
+ghost use Rattle.line_law.specs.History.{IsLegal, IsLegalFrom, after_entry, part_of, state_of};
 ghost use Rattle.line_law.specs.Law.{decide};
-ghost use Rattle.line_law.specs.States.{IsStateOf, LineState, box_at};
+ghost use Rattle.line_law.specs.States.{IsStateOf, LineState, box_at, opening_state};
 ghost use Rattle.train_register.specs.Registers.{AreParts, RegisterFields};
 ghost use Rattle.line_journal.specs.Exchanges.{AreOnOtherWords, IsLost, MayChangePlaces};
 ghost use Rattle.line_journal.specs.Lists.{HaveEnded};
 ghost use Rattle.line_journal.specs.Merging.{Remains, SomeReady};
+ghost use Rattle.line_journal.specs.OneOrder.{ArePlaced, HaveOneOrder, history_behind, lists_behind};
 ghost use Rattle.line_journal.specs.Order.{IsBoxReady, IsOrder, IsOrderFrom, keeps_back};
-ghost use Rattle.line_journal.specs.Order.{list_at, placed, without};
+ghost use Rattle.line_journal.specs.Order.{list_at, lists_of, placed, without};
 ghost use Rattle.line_journal.specs.Halves.{FitFrom, Fits, GivesAgain, MayDoAll, Stands, made};
 
 /// A law: where a call got a reply on one pair, it gets the reply again on another exactly where the reply fits the
@@ -79,4 +80,24 @@ pub fn order_law()
     ensures count { (plan : PlanFields) (registers : List RegisterFields) (history es : List Entry) → IsPlan plan
         → IsLegal plan history → AreParts plan history registers → IsOrder plan registers es
         → length es ≡ length history }
+{}
+
+/// A law: the order of the journal exists, and is one. Of registers that are the parts of a legal history there is a
+/// journal in the order of their entries, and no other; it is what comes of their merge.
+///
+/// Each entry of the order is placed when its box is ready. Whichever entries were placed so, what remains of the
+/// registers are the parts of what remains of the history; this is legal after them, and its first entry is ready.
+pub fn one_order_law()
+    ensures order { (plan : PlanFields) (registers : List RegisterFields) → IsPlan plan → HaveEnded plan registers
+        → HaveOneOrder plan registers }
+    ensures placed { (plan : PlanFields) (registers : List RegisterFields) (es later : List Entry)
+        → IsOrder plan registers (es ++ later) → ArePlaced plan (opening_state plan) (lists_of registers) es }
+    ensures remains { (plan : PlanFields) (registers : List RegisterFields) (history es : List Entry) → IsPlan plan
+        → IsLegal plan history → AreParts plan history registers
+        → ArePlaced plan (opening_state plan) (lists_of registers) es
+        → Remains plan es (state_of plan es) (lists_behind registers es) (history_behind history es) }
+    ensures ready { (plan : PlanFields) (registers : List RegisterFields) (history es later : List Entry) (e : Entry)
+        → IsPlan plan → IsLegal plan history → AreParts plan history registers
+        → ArePlaced plan (opening_state plan) (lists_of registers) es → history_behind history es ≡ e ∷ later
+        → IsBoxReady plan (state_of plan es) (lists_behind registers es) e.box_no e (part_of e.box_no later) }
 {}

@@ -11,6 +11,6 @@ mod merging;
 mod order;
 mod rests;
 
-pub use laws::{exchange_law, order_law, parts_law, reply_law};
+pub use laws::{exchange_law, one_order_law, order_law, parts_law, reply_law};
 pub use merging::{merge, merged};
 pub use order::{Merged, Walk};

@@ -250,8 +250,9 @@ fn merged_boxes(alloc: Global, plan: &Plan, ended: &Ended) -> Result<Vec<u8>, No
 /// Merges the registers of a line that has ended into its journal, or tells that memory ran out: the entries of the
 /// journal, where they stand in the registers. The registers are the parts of one legal history of the line. At each
 /// point the next entry is that of the lowest-numbered box whose next entry has the reply that the law gives there, and
-/// is kept back by no remaining entry of another box. That never gets stuck; the journal is a legal history of the
-/// line, with these registers as its parts, and so in the order of its own parts.
+/// is kept back by no remaining entry of another box. That never gets stuck: there is such an order, and it is one
+/// ([`one_order_law`](crate::one_order_law)). The journal is a legal history of the line, with these registers as its
+/// parts, and so in the order of its own parts.
 pub fn merged<'a>(alloc: Global, plan: &Plan, ended: &'a Ended) -> Result<Merged<'a>, NoMemory>
     requires { HaveEnded plan.now ended.now.registers }
     ensures { IfOk result (IsMergeOf plan.now ended.now.registers) }
@@ -272,7 +273,8 @@ fn copied(alloc: Global, merged: &Merged<'_>) -> Result<Vec<Entry>, NoMemory>
     Ok(copied)
 }
 
-/// The journal into which the registers of a line that has ended are merged, as [`merged`] does it.
+/// The journal into which the registers of a line that has ended are merged, as [`merged`] does it. It is the one in
+/// the order of their entries: [`one_order_law`](crate::one_order_law) tells that there is one, and no other.
 pub fn merge(alloc: Global, plan: &Plan, ended: &Ended) -> Result<Journal, NoMemory>
     requires { HaveEnded plan.now ended.now.registers }
     ensures { IfOk result (λ journal. IsMergeOf plan.now ended.now.registers journal.entries) }
