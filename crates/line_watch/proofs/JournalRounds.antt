@@ -354,12 +354,12 @@ all_full plan boxes log sights rounds e h same =
     (λ (round : RoundFields). length round.sights ≡ section_count boxes)
     (λ round is. ap (λ (xs : List Sight). length xs) is ∙ (h.each ∙ counted plan boxes e)) rounds same
 
-pub all_shown : (plan : PlanFields) (log : List Entry) (sights : List Sight) (rounds : List RoundFields)
+-- so each shows how all instruments stand after the history
+pub all_after : (plan : PlanFields) (log : List Entry) (sights : List Sight) (rounds : List RoundFields)
     → IsRoundAfter plan log sights → AllOf sights rounds
-    → IsBoardOf plan log (map (λ (round : RoundFields). round.sights) rounds)
-all_shown plan log sights rounds h same =
-    board_stands plan log (map (λ (round : RoundFields). round.sights) rounds)
-    (All-map (λ (xs : List Sight). IsRoundAfter plan log xs) (λ (round : RoundFields). round.sights) rounds
+    → All (λ (round : List Sight). IsRoundAfter plan log round) (map (λ (round : RoundFields). round.sights) rounds)
+all_after plan log sights rounds h same =
+    All-map (λ (xs : List Sight). IsRoundAfter plan log xs) (λ (round : RoundFields). round.sights) rounds
     (All-weaker (λ (round : RoundFields). round.sights ≡ sights)
     (λ (round : RoundFields). IsRoundAfter plan log round.sights)
-    (λ round is. subst (λ (xs : List Sight). IsRoundAfter plan log xs) (sym is) h) rounds same))
+    (λ round is. subst (λ (xs : List Sight). IsRoundAfter plan log xs) (sym is) h) rounds same)

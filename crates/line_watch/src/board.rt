@@ -8,7 +8,7 @@ ghost use Rattle.line_plan.specs.declared.section.Section.{Section};
 ghost use Rattle.line_law.specs.History.{IsLegal};
 ghost use Rattle.line_watch.specs.declared.sight.Sight.{Sight};
 ghost use Rattle.line_watch.specs.Boards.{blank_round, section_count, section_number};
-ghost use Rattle.line_watch.specs.Shown.{IsBoardOf};
+ghost use Rattle.line_watch.specs.Shown.{IsBoardOf, IsRoundAfter};
 ghost use Rattle.line_watch.specs.Watching.{LooksInTurn, RoundsInTurn, Watches};
 
 use crate::numbers::section_number;
@@ -104,6 +104,7 @@ impl Board {
         requires legal { IsLegal plan.now journal.now.entries }
         ensures boxes { IfOk result (λ board. board.boxes ≡ length plan.now.boxes) }
         ensures filled { IfOk result (λ board. (board.left ≡ 0) × (length board.rounds ≡ rounds)) }
+        ensures whole { IfOk result (λ board. All (IsRoundAfter plan.now journal.now.entries) board.rounds) }
         ensures shown { IfOk result (λ board. IsBoardOf plan.now journal.now.entries board.rounds) }
     {
         plan.meets_conditions();

@@ -4,7 +4,7 @@ use Rattle.line_law.specs.declared.call.Entry.{Entry}
 use Rattle.line_watch.specs.declared.sight.Sight.{Sight}
 use Rattle.line_watch.specs.Boards.{RoundFields, blank_round}
 use Rattle.line_watch.specs.Shown.{IsRoundAfter}
-use Rattle.line_watch.proofs.JournalRounds.{all_full, all_shown}
+use Rattle.line_watch.proofs.JournalRounds.{all_after, all_full, board_stands}
 use Rattle.line_watch.proofs.board.Board.of_journal.Goals as goal
 
 pub invariant_of-result : goal.invariant_of-result
@@ -19,9 +19,12 @@ invariant_of-result c = record {
   few = search rules;
 }
 
-pub returns-clause-shown : goal.returns-clause-shown
-returns-clause-shown c =
-    all_shown c.args.plan.now c.args.journal.now.entries c.deref.result.now c.in_ok-rounds.rounds.items
+pub returns-clause-whole : goal.returns-clause-whole
+returns-clause-whole c =
+    all_after c.args.plan.now c.args.journal.now.entries c.deref.result.now c.in_ok-rounds.rounds.items
     (subst (λ (xs : List Sight). IsRoundAfter c.args.plan.now c.args.journal.now.entries xs) (sym c.deref.ensures.value)
     (subst (λ (es : List Entry). IsRoundAfter c.args.plan.now es c.in_ok-sights.sights.items) c.as_slice.ensures
     c.in_ok-sights.ensures)) c.in_ok-rounds.ensures.same
+
+pub returns-clause-shown : goal.returns-clause-shown
+returns-clause-shown c = board_stands c.args.plan.now c.args.journal.now.entries _ (returns-clause-whole c)
