@@ -50,9 +50,11 @@ worked_and_took table_id plan script looks before now after did taken part = rec
       did.worked.grew.5,
       did.worked.grew.6,
     );
+    glances = ap (λ (m : Man). m.view.glances) taken.kept ∙ did.worked.glances;
   };
   entries = own_part;
   spare = ap (λ (m : Man). m.spare + length script.calls) taken.kept ∙ did.spare;
+  moment = ap (λ (m : Man). m.moment) taken.kept ∙ did.moment;
 }
   where
     own_box : after.box_no ≡ before.box_no
