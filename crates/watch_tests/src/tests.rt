@@ -1,3 +1,4 @@
 //! Tests of the board, by calls.
 
 mod boards;
+mod journals;
