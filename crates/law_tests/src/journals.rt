@@ -10,7 +10,9 @@ ghost use Rattle.script_text.specs.Entries.{IsSpelled};
 use crate::chains::{chain, told_in_turn, worked_from_the_end};
 use crate::facts::{holds, none_is_wrong};
 use crate::lines::{absolute, in_seconds, permissive, upwards};
-use line_journal::{Merged, Walk, exchange_law, merge, merged, order_law, parts_law, reply_law};
+use line_journal::{
+    Merged, Walk, exchange_law, merge, merged, one_order_law, order_law, parts_law, reply_law,
+};
 use line_law::{Entry, Journal};
 use line_maker::make_line;
 use line_plan::Plan;
@@ -632,4 +634,5 @@ fn laws_of_the_merge_hold() {
     parts_law();
     exchange_law();
     order_law();
+    one_order_law();
 }
