@@ -1,7 +1,7 @@
 # The crates whose tests try what no words reach.
 TESTS = $(patsubst crates/%/,%,$(wildcard crates/*_tests/))
 
-.PHONY: demo build cases rows quick $(TESTS) bench soak faults edge sizes planted contracts test
+.PHONY: demo build cases quick $(TESTS) bench soak faults edge sizes planted contracts test
 
 example = run data/example.plan data/ash.script data/beech.script data/cedar.script
 
@@ -13,19 +13,15 @@ demo:
 build:
 	cd crates/box_main && rt run -- $(example)
 
-# Works the worked cases without proofs, in about two minutes, and tells each that differs. The largest texts take
-# minutes in a build that tests each step, so the files named *_limits are left to `make test`.
+# Works the worked cases and rows without proofs, in about two minutes, and tells each that differs. The largest texts
+# take minutes in a build that tests each step, so the files named *_limits are left to `make test`.
 cases:
 	cd crates/worked_cases && rt try $$(find data -type f ! -name '*_limits' -printf '--data %p=%p ') -- data
 
-# Works the worked rows without proofs: calls of the libraries with their arguments and answers.
-rows:
-	cd crates/worked_rows && rt try $$(find data -type f -printf '--data %p=%p ') -- data
-
-# What a newcomer runs first: the worked cases, the worked rows and all tests, without proofs. It works as many at once as
-# there are processors, and takes some seven minutes on four.
+# What a newcomer runs first: the worked cases and rows and all tests, without proofs. It works as many at once as there
+# are processors, and takes some seven minutes on four.
 quick:
-	$(MAKE) --no-print-directory --keep-going --output-sync -j$$(nproc) cases rows $(TESTS)
+	$(MAKE) --no-print-directory --keep-going --output-sync -j$$(nproc) cases $(TESTS)
 
 # The tests of one crate, without proofs.
 $(TESTS):

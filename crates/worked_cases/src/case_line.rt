@@ -1,6 +1,6 @@
 //! The lines of a file of short cases.
 
-use crate::line_fault::LineFault;
+use crate::case_fault::CaseFault;
 use rail_text::read_number;
 
 /// A line of a file of short cases.
@@ -25,23 +25,23 @@ pub enum CaseLine<'a> {
 }
 
 // What stands behind the bar of a line of a text.
-fn read_spelled(behind_bar: &str) -> Result<CaseLine<'_>, LineFault> {
+fn read_spelled(behind_bar: &str) -> Result<CaseLine<'_>, CaseFault> {
     let Some(repeated) = behind_bar.strip_prefix('*') else {
         return match behind_bar.strip_prefix(' ') {
             Some(line) => Ok(CaseLine::Spelled(line)),
             None if behind_bar.is_empty() => Ok(CaseLine::Spelled("")),
-            None => Err(LineFault::Form),
+            None => Err(CaseFault::Form),
         };
     };
     let (number, line) = repeated.split_once(' ').unwrap_or((repeated, ""));
     match read_number(number.as_bytes()) {
         Some(times) => Ok(CaseLine::Repeated { times, line }),
-        None => Err(LineFault::Form),
+        None => Err(CaseFault::Form),
     }
 }
 
 // A line that has a keyword.
-fn read_keyword_line(line: &str) -> Result<CaseLine<'_>, LineFault> {
+fn read_keyword_line(line: &str) -> Result<CaseLine<'_>, CaseFault> {
     match line.split_once(' ') {
         None if line == "words" => Ok(CaseLine::Words(None)),
         None if line == ">" => Ok(CaseLine::Wanted("")),
@@ -49,12 +49,12 @@ fn read_keyword_line(line: &str) -> Result<CaseLine<'_>, LineFault> {
         Some(("text", name)) => Ok(CaseLine::Text(name)),
         Some(("each", name)) => Ok(CaseLine::Each(name)),
         Some((">", wanted)) => Ok(CaseLine::Wanted(wanted)),
-        _ => Err(LineFault::Form),
+        _ => Err(CaseFault::Form),
     }
 }
 
 /// Reads a line, without its end.
-pub fn read_case_line(line: &str) -> Result<CaseLine<'_>, LineFault> {
+pub fn read_case_line(line: &str) -> Result<CaseLine<'_>, CaseFault> {
     if line.is_empty() {
         return Ok(CaseLine::Empty);
     }

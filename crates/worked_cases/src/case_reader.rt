@@ -1,9 +1,9 @@
 //! The cases of a file of short cases.
 
+use crate::case_fault::CaseFault;
 use crate::case_line::{CaseLine, read_case_line};
-use crate::line_fault::LineFault;
-use crate::spelling::{spell, spell_times};
-use crate::worked_case::{Answer, Case, push_word};
+use crate::spelling::{spell_line, spell_times};
+use crate::worked_case::{Answer, Case, words_in};
 use std::alloc::{AllocError, Global};
 use std::mem;
 
@@ -46,16 +46,6 @@ fn status_of(output: &[u8]) -> u8 {
     }
 }
 
-fn split_words(alloc: Global, words: Option<&str>) -> Result<Vec<String>, AllocError> {
-    let mut owned = Vec::new(alloc);
-    if let Some(words) = words {
-        for word in words.split(' ') {
-            push_word(alloc, &mut owned, word)?;
-        }
-    }
-    Ok(owned)
-}
-
 // Puts a copy of a text behind others, under its name.
 fn push_text(
     alloc: Global,
@@ -87,12 +77,10 @@ impl<'a> CaseReader<'a> {
 
     // The number of the front of that name, which is empty where there was none.
     fn front_of(&mut self, name: &str) -> Result<usize, AllocError> {
-        if let Some(place) = self
-            .fronts
-            .iter()
-            .position(|front| front.0.as_str() == name)
-        {
-            return Ok(place);
+        for (place, front) in self.fronts.iter().enumerate() {
+            if front.0.as_str() == name {
+                return Ok(place);
+            }
         }
         let name = String::from_str(self.alloc, name)?;
         self.fronts.push((name, Vec::new(self.alloc)))?;
@@ -182,16 +170,15 @@ impl<'a> CaseReader<'a> {
     }
 
     /// Ends the last case, if its end isn't read.
-    pub fn end(&mut self) -> Result<Option<Case>, LineFault> {
-        let case = self.end_case()?;
-        if self.has_part {
-            return Err(LineFault::NoOutput);
+    pub fn end(&mut self) -> Result<Option<Case>, CaseFault> {
+        if self.has_part && self.first_wanted.is_none() {
+            return Err(CaseFault::NoOutput);
         }
-        Ok(case)
+        Ok(self.end_case()?)
     }
 
     fn begin_group(&mut self, words: Option<&str>) -> Result<(), AllocError> {
-        self.words = Some(split_words(self.alloc, words)?);
+        self.words = Some(words_in(self.alloc, words, ' ')?);
         self.fronts.clear();
         self.place = Place::Nowhere;
         Ok(())
@@ -213,12 +200,12 @@ impl<'a> CaseReader<'a> {
     }
 
     // The text in which the next line stands.
-    fn text_begun(&mut self) -> Result<&mut Vec<u8>, LineFault> {
+    fn text_begun(&mut self) -> Result<&mut Vec<u8>, CaseFault> {
         match self.place {
-            Place::Nowhere => Err(LineFault::NoText),
+            Place::Nowhere => Err(CaseFault::NoText),
             Place::Front(number) => match self.fronts.get_mut(number) {
                 Some(front) => Ok(&mut front.1),
-                None => Err(LineFault::NoText),
+                None => Err(CaseFault::NoText),
             },
             Place::Each(_) => {
                 self.has_part = true;
@@ -227,9 +214,9 @@ impl<'a> CaseReader<'a> {
         }
     }
 
-    fn want(&mut self, number: usize, line: &str) -> Result<(), LineFault> {
+    fn want(&mut self, number: usize, line: &str) -> Result<(), CaseFault> {
         if self.words.is_none() {
-            return Err(LineFault::NoWords);
+            return Err(CaseFault::NoWords);
         }
         if let Place::Front(_) = self.place {
             self.place = Place::Nowhere;
@@ -243,7 +230,7 @@ impl<'a> CaseReader<'a> {
     }
 
     // The case that ends before this line, if one does.
-    fn end_before(&mut self, line: CaseLine<'_>) -> Result<Option<Case>, LineFault> {
+    fn end_before(&mut self, line: CaseLine<'_>) -> Result<Option<Case>, CaseFault> {
         match line {
             CaseLine::Comment | CaseLine::Wanted(_) => Ok(None),
             CaseLine::Empty | CaseLine::Spelled(_) | CaseLine::Repeated { .. } => Ok(
@@ -254,14 +241,14 @@ impl<'a> CaseReader<'a> {
     }
 
     // Does what the line of this number says of the cases to come.
-    fn read(&mut self, number: usize, line: CaseLine<'_>) -> Result<(), LineFault> {
+    fn read(&mut self, number: usize, line: CaseLine<'_>) -> Result<(), CaseFault> {
         let alloc = self.alloc;
         match line {
             CaseLine::Empty | CaseLine::Comment => {}
             CaseLine::Words(words) => self.begin_group(words)?,
             CaseLine::Text(name) => self.begin_text(name)?,
             CaseLine::Each(name) => self.begin_each(name)?,
-            CaseLine::Spelled(line) => spell(self.text_begun()?, line)?,
+            CaseLine::Spelled(line) => spell_line(self.text_begun()?, line)?,
             CaseLine::Repeated { times, line } => spell_times(
                 alloc,
                 self.text_begun()?,
@@ -274,10 +261,15 @@ impl<'a> CaseReader<'a> {
     }
 
     /// Takes the line of this number, without its end. A case that ends before it is told.
-    pub fn take(&mut self, number: usize, line: &str) -> Result<Option<Case>, LineFault> {
+    pub fn take(&mut self, number: usize, line: &str) -> Result<Option<Case>, CaseFault> {
         let line = read_case_line(line)?;
         let case = self.end_before(line)?;
-        self.read(number, line)?;
-        Ok(case)
+        match self.read(number, line) {
+            Ok(()) => Ok(case),
+            Err(fault) => {
+                drop(case);
+                Err(fault)
+            }
+        }
     }
 }

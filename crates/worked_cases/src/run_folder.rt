@@ -1,7 +1,7 @@
 //! The folder of a run: its words, its texts, and the answer that is wanted.
 
 use crate::files::{bytes_of, names_in, path_of, text_of};
-use crate::worked_case::{Answer, Case, push_word};
+use crate::worked_case::{Answer, Case, words_in};
 use anyhow::{Context, Result};
 use std::alloc::{AllocError, Global};
 use std::rt::Files;
@@ -16,18 +16,17 @@ const EXPECTED: &str = "expected";
 const STATUS: &str = "status";
 
 // One word a line; a line may be an empty word.
-fn words_in(alloc: Global, text: &str) -> Result<Vec<String>, AllocError> {
-    let mut words = Vec::new(alloc);
-    for word in text.split_terminator('\n') {
-        push_word(alloc, &mut words, word)?;
+fn words_of(alloc: Global, text: &str) -> Result<Vec<String>, AllocError> {
+    if text.is_empty() {
+        return words_in(alloc, None, '\n');
     }
-    Ok(words)
+    words_in(alloc, Some(text.strip_suffix('\n').unwrap_or(text)), '\n')
 }
 
 // The words of the command line.
 fn read_words<R: Files + AllocGlobal>(rt: &R, folder: &str) -> Result<Vec<String>> {
     let text = text_of(rt, folder, WORDS)?;
-    Ok(words_in(rt.alloc(), text.as_str())?)
+    Ok(words_of(rt.alloc(), text.as_str())?)
 }
 
 fn is_text(name: &str) -> bool {

@@ -16,6 +16,38 @@ pub fn push_word(alloc: Global, words: &mut Vec<String>, word: &str) -> Result<(
     Ok(())
 }
 
+// Puts the words of a text, which this sign parts, behind others.
+fn push_words(
+    alloc: Global,
+    words: &mut Vec<String>,
+    text: &str,
+    between: char,
+) -> Result<(), AllocError> {
+    for word in text.split(between) {
+        push_word(alloc, words, word)?;
+    }
+    Ok(())
+}
+
+/// The words of a text, which this sign parts, if there is one. A word may be empty.
+pub fn words_in(
+    alloc: Global,
+    text: Option<&str>,
+    between: char,
+) -> Result<Vec<String>, AllocError> {
+    let mut words = Vec::new(alloc);
+    let Some(text) = text else {
+        return Ok(words);
+    };
+    match push_words(alloc, &mut words, text, between) {
+        Ok(()) => Ok(words),
+        Err(error) => {
+            drop(words);
+            Err(error)
+        }
+    }
+}
+
 /// A worked case: the words of a command line, the texts of the shelf by their names, and the answer that is wanted.
 #[derive(Drop)]
 pub struct Case {

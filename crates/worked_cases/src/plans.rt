@@ -2,9 +2,9 @@
 
 ghost use Rattle.std.specs.Prelude.{◌<◌, length};
 
+use crate::case_fault::CaseFault;
 use crate::files::path_of;
 use crate::putting::{Done, number_of, put_bytes, put_whether, two_parts};
-use crate::row_fault::RowFault;
 use crate::texts::put_cause;
 use line_law::Call;
 use line_plan::Plan;
@@ -39,7 +39,7 @@ fn put_refusal(out: &mut String, error: ReadError) -> Done {
             write!(out, "line {line}: ")?;
             put_cause(out, cause)
         }
-        ReadError::NoMemory => Err(RowFault::NoMemory),
+        ReadError::NoMemory => Err(CaseFault::NoMemory),
     }
 }
 
@@ -122,7 +122,7 @@ fn put_box_answer(
     let (number, text) = two_parts(argument, " ")?;
     let box_no = number_of(number)?;
     if plan.boxes.len() <= box_no as usize {
-        return Err(RowFault::Argument);
+        return Err(CaseFault::Argument);
     }
     match call {
         "call" => put_call(alloc, out, plan, box_no, text),
@@ -180,6 +180,6 @@ pub fn put_answer_on_plan<R: Files + AllocGlobal>(
             drop(text);
             done
         }
-        Err(_) => Err(RowFault::Argument),
+        Err(_) => Err(CaseFault::Argument),
     }
 }

@@ -1,9 +1,9 @@
 //! The work of a row.
 
 use crate::answers::put_answer;
-use crate::row_fault::RowFault;
+use crate::case_fault::CaseFault;
 use crate::row_line::RowLine;
-use crate::spelling::spell;
+use crate::spelling::spell_part;
 use std::alloc::Global;
 use std::rt::Files;
 use std::str;
@@ -15,10 +15,10 @@ fn answer_to<R: Files + AllocGlobal>(
     plans: &str,
     call: &str,
     argument: &[u8],
-) -> Result<(), RowFault> {
+) -> Result<(), CaseFault> {
     match str::from_utf8(argument) {
         Ok(argument) => put_answer(rt, out, plans, call, argument),
-        Err(_) => Err(RowFault::Argument),
+        Err(_) => Err(CaseFault::Argument),
     }
 }
 
@@ -28,9 +28,9 @@ pub fn answer<R: Files + AllocGlobal>(
     out: &mut String,
     plans: &str,
     row: RowLine<'_>,
-) -> Result<(), RowFault> {
+) -> Result<(), CaseFault> {
     let mut argument = Vec::new(rt.alloc());
-    let mut done = spell(&mut argument, row.argument);
+    let mut done = spell_part(&mut argument, row.argument);
     if done.is_ok() {
         done = answer_to(rt, out, plans, row.call, &argument);
     }
@@ -39,9 +39,9 @@ pub fn answer<R: Files + AllocGlobal>(
 }
 
 /// Whether a row wants this answer.
-pub fn is_wanted(alloc: Global, row: RowLine<'_>, came: &str) -> Result<bool, RowFault> {
+pub fn is_wanted(alloc: Global, row: RowLine<'_>, came: &str) -> Result<bool, CaseFault> {
     let mut wanted = Vec::new(alloc);
-    let done = spell(&mut wanted, row.wanted);
+    let done = spell_part(&mut wanted, row.wanted);
     let is_so = wanted.as_slice() == came.as_bytes();
     drop(wanted);
     done?;

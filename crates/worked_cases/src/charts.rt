@@ -1,7 +1,7 @@
 //! Locking charts.
 
+use crate::case_fault::CaseFault;
 use crate::putting::{Done, number_of, put_numbers, put_whether, two_parts};
-use crate::row_fault::RowFault;
 use bridle_frame::{Bridle, Frame};
 use frame_chart::{Chart, chart, chart_holds};
 use line_plan::Items;
@@ -20,7 +20,7 @@ fn put_parts(out: &mut String, found: &Chart) -> Done {
 /// `chart ROWS`: the chart of the bridles, and whether it holds.
 pub fn put_chart(alloc: Global, out: &mut String, bridles: &[Bridle]) -> Done {
     if 1000 <= bridles.len() || !Frame::accepts(MOST_LEVERS, bridles) {
-        return Err(RowFault::Argument);
+        return Err(CaseFault::Argument);
     }
     let found = chart(alloc, bridles)?;
     let holds = chart_holds(bridles, &found);
@@ -41,7 +41,7 @@ fn push_numbers(numbers: &mut Vec<u32>, words: &str) -> Done {
 }
 
 // The numbers that words spell, of which `-` stands for none.
-fn numbers_of(alloc: Global, words: &str) -> Result<Items<u32>, RowFault> {
+fn numbers_of(alloc: Global, words: &str) -> Result<Items<u32>, CaseFault> {
     let mut numbers = Vec::new(alloc);
     match push_numbers(&mut numbers, words) {
         Ok(()) => Ok(Items::from_vec(numbers)),

@@ -1,11 +1,11 @@
 //! What all answers are made of.
 
-use crate::row_fault::RowFault;
+use crate::case_fault::CaseFault;
 use rail_text::read_number;
 use std::str;
 
 /// Whether a call did what its row asks. What it answers is put behind a text.
-pub type Done = Result<(), RowFault>;
+pub type Done = Result<(), CaseFault>;
 
 /// Puts what was printed.
 pub fn put_bytes(out: &mut String, bytes: &[u8]) -> Done {
@@ -40,14 +40,14 @@ pub fn put_numbers(out: &mut String, numbers: &[u32]) -> Done {
 }
 
 /// The number that a word spells.
-pub fn number_of(word: &str) -> Result<u32, RowFault> {
+pub fn number_of(word: &str) -> Result<u32, CaseFault> {
     match read_number(word.as_bytes()) {
-        Some(number) => u32::try_from(number).or(Err(RowFault::Argument)),
-        None => Err(RowFault::Argument),
+        Some(number) => u32::try_from(number).or(Err(CaseFault::Argument)),
+        None => Err(CaseFault::Argument),
     }
 }
 
 /// The two parts of an argument around the first bar, or other text.
-pub fn two_parts<'a>(argument: &'a str, between: &str) -> Result<(&'a str, &'a str), RowFault> {
-    argument.split_once(between).ok_or(RowFault::Argument)
+pub fn two_parts<'a>(argument: &'a str, between: &str) -> Result<(&'a str, &'a str), CaseFault> {
+    argument.split_once(between).ok_or(CaseFault::Argument)
 }

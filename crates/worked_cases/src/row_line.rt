@@ -1,6 +1,6 @@
 //! The lines of a file of rows.
 
-use crate::row_fault::RowFault;
+use crate::case_fault::CaseFault;
 
 /// A row as its line spells it.
 #[derive(Clone, Copy)]
@@ -14,7 +14,7 @@ pub struct RowLine<'a> {
 }
 
 /// Reads a line, without its end: a row, or nothing of an empty line or a comment.
-pub fn read_row_line(line: &str) -> Result<Option<RowLine<'_>>, RowFault> {
+pub fn read_row_line(line: &str) -> Result<Option<RowLine<'_>>, CaseFault> {
     if line.is_empty() || line.starts_with('#') {
         return Ok(None);
     }
@@ -27,6 +27,6 @@ pub fn read_row_line(line: &str) -> Result<Option<RowLine<'_>>, RowFault> {
                 wanted,
             }))
         }
-        None => Err(RowFault::Form),
+        None => Err(CaseFault::NoRow),
     }
 }

@@ -1,7 +1,7 @@
 //! Numbers, names and lines of texts.
 
+use crate::case_fault::CaseFault;
 use crate::putting::{Done, put_found, put_whether};
-use crate::row_fault::RowFault;
 use rail_text::{
     Cause, KeptEnds, LineFault, LineForm, Lines, TextLine, cause_text, is_name, name_in, number_in,
     read_number,
@@ -25,7 +25,7 @@ pub fn put_cause(out: &mut String, cause: Cause) -> Done {
 pub fn put_fault(out: &mut String, fault: LineFault) -> Done {
     match fault {
         LineFault::Cause(cause) => put_cause(out, cause),
-        LineFault::NoMemory => Err(RowFault::NoMemory),
+        LineFault::NoMemory => Err(CaseFault::NoMemory),
     }
 }
 
@@ -57,7 +57,7 @@ fn put_line(out: &mut String, line: &TextLine<'_>) -> Done {
 /// `lines TEXT`: the lines of the text, then none.
 pub fn put_lines(out: &mut String, text: &str) -> Done {
     if text.len() > 1_000_000 {
-        return Err(RowFault::Argument);
+        return Err(CaseFault::Argument);
     }
     let mut lines = Lines::new(text.as_bytes());
     for _ in 0..=text.len() {

@@ -3,8 +3,8 @@
 ghost use Rattle.std.specs.Prelude.{◌↔◌, IsTrue, length};
 ghost use Rattle.locking_table.specs.Places.{IsLever};
 
+use crate::case_fault::CaseFault;
 use crate::putting::{Done, number_of, put_whether};
-use crate::row_fault::RowFault;
 use bridle_frame::{Bridle, Dog, Frame, Notches, Shift};
 use locking_table::{End, Table};
 use std::alloc::Global;
@@ -48,7 +48,7 @@ fn has_lever(frame: &Frame, lever: u32) -> bool
 // Puts where a lever then stands.
 fn put_end(out: &mut String, frame: &Frame, lever: u32) -> Done {
     if !has_lever(frame, lever) {
-        return Err(RowFault::Argument);
+        return Err(CaseFault::Argument);
     }
     let is_normal = frame.end(lever) == End::Normal;
     put_whether(out, is_normal, " normal; ", " reversed; ")
@@ -57,7 +57,7 @@ fn put_end(out: &mut String, frame: &Frame, lever: u32) -> Done {
 // Moves a lever where nothing holds it, and puts what holds it by each question, and where it then stands.
 fn put_moved(out: &mut String, frame: &mut Frame, lever: u32) -> Done {
     if !has_lever(frame, lever) {
-        return Err(RowFault::Argument);
+        return Err(CaseFault::Argument);
     }
     let held = frame.holder(lever);
     let tested = frame.test(lever);
@@ -78,7 +78,7 @@ fn put_moved(out: &mut String, frame: &mut Frame, lever: u32) -> Done {
 // Throws a lever where the test finds it free, and puts whether it was, and where it then stands.
 fn put_thrown(out: &mut String, frame: &mut Frame, lever: u32) -> Done {
     if !has_lever(frame, lever) {
-        return Err(RowFault::Argument);
+        return Err(CaseFault::Argument);
     }
     match frame.test(lever) {
         Shift::Shifted => {
@@ -115,7 +115,7 @@ pub fn put_worked(
     throws: bool,
 ) -> Done {
     if !table.fits(8) {
-        return Err(RowFault::Argument);
+        return Err(CaseFault::Argument);
     }
     let mut frame = frame_of(alloc, 8, table)?;
     let done = if throws {

@@ -1,7 +1,7 @@
 //! Locking tables: rows as they are read and printed, and what holds a lever.
 
+use crate::case_fault::CaseFault;
 use crate::putting::{Done, number_of, put_bytes, two_parts};
-use crate::row_fault::RowFault;
 use locking_table::{End, Row, RowError, Table, print_row, read_row};
 use std::alloc::Global;
 
@@ -22,14 +22,14 @@ pub fn put_row(alloc: Global, out: &mut String, text: &str) -> Done {
         Ok(row) => put_printed(alloc, out, &row),
         Err(RowError::BadRow { word }) => Ok(write!(out, "bad row at word {word}")?),
         Err(RowError::SameLever) => Ok(out.push_str("same lever twice")?),
-        Err(RowError::NoMemory) => Err(RowFault::NoMemory),
+        Err(RowError::NoMemory) => Err(CaseFault::NoMemory),
     }
 }
 
 fn push_row(alloc: Global, table: &mut Table, text: &str) -> Done {
     match read_row(alloc, text.as_bytes()) {
         Ok(row) if table.len() < 1000 => Ok(table.push(row)?),
-        _ => Err(RowFault::Argument),
+        _ => Err(CaseFault::Argument),
     }
 }
 
@@ -41,7 +41,7 @@ fn push_rows(alloc: Global, table: &mut Table, texts: &str) -> Done {
 }
 
 /// The table of the rows that texts spell, of which `-` stands for none.
-pub fn table_of(alloc: Global, texts: &str) -> Result<Table, RowFault> {
+pub fn table_of(alloc: Global, texts: &str) -> Result<Table, CaseFault> {
     let mut table = Table::new(alloc);
     if texts == "-" {
         return Ok(table);
@@ -55,34 +55,25 @@ pub fn table_of(alloc: Global, texts: &str) -> Result<Table, RowFault> {
     }
 }
 
-fn end_of(letter: u8) -> Result<End, RowFault> {
+fn end_of(letter: u8) -> Result<End, CaseFault> {
     match letter {
         b'N' => Ok(End::Normal),
         b'R' => Ok(End::Reversed),
-        _ => Err(RowFault::Argument),
+        _ => Err(CaseFault::Argument),
     }
 }
 
-fn ends_of(letters: &str) -> Result<[End; 8], RowFault> {
-    let [a, b, c, d, e, f, g, h] = letters.as_bytes() else {
-        return Err(RowFault::Argument);
-    };
-    Ok([
-        end_of(*a)?,
-        end_of(*b)?,
-        end_of(*c)?,
-        end_of(*d)?,
-        end_of(*e)?,
-        end_of(*f)?,
-        end_of(*g)?,
-        end_of(*h)?,
-    ])
+fn push_ends(ends: &mut Vec<End>, letters: &[u8]) -> Done {
+    for letter in letters {
+        ends.push(end_of(*letter)?)?;
+    }
+    Ok(())
 }
 
 // Puts what holds a lever, as each of three questions tells it.
-fn put_held(out: &mut String, table: &Table, ends: &[End; 8], lever: u32) -> Done {
-    if lever < 1 || 8 < lever || !table.fits(8) {
-        return Err(RowFault::Argument);
+fn put_held(out: &mut String, table: &Table, ends: &[End], lever: u32) -> Done {
+    if ends.len() != 8 || lever < 1 || 8 < lever || !table.fits(8) {
+        return Err(CaseFault::Argument);
     }
     if !table.all_hold(ends) {
         return Ok(out.push_str("a row is broken")?);
@@ -102,8 +93,14 @@ fn put_held(out: &mut String, table: &Table, ends: &[End; 8], lever: u32) -> Don
 }
 
 /// `holder ROWS | ENDS LEVER`: what holds the lever where eight levers stand so.
-pub fn put_holder(out: &mut String, table: &Table, argument: &str) -> Done {
+pub fn put_holder(alloc: Global, out: &mut String, table: &Table, argument: &str) -> Done {
     let (letters, lever) = two_parts(argument, " ")?;
     let lever = number_of(lever)?;
-    put_held(out, table, &ends_of(letters)?, lever)
+    let mut ends = Vec::new(alloc);
+    let done = match push_ends(&mut ends, letters.as_bytes()) {
+        Ok(()) => put_held(out, table, &ends, lever),
+        Err(fault) => Err(fault),
+    };
+    drop(ends);
+    done
 }

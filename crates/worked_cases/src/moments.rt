@@ -3,8 +3,8 @@
 ghost use Rattle.std.specs.Prelude.{◌<◌};
 ghost use Rattle.script_text.specs.Moments.{hundred_hours};
 
+use crate::case_fault::CaseFault;
 use crate::putting::{Done, two_parts};
-use crate::row_fault::RowFault;
 use script_text::{put_moment, read_moment, read_ready};
 
 // Puts a moment as a number, and as what it is printed.
@@ -20,11 +20,11 @@ fn put_read(out: &mut String, version: u8, read: Option<u32>) -> Done {
     Ok(())
 }
 
-fn version_of(word: &str) -> Result<u8, RowFault> {
+fn version_of(word: &str) -> Result<u8, CaseFault> {
     match word {
         "1" => Ok(1),
         "2" => Ok(2),
-        _ => Err(RowFault::Argument),
+        _ => Err(CaseFault::Argument),
     }
 }
 
