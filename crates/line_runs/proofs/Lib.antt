@@ -1,3 +1,4 @@
+pub mod BothHold
 pub mod LeftOf
 pub mod NextBox
 pub mod Turning
@@ -6,7 +7,7 @@ pub mod ScriptsWorked
 pub mod OutputRead
 pub mod LineWatched
 pub mod Refused
+pub mod Room
 pub mod Printed
 pub mod Copied
 pub mod Counted
-pub mod PutInParts

@@ -14,7 +14,7 @@ use Rattle.train_register.specs.Registers.{AreParts, RegisterFields, register_te
 use Rattle.train_register.proofs.Parts.{parts_text as registers_whole}
 use Rattle.line_runs.specs.Copying.{AreCopied, AreHalves, CopiedFields, refusals_heading}
 use Rattle.line_runs.specs.Counting.{AreCountsTold}
-use Rattle.line_runs.specs.Outputs.{AreInOrder, output_text, parts_text}
+use Rattle.line_runs.specs.Outputs.{AreInOrder, output_text, rest_text}
 use Rattle.line_runs.proofs.Refused.{refused_entries-append}
 
 -- two lists in order are the whole that both are
@@ -46,15 +46,18 @@ sum_twice {X} {Y} g f xs =
 
 -- the front half of a journal's entries, and the others
 pub in_halves : (plan : PlanFields) (es : List Entry) (half : ℕ) (front behind : CopiedFields)
-    → AreCopied plan 1 (take half es) front → AreCopied plan (half + 1) (drop half es) behind → half ≤ length es
+    → AreCopied plan (heading_text plan) 1 (take half es) front → AreCopied plan [] (half + 1) (drop half es) behind
+    → half ≤ length es
     → AreHalves plan es front behind
 in_halves plan es half front behind first second within =
     let parts : take half es ++ drop half es ≡ es = take-append-drop half es in
     let counted : 1 + length (take half es) ≡ half + 1 = omega (arith, length-take half es, within) in
     record {
       journal = rw (first.journal, second.journal)
+          (append_assoc (heading_text plan) (entries_text plan 1 (take half es)) (entries_text plan (half + 1) (drop half es))
+          ∙ ap (λ (t : List ℕ). heading_text plan ++ t)
           (ap (λ (n : ℕ). entries_text plan 1 (take half es) ++ entries_text plan n (drop half es)) (sym counted)
-          ∙ (sym (entries_text-append plan 1 (take half es) (drop half es)) ∙ ap (entries_text plan 1) parts));
+          ∙ (sym (entries_text-append plan 1 (take half es) (drop half es)) ∙ ap (entries_text plan 1) parts)));
       refused = rw (first.refused, second.refused)
           (ap (λ (n : ℕ). refused_entries plan 1 (take half es) ++ refused_entries plan n (drop half es)) (sym counted)
           ∙ (sym (refused_entries-append plan 1 (take half es) (drop half es)) ∙ ap (refused_entries plan 1) parts));
@@ -65,10 +68,11 @@ pub flat_texts : {X : Type 0} (f : X → List ℕ) (xs : List X) → flat_map (�
 flat_texts f [] = refl
 flat_texts f (x ∷ xs) = ap (λ (t : List ℕ). f x ++ t) (flat_texts f xs)
 
-regroup : (head entries end registers told refused sections : List ℕ)
-    → head ++ entries ++ end ++ registers ++ told ++ refused ++ sections
-    ≡ (head ++ entries ++ end) ++ (registers ++ ((told ++ refused) ++ sections))
-regroup head entries end registers told refused sections = simp append_assoc
+-- the journal's lines stand together, and so do those of the refused calls
+regroup : (front behind end registers told refused_front refused_behind sections : List ℕ)
+    → front ++ (behind ++ end ++ registers ++ told ++ refused_front ++ refused_behind ++ sections)
+    ≡ ((front ++ behind) ++ end) ++ (registers ++ ((told ++ (refused_front ++ refused_behind)) ++ sections))
+regroup front behind end registers told refused_front refused_behind sections = simp append_assoc
 
 -- the journal is its first line, the lines of its entries, and its end
 journal_is : (plan : PlanFields) (es : List Entry)
@@ -90,29 +94,25 @@ pub output_whole : (plan : PlanFields) (es : List Entry) (registers : List Regis
     (texts : List (List ℕ)) (heading sections : List ℕ) → AreParts plan es registers
     → texts ≡ map (λ register. register_text plan register.box_no register.entries) registers
     → AreHalves plan es front behind → AreCountsTold plan es heading sections
-    → parts_text plan front behind texts heading sections ≡ output_text plan es
+    → front.journal ++ rest_text behind.journal texts heading front.refused behind.refused sections
+    ≡ output_text plan es
 unfolding output_text
 output_whole plan es registers front behind texts heading sections parts are halves told =
     let registered : flat_map (λ text. text) texts ≡ registers_text plan es =
     ap (flat_map (λ text. text)) are
     ∙ (flat_texts (λ register. register_text plan register.box_no register.entries) registers
     ∙ registers_whole plan es registers parts) in
-    let head : List ℕ = heading_text plan in
-    let entries : List ℕ = entries_text plan 1 es in
-    let refused : List ℕ = refused_entries plan 1 es in
-    let before : List ℕ = head ++ entries ++ codes "end\n" ++ registers_text plan es ++ heading in
-    ap (λ (t : List ℕ). t ++ codes "end\n" ++ flat_map (λ text. text) texts ++ heading ++ front.refused
-    ++ behind.refused ++ sections)
-    (append_assoc head front.journal behind.journal ∙ ap (λ (t : List ℕ). head ++ t) halves.journal)
-    ∙ (ap (λ (t : List ℕ). head ++ entries ++ codes "end\n" ++ t ++ heading ++ front.refused
-    ++ behind.refused ++ sections) registered
-    ∙ (ap (λ (t : List ℕ). t ++ sections)
-    (append_assoc before front.refused behind.refused ∙ ap (λ (t : List ℕ). before ++ t) halves.refused)
-    ∙ (regroup head entries (codes "end\n") (registers_text plan es) heading refused sections
-    ∙ (ap (λ (t : List ℕ). t ++ (registers_text plan es ++ ((heading ++ refused) ++ sections)))
-    (journal_is plan es)
-    ∙ (ap (λ (t : List ℕ). journal_text plan es ++ (registers_text plan es ++ ((t ++ refused) ++ sections))) told.before
-    ∙ (ap (λ (t : List ℕ). journal_text plan es ++ (registers_text plan es ++ (t ++ sections)))
-    (refusals_are plan es)
+    let journal : (front.journal ++ behind.journal) ++ codes "end\n" ≡ journal_text plan es =
+    ap (λ (t : List ℕ). t ++ codes "end\n") halves.journal ∙ journal_is plan es in
+    let refused : heading ++ (front.refused ++ behind.refused) ≡ refusals_text plan es =
+    ap (λ (t : List ℕ). t ++ (front.refused ++ behind.refused)) told.before
+    ∙ (ap (λ (t : List ℕ). refusals_heading (refused_count es) ++ t) halves.refused ∙ refusals_are plan es) in
+    regroup front.journal behind.journal (codes "end\n") (flat_map (λ text. text) texts) heading front.refused
+    behind.refused sections
+    ∙ (ap (λ (t : List ℕ). t ++ (flat_map (λ text. text) texts
+    ++ ((heading ++ (front.refused ++ behind.refused)) ++ sections))) journal
+    ∙ (ap (λ (t : List ℕ). journal_text plan es ++ (t ++ ((heading ++ (front.refused ++ behind.refused)) ++ sections)))
+    registered
+    ∙ (ap (λ (t : List ℕ). journal_text plan es ++ (registers_text plan es ++ (t ++ sections))) refused
     ∙ ap (λ (t : List ℕ). journal_text plan es ++ (registers_text plan es ++ (refusals_text plan es ++ t)))
-    told.behind))))))
+    told.behind)))

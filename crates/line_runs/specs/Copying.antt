@@ -6,7 +6,7 @@ use Rattle.line_plan.specs.Plans.{PlanFields}
 use Rattle.line_law.specs.declared.call.Entry.{Entry}
 use Rattle.line_law.specs.History.{part_of}
 use Rattle.train_register.specs.Registers.{told_lines}
-use Rattle.line_report.specs.Journals.{entries_text}
+use Rattle.line_report.specs.Journals.{entries_text, heading_text}
 use Rattle.line_report.specs.Refusals.{refused_entries}
 
 -- what stands before the first line end of a text, and what behind it
@@ -39,14 +39,15 @@ pub record CopiedFields : Type 0 where
   pub journal : List ℕ
   pub refused : List ℕ
 
--- these are copied of entries of which the first has this number in the journal
-pub record AreCopied (plan : PlanFields) (number : ℕ) (es : List Entry) (copied : CopiedFields) : Type 0 where
-  pub journal : copied.journal ≡ entries_text plan number es
+-- these are copied of entries of which the first has this number in the journal, their lines behind what stood before
+pub record AreCopied (plan : PlanFields) (before : List ℕ) (number : ℕ) (es : List Entry) (copied : CopiedFields)
+    : Type 0 where
+  pub journal : copied.journal ≡ before ++ entries_text plan number es
   pub refused : copied.refused ≡ refused_entries plan number es
 
--- these are copied of the front half of a journal's entries and of the others
+-- these are copied of the front half of a journal's entries, behind its first line, and of the others
 pub record AreHalves (plan : PlanFields) (es : List Entry) (front behind : CopiedFields) : Type 0 where
-  pub journal : front.journal ++ behind.journal ≡ entries_text plan 1 es
+  pub journal : front.journal ++ behind.journal ≡ heading_text plan ++ entries_text plan 1 es
   pub refused : front.refused ++ behind.refused ≡ refused_entries plan 1 es
 
 -- what stands before the lines of so many refused calls

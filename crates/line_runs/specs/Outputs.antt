@@ -3,14 +3,13 @@ use Rattle.std.specs.Prelude.{◌≡◌, ℕ, List, ◌++◌, codes, Result, Ok,
 use Rattle.std.specs.List.{flat_map}
 use Rattle.line_plan.specs.Plans.{PlanFields}
 use Rattle.line_law.specs.declared.call.Entry.{Entry}
-use Rattle.line_report.specs.Journals.{heading_text, journal_text}
+use Rattle.line_report.specs.Journals.{journal_text}
 use Rattle.line_report.specs.Refusals.{refusals_text}
 use Rattle.line_report.specs.Sections.{sections_text}
 use Rattle.train_register.specs.Registers.{registers_text}
 use Rattle.text_fetch.specs.FromTexts.{FromTexts, Untold, Gives, Refuses, StopsAt}
 use Rattle.text_fetch.specs.Runs.{Run}
 use Rattle.text_fetch.specs.declared.stop.Stop.{Stop}
-use Rattle.line_runs.specs.Copying.{CopiedFields}
 use Rattle.line_runs.specs.Worked.{IsJournalOf}
 
 -- what came of a run: the refused calls, and the most trains that each section held
@@ -21,12 +20,11 @@ result_text plan es = refusals_text plan es ++ sections_text plan es
 unfoldable pub output_text : PlanFields → List Entry → List ℕ
 output_text plan es = journal_text plan es ++ (registers_text plan es ++ result_text plan es)
 
--- the output in parts: by what is copied of the front half of the journal's entries and of the others, the registers
--- as they are printed, and what stands before and behind the lines of the refused calls
-abbrev pub parts_text : PlanFields → CopiedFields → CopiedFields → List (List ℕ) → List ℕ → List ℕ → List ℕ
-parts_text plan front behind registers heading sections =
-    heading_text plan ++ front.journal ++ behind.journal ++ codes "end\n" ++ flat_map (λ text. text) registers
-    ++ heading ++ front.refused ++ behind.refused ++ sections
+-- the output behind the lines of its journal's front half: the other lines, the end, the registers as they are printed,
+-- and the lines of the refused calls of both halves, with what stands before and behind these
+abbrev pub rest_text : List ℕ → List (List ℕ) → List ℕ → List ℕ → List ℕ → List ℕ → List ℕ
+rest_text journal registers heading refused_front refused_behind sections =
+    journal ++ codes "end\n" ++ flat_map (λ text. text) registers ++ heading ++ refused_front ++ refused_behind ++ sections
 
 -- a text is the whole output of a journal of this run
 abbrev pub IsOutputOf : Run → List ℕ → Type 0

@@ -199,27 +199,61 @@ impl Model for CopiedLines {
     ghost view = { λ copied. record { journal = copied.journal.items; refused = copied.refused.items } };
 }
 
-/// Copies the journal's lines of the entries that are ahead, but for the first so many, from the printed registers.
-/// There is room for so many bytes of the lines at once, and of those of the refused calls: what isn't filled takes no
-/// memory.
+// Copies the lines of the entries that are ahead, but for the first so many, behind two texts as `copy_entries` does.
+fn copy_behind_first(
+    journal: &mut Vec<u8>,
+    refused: &mut Vec<u8>,
+    alloc: Global,
+    plan: &Plan,
+    walk: &mut Walk<'_>,
+    from: usize,
+    registers: &PrintedRegisters,
+) -> Result<(), AllocError>
+    requires from { from ≤ length walk.old }
+    requires numbers { length walk.old + 1 < 2 ^ 64 }
+    requires spelled { All (IsSpelled plan.now) walk.old }
+    requires left { AreLinesLeft plan.now walk.old (map behind_line registers.now) }
+    ensures journal { OnOk result
+        (journal.new.items ≡ journal.old.items ++ entries_text plan.now (from + 1) (drop from walk.old)) }
+    ensures refused { OnOk result
+        (refused.new.items ≡ refused.old.items ++ refused_entries plan.now (from + 1) (drop from walk.old)) }
+{
+    let mut lines = registers.told_lines(alloc)?;
+    pass_over(plan, walk, from, &mut lines);
+    let copied = copy_entries(journal, refused, plan, from + 1, walk, &mut lines);
+    drop(lines);
+    copied
+}
+
+/// Copies the journal's lines of the entries that are ahead, but for the first so many, from the printed registers, and
+/// puts them behind a text. There is room for so many bytes of the lines at once, and of those of the refused calls:
+/// what isn't filled takes no memory.
 pub(crate) fn copy_from(
     alloc: Global,
     plan: &Plan,
     walk: &mut Walk<'_>,
     from: usize,
     registers: &PrintedRegisters,
+    before: Vec<u8>,
     room: usize,
 ) -> Result<CopiedLines, NoMemory>
     requires from { from ≤ length walk.old }
     requires numbers { length walk.old + 1 < 2 ^ 64 }
     requires spelled { All (IsSpelled plan.now) walk.old }
     requires left { AreLinesLeft plan.now walk.old (map behind_line registers.now) }
-    ensures { IfOk result (AreCopied plan.now (from + 1) (drop from walk.old)) }
+    ensures { IfOk result (AreCopied plan.now before.items (from + 1) (drop from walk.old)) }
 {
-    let mut journal = Vec::with_capacity(alloc, room)?;
+    let mut journal = before;
+    journal.reserve_exact(room)?;
     let mut refused = Vec::with_capacity(alloc, room)?;
-    let mut lines = registers.told_lines(alloc)?;
-    pass_over(plan, walk, from, &mut lines);
-    copy_entries(&mut journal, &mut refused, plan, from + 1, walk, &mut lines)?;
+    copy_behind_first(
+        &mut journal,
+        &mut refused,
+        alloc,
+        plan,
+        walk,
+        from,
+        registers,
+    )?;
     Ok(CopiedLines { journal, refused })
 }

@@ -1,6 +1,7 @@
 //! What is counted of a journal: its refused calls, and the most trains that its sections held.
 
-ghost use Rattle.std.specs.Prelude.{◌≡◌, IfOk};
+ghost use Rattle.std.specs.Prelude.{◌≡◌, ◌+◌, List, IfOk, length};
+ghost use Rattle.line_law.specs.declared.call.Entry.{Entry};
 ghost use Rattle.line_law.specs.History.{IsLegal};
 ghost use Rattle.line_report.specs.Asked.{AreFewEntries};
 ghost use Rattle.line_runs.specs.Copying.{refusals_heading};
@@ -39,6 +40,7 @@ pub(crate) fn count_along(
         refused += usize::from(is_refused(&entry.reply));
         count_on(&mut trains, plan, entry);
     }
+    drop(walk);
     Ok(Counts { refused, trains })
 }
 
@@ -53,6 +55,18 @@ fn print_refusals_heading(alloc: Global, refused: usize) -> Result<Vec<u8>, Allo
     Ok(out)
 }
 
+// What stands before the lines of the refused calls, and what behind them, by what was counted.
+fn print_told(alloc: Global, plan: &Plan, counts: &Counts) -> Result<(Vec<u8>, Vec<u8>), NoMemory>
+    requires { length counts.now.trains.items + 1 ≡ length plan.now.boxes }
+    ensures { (es : List Entry) → AreCounts plan.now es counts.now.refused counts.now.trains.items
+        → IfOk result (λ r. AreCountsTold plan.now es r.0.items r.1.items) }
+{
+    let heading = print_refusals_heading(alloc, counts.refused)?;
+    let mut sections = String::new(alloc);
+    put_sections(&mut sections, alloc, plan, &counts.trains)?;
+    Ok((heading, sections.into_bytes()))
+}
+
 /// What stands before the lines of a journal's refused calls, and what behind them: how many they are, and the most
 /// trains of the sections.
 pub(crate) fn print_counts(
@@ -65,8 +79,7 @@ pub(crate) fn print_counts(
     ensures { IfOk result (λ r. AreCountsTold plan.now merged.now r.0.items r.1.items) }
 {
     let counts = count_along(alloc, plan, merged)?;
-    let heading = print_refusals_heading(alloc, counts.refused)?;
-    let mut sections = String::new(alloc);
-    put_sections(&mut sections, alloc, plan, &counts.trains)?;
-    Ok((heading, sections.into_bytes()))
+    let told = print_told(alloc, plan, &counts);
+    drop(counts);
+    told
 }

@@ -1,13 +1,14 @@
 //! Runs: a line is worked by the scripts of its boxes, each on a thread of its own, and may be watched meanwhile. What
-//! is printed of it is made whole, in parts, before any of it is put.
+//! is printed of it is made one text.
 #![tactic(auto)]
 
+mod both;
 mod copying;
 mod counting;
 mod look;
-mod output;
 mod printing;
 mod registers;
+mod rest;
 mod roster;
 mod run;
 mod serial;
@@ -17,7 +18,6 @@ mod watch;
 mod watched;
 mod worked;
 
-pub use output::Output;
 pub use run::run_outcome;
 pub use stress::stress_outcome;
 pub use watch::watch_outcome;

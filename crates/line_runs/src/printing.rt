@@ -1,22 +1,24 @@
 //! The output of a line that was worked: its registers are printed on threads, and the journal is copied from them.
 
-ghost use Rattle.std.specs.Prelude.{◌≡◌, ◌+◌, ◌≤◌, All, IfOk, codes, drop, length, map, take};
+ghost use Rattle.std.specs.Prelude.{◌≡◌, ◌+◌, ◌<◌, ◌≤◌, ◌^◌, ◌++◌, [], All, IfOk, OnOk, drop, length, map, take};
 ghost use Rattle.line_law.specs.History.{IsLegal};
 ghost use Rattle.line_report.specs.Asked.{AreFewEntries};
 ghost use Rattle.line_report.specs.Journals.{heading_text};
-ghost use Rattle.line_runs.specs.Copying.{AreCopied, AreHalves};
+ghost use Rattle.line_runs.specs.Copying.{AreCopied, AreHalves, AreLinesLeft, behind_line};
 ghost use Rattle.line_runs.specs.Counting.{AreCountsTold};
-ghost use Rattle.line_runs.specs.Outputs.{output_text, parts_text};
+ghost use Rattle.line_runs.specs.Outputs.{output_text, rest_text};
 ghost use Rattle.line_runs.specs.Worked.{AreWorked, CanBePrinted, HasTexts, IsJournalOf, IsWorkedLine};
+ghost use Rattle.script_text.specs.Entries.{IsSpelled};
 ghost use Rattle.text_fetch.specs.Runs.{AreScriptsOf};
 ghost use Rattle.train_register.specs.Registers.{IsPrintable, register_text};
 
+use crate::both::both_made;
 use crate::copying::{CopiedLines, copy_from};
 use crate::counting::print_counts;
-use crate::output::Output;
 use crate::registers::PrintedRegisters;
+use crate::rest::OutputRest;
 use crate::worked::{WorkedLine, merged_entries};
-use line_journal::Merged;
+use line_journal::{Merged, Walk};
 use line_plan::Plan;
 use line_report::put_heading;
 use rail_text::NoMemory;
@@ -32,7 +34,24 @@ const CUTS: u32 = 2;
 // only room that is made at once.
 const LONGER: usize = 16;
 
-// These registers, one after another.
+// Prints these registers, one after another, behind others.
+fn push_each(
+    printed: &mut PrintedRegisters,
+    alloc: Global,
+    plan: &Plan,
+    registers: &[Register],
+) -> Result<(), NoMemory>
+    requires { All (IsPrintable plan.now) registers.now }
+    ensures { OnOk result (printed.new ≡ printed.old
+        ++ map (λ register. register_text plan.now register.box_no register.entries) registers.now) }
+{
+    for register in registers {
+        printed.push(print_register(alloc, plan, register)?)?;
+    }
+    Ok(())
+}
+
+// These registers.
 fn print_each(
     alloc: Global,
     plan: &Plan,
@@ -43,10 +62,13 @@ fn print_each(
         ≡ map (λ register. register_text plan.now register.box_no register.entries) registers.now) }
 {
     let mut printed = PrintedRegisters::none(alloc);
-    for register in registers {
-        printed.push(print_register(alloc, plan, register)?)?;
+    match push_each(&mut printed, alloc, plan, registers) {
+        Ok(()) => Ok(printed),
+        Err(NoMemory) => {
+            drop(printed);
+            Err(NoMemory)
+        }
     }
-    Ok(printed)
 }
 
 // The same registers, in halves that are printed on threads, so many times over.
@@ -123,10 +145,37 @@ pub(crate) fn merged_and_printed<'a, R: Threads + Sync>(
             ended.entry.now.registers) }
     { print_registers(rt, alloc, plan, ended.registers.as_slice()) };
     let (merged, registers) = join(rt, merged, registers);
-    Ok((merged?, registers?))
+    both_made(merged, registers)
 }
 
-// The journal's lines of its front half, copied from the registers that are printed. There is room for so many bytes.
+// The journal's first line.
+fn print_heading(alloc: Global, plan: &Plan) -> Result<Vec<u8>, AllocError>
+    ensures { IfOk result (λ text. text.items ≡ heading_text plan.now) }
+{
+    let mut text = String::new(alloc);
+    put_heading(&mut text, plan)?;
+    Ok(text.into_bytes())
+}
+
+// The journal's first line, and the lines of the entries that are ahead, copied from the registers that are printed.
+fn copy_behind_heading(
+    alloc: Global,
+    plan: &Plan,
+    walk: &mut Walk<'_>,
+    registers: &PrintedRegisters,
+    room: usize,
+) -> Result<CopiedLines, NoMemory>
+    requires numbers { length walk.old + 1 < 2 ^ 64 }
+    requires spelled { All (IsSpelled plan.now) walk.old }
+    requires left { AreLinesLeft plan.now walk.old (map behind_line registers.now) }
+    ensures { IfOk result (AreCopied plan.now (heading_text plan.now) 1 walk.old) }
+{
+    let heading = print_heading(alloc, plan)?;
+    copy_from(alloc, plan, walk, 0, registers, heading, room)
+}
+
+// The journal's first line and the lines of its front half, copied from the registers that are printed. There is room
+// for so many bytes.
 fn copy_front(
     alloc: Global,
     plan: &Plan,
@@ -137,11 +186,13 @@ fn copy_front(
 ) -> Result<CopiedLines, NoMemory>
     requires texts { HasTexts plan.now merged.now registers.now }
     requires half { half ≤ length merged.now }
-    ensures { IfOk result (AreCopied plan.now 1 (take half merged.now)) }
+    ensures { IfOk result (AreCopied plan.now (heading_text plan.now) 1 (take half merged.now)) }
 {
     plan.meets_conditions();
     let mut walk = merged.walk_front(alloc, half)?;
-    copy_from(alloc, plan, &mut walk, 0, registers, room)
+    let copied = copy_behind_heading(alloc, plan, &mut walk, registers, room);
+    drop(walk);
+    copied
 }
 
 // The same of the entries behind its front half.
@@ -155,15 +206,25 @@ fn copy_behind(
 ) -> Result<CopiedLines, NoMemory>
     requires texts { HasTexts plan.now merged.now registers.now }
     requires half { half ≤ length merged.now }
-    ensures { IfOk result (AreCopied plan.now (half + 1) (drop half merged.now)) }
+    ensures { IfOk result (AreCopied plan.now [] (half + 1) (drop half merged.now)) }
 {
     plan.meets_conditions();
     let mut walk = merged.walk(alloc)?;
-    copy_from(alloc, plan, &mut walk, half, registers, room)
+    let copied = copy_from(
+        alloc,
+        plan,
+        &mut walk,
+        half,
+        registers,
+        Vec::new(alloc),
+        room,
+    );
+    drop(walk);
+    copied
 }
 
-// The journal's lines, copied from the registers that are printed: of the entries of its front half on one thread, of
-// the others on another.
+// The journal's first line and the lines of all entries, copied from the registers that are printed: those of its front
+// half on one thread, the others on another.
 fn copy_halves<R: Threads + Sync>(
     rt: &R,
     alloc: Global,
@@ -181,97 +242,104 @@ fn copy_halves<R: Threads + Sync>(
         / 2;
     let front = || -> Result<CopiedLines, NoMemory>
         requires { HasTexts plan.now merged.now registers.now × (half ≤ length merged.now) }
-        ensures { IfOk result (AreCopied plan.entry.now 1 (take half merged.entry.now)) }
+        ensures { IfOk result
+            (AreCopied plan.entry.now (heading_text plan.entry.now) 1 (take half merged.entry.now)) }
     { copy_front(alloc, plan, merged, half, registers, room) };
     let behind = || -> Result<CopiedLines, NoMemory>
         requires { HasTexts plan.now merged.now registers.now × (half ≤ length merged.now) }
-        ensures { IfOk result (AreCopied plan.entry.now (half + 1) (drop half merged.entry.now)) }
+        ensures { IfOk result (AreCopied plan.entry.now [] (half + 1) (drop half merged.entry.now)) }
     { copy_behind(alloc, plan, merged, half, registers, room) };
     let (front, behind) = join(rt, front, behind);
-    Ok((front?, behind?))
+    both_made(front, behind)
 }
 
-// The journal's first line.
-fn print_heading(alloc: Global, plan: &Plan) -> Result<Vec<u8>, AllocError>
-    ensures { IfOk result (λ text. text.items ≡ heading_text plan.now) }
-{
-    let mut text = String::new(alloc);
-    put_heading(&mut text, plan)?;
-    Ok(text.into_bytes())
-}
-
-// The journal's last line.
-fn print_end(alloc: Global) -> Result<Vec<u8>, AllocError>
-    ensures { IfOk result (λ text. text.items ≡ codes "end\n") }
-{
-    let mut text = Vec::new(alloc);
-    text.extend_from_slice(b"end\n")?;
-    Ok(text)
-}
-
-// The output of a line, by what was copied of both halves of its journal, the registers, and what stands before and
-// behind the lines of the refused calls.
-fn put_together(
+// What is copied of both halves of a journal, and what stands before and behind the lines of its refused calls. The
+// refused calls and the most trains of the sections are counted and printed on a thread, while the journal is copied
+// from the registers.
+fn copied_and_counted<R: Threads + Sync>(
+    rt: &R,
     alloc: Global,
     plan: &Plan,
+    merged: &Merged<'_>,
+    registers: &PrintedRegisters,
+) -> Result<((CopiedLines, CopiedLines), (Vec<u8>, Vec<u8>)), NoMemory>
+    requires { HasTexts plan.now merged.now registers.now }
+    ensures halves { IfOk result (λ r. AreHalves plan.now merged.now r.0.0 r.0.1) }
+    ensures counts { IfOk result (λ r. AreCountsTold plan.now merged.now r.1.0.items r.1.1.items) }
+{
+    let halves = || -> Result<(CopiedLines, CopiedLines), NoMemory>
+        requires { HasTexts plan.now merged.now registers.now }
+        ensures { IfOk result (λ r. AreHalves plan.entry.now merged.entry.now r.0 r.1) }
+    { copy_halves(rt, alloc, plan, merged, registers) };
+    let counts = || -> Result<(Vec<u8>, Vec<u8>), NoMemory>
+        requires { IsLegal plan.now merged.now × AreFewEntries merged.now }
+        ensures { IfOk result (λ r. AreCountsTold plan.entry.now merged.entry.now r.0.items r.1.items) }
+    { print_counts(alloc, plan, merged) };
+    let (halves, counts) = join(rt, halves, counts);
+    both_made(halves, counts)
+}
+
+// The output of a line, up to the lines of its journal's front half, and the rest: by what was copied of both halves of
+// its journal, the registers, and what stands before and behind the lines of the refused calls.
+fn put_together(
     halves: (CopiedLines, CopiedLines),
     registers: PrintedRegisters,
     counts: (Vec<u8>, Vec<u8>),
-) -> Result<Output, AllocError>
-    ensures { IfOk result (λ output. output
-        ≡ parts_text plan.now halves.0 halves.1 registers counts.0.items counts.1.items) }
+) -> (Vec<u8>, OutputRest)
+    ensures front { result.0.items ≡ halves.0.journal }
+    ensures rest { result.1 ≡ rest_text halves.1.journal registers counts.0.items halves.0.refused halves.1.refused
+        counts.1.items }
 {
     let (front, behind) = halves;
     let (heading, sections) = counts;
-    let mut output = Output::none(alloc);
-    output.push(print_heading(alloc, plan)?)?;
-    output.push(front.journal)?;
-    output.push(behind.journal)?;
-    output.push(print_end(alloc)?)?;
-    output.append(registers.into_texts())?;
-    output.push(heading)?;
-    output.push(front.refused)?;
-    output.push(behind.refused)?;
-    output.push(sections)?;
-    Ok(output)
+    let rest = OutputRest {
+        journal: behind.journal,
+        registers,
+        heading,
+        refused_front: front.refused,
+        refused_behind: behind.refused,
+        sections,
+    };
+    (front.journal, rest)
 }
 
-/// The whole output of a line, by its journal, where its registers are printed already. The refused calls and the most
-/// trains of the sections are counted and printed on a thread, while the journal is copied from the registers.
+/// The whole output of a line, by its journal, where its registers are printed already: up to the lines of the journal's
+/// front half, and the rest.
 pub(crate) fn print_whole<R: Threads + Sync>(
     rt: &R,
     alloc: Global,
     plan: &Plan,
     merged: &Merged<'_>,
     registers: PrintedRegisters,
-) -> Result<Output, NoMemory>
+) -> Result<(Vec<u8>, OutputRest), NoMemory>
     requires { HasTexts plan.now merged.now registers }
-    ensures { IfOk result (λ output. output ≡ output_text plan.now merged.now) }
+    ensures { IfOk result (λ r. r.0.items ++ r.1 ≡ output_text plan.now merged.now) }
 {
-    let printed = &registers;
-    let halves = || -> Result<(CopiedLines, CopiedLines), NoMemory>
-        requires { HasTexts plan.now merged.now printed.now }
-        ensures { IfOk result (λ r. AreHalves plan.entry.now merged.entry.now r.0 r.1) }
-    { copy_halves(rt, alloc, plan, merged, printed) };
-    let counts = || -> Result<(Vec<u8>, Vec<u8>), NoMemory>
-        requires { IsLegal plan.now merged.now × AreFewEntries merged.now }
-        ensures { IfOk result (λ r. AreCountsTold plan.entry.now merged.entry.now r.0.items r.1.items) }
-    { print_counts(alloc, plan, merged) };
-    let (halves, counts) = join(rt, halves, counts);
-    Ok(put_together(alloc, plan, halves?, registers, counts?)?)
+    match copied_and_counted(rt, alloc, plan, merged, &registers) {
+        Ok((halves, counts)) => Ok(put_together(halves, registers, counts)),
+        Err(NoMemory) => {
+            drop(registers);
+            Err(NoMemory)
+        }
+    }
 }
 
-/// The whole output of a line that was worked, its registers printed on threads.
+/// The same of a line that was worked, its registers printed on threads.
 pub(crate) fn print_output<R: Threads + Sync>(
     rt: &R,
     alloc: Global,
     plan: &Plan,
     line: &WorkedLine,
-) -> Result<Output, NoMemory>
+) -> Result<(Vec<u8>, OutputRest), NoMemory>
     requires { CanBePrinted plan.now line.now.journal.entries line.now.ended.registers }
-    ensures { IfOk result (λ output. output ≡ output_text plan.now line.now.journal.entries) }
+    ensures { IfOk result (λ r. r.0.items ++ r.1 ≡ output_text plan.now line.now.journal.entries) }
 {
-    let registers = print_registers(rt, alloc, plan, line.ended.registers.as_slice())?;
     let merged = line.merged(alloc, plan)?;
-    print_whole(rt, alloc, plan, &merged, registers)
+    let registers = print_registers(rt, alloc, plan, line.ended.registers.as_slice());
+    let printed = match registers {
+        Ok(registers) => print_whole(rt, alloc, plan, &merged, registers),
+        Err(NoMemory) => Err(NoMemory),
+    };
+    drop(merged);
+    printed
 }

@@ -1,7 +1,7 @@
 //! The registers of a line as they are printed.
 
 ghost use Rattle.std.specs.Prelude.{◌≡◌, ◌-◌, ◌^◌, [], ◌∷◌, ◌++◌, IfOk, OnOk, length, map, min};
-ghost use Rattle.std.specs.List.{sum_by};
+ghost use Rattle.std.specs.List.{flat_map, sum_by};
 ghost use Rattle.line_runs.specs.Copying.{behind_line};
 ghost use Rattle.line_runs.specs.Outputs.{AreInOrder};
 
@@ -30,6 +30,17 @@ fn room_of(texts: &[Vec<u8>]) -> usize
         room = room.saturating_add(text.len());
     }
     room
+}
+
+// Puts these texts one after another behind a text.
+#[tactic(auto, using(rail_text::proofs::Texts::texts))]
+fn put_texts(out: &mut Vec<u8>, texts: &[Vec<u8>]) -> Result<(), AllocError>
+    ensures { OnOk result (out.new.items ≡ out.old.items ++ flat_map (λ text. text.items) texts.now) }
+{
+    for text in texts {
+        out.extend_from_slice(text)?;
+    }
+    Ok(())
 }
 
 /// Registers as they are printed, each a text of its own. Contracts see the list of these texts.
@@ -99,10 +110,11 @@ impl PrintedRegisters {
         told_lines_of(alloc, &self.texts)
     }
 
-    /// Their texts in order.
-    pub(crate) fn into_texts(self) -> Vec<Vec<u8>>
-        ensures { map (λ text. text.items) result.items ≡ self }
+    /// Puts them one after another behind a text.
+    #[tactic(auto, using(crate::proofs::Printed::flat_texts))]
+    pub(crate) fn put(&self, out: &mut Vec<u8>) -> Result<(), AllocError>
+        ensures { OnOk result (out.new.items ≡ out.old.items ++ flat_map (λ text. text) self.now) }
     {
-        self.texts
+        put_texts(out, &self.texts)
     }
 }

@@ -1,36 +1,87 @@
 //! The output of a run, made whole before any of it is put.
 
-ghost use Rattle.std.specs.Prelude.{◌≡◌, ◌∷◌, ℕ, List, IfOk, IsErrOf};
+ghost use Rattle.std.specs.Prelude.{◌≡◌, ◌∷◌, ◌++◌, ℕ, List, IfOk, IsErrOf};
 ghost use Rattle.text_fetch.specs.FromTexts.{HasShelfFault, named};
 ghost use Rattle.text_fetch.specs.Runs.{AreScriptsOf, run_told, run_told_before};
 ghost use Rattle.line_runs.specs.Outputs.{IsOutputOf, MakesText};
+ghost use Rattle.line_runs.specs.Worked.{AreWorked};
 
-use crate::output::Output;
 use crate::printing::{merged_and_printed, print_whole};
+use crate::rest::{OutputRest, whole_text};
 use crate::worked::work_scripts;
+use line_plan::Plan;
 use line_working::Gate;
 use rail_text::{NoMemory, Shelf};
+use script_text::Script;
 use std::alloc::Global;
 use std::sync::Wait;
 use std::thread::Threads;
 use text_fetch::{Inputs, Stop, fetch_inputs};
+use train_register::Ended;
 
-// The whole output of a plan and its scripts. The scripts aren't kept while the journal is printed.
+// What is printed of a line whose scripts were worked, up to the lines of its journal's front half, and the rest. The
+// scripts aren't kept while the journal is printed.
+fn print_ended<R: Threads + Sync>(
+    rt: &R,
+    alloc: Global,
+    plan: &Plan,
+    scripts: Vec<Script>,
+    ended: &Ended,
+) -> Result<(Vec<u8>, OutputRest), NoMemory>
+    requires scripts { AreScriptsOf plan.now scripts.items }
+    requires worked { AreWorked plan.now scripts.items ended.now.registers }
+    ensures { IfOk result
+        (λ r. IsOutputOf (record { plan = plan.now; scripts = scripts.items }) (r.0.items ++ r.1)) }
+{
+    let merged = merged_and_printed(rt, alloc, plan, &scripts, ended);
+    drop(scripts);
+    let (merged, registers) = merged?;
+    let printed = print_whole(rt, alloc, plan, &merged, registers);
+    drop(merged);
+    printed
+}
+
+// What is printed of a plan and its scripts, in the same two.
+fn print_run<R: Threads + Wait + Sync, G: Gate>(
+    rt: &R,
+    alloc: Global,
+    plan: &Plan,
+    scripts: Vec<Script>,
+    gate: &G,
+) -> Result<(Vec<u8>, OutputRest), NoMemory>
+    requires { AreScriptsOf plan.now scripts.items }
+    ensures { IfOk result
+        (λ r. IsOutputOf (record { plan = plan.now; scripts = scripts.items }) (r.0.items ++ r.1)) }
+{
+    match work_scripts(rt, alloc, plan, &scripts, gate) {
+        Ok(ended) => {
+            let printed = print_ended(rt, alloc, plan, scripts, &ended);
+            drop(ended);
+            printed
+        }
+        Err(NoMemory) => {
+            drop(scripts);
+            Err(NoMemory)
+        }
+    }
+}
+
+// The whole output of a plan and its scripts, which is made one text when nothing else of the line is kept.
 fn run_output<R: Threads + Wait + Sync, G: Gate>(
     rt: &R,
     alloc: Global,
     inputs: Inputs,
     gate: &G,
-) -> Result<Output, NoMemory>
+) -> Result<Vec<u8>, NoMemory>
     requires { AreScriptsOf inputs.plan inputs.scripts.items }
     ensures { IfOk result
-        (λ output. IsOutputOf (record { plan = inputs.plan; scripts = inputs.scripts.items }) output) }
+        (λ text. IsOutputOf (record { plan = inputs.plan; scripts = inputs.scripts.items }) text.items) }
 {
     let Inputs { plan, scripts } = inputs;
-    let ended = work_scripts(rt, alloc, &plan, &scripts, gate)?;
-    let (merged, registers) = merged_and_printed(rt, alloc, &plan, &scripts, &ended)?;
-    drop(scripts);
-    print_whole(rt, alloc, &plan, &merged, registers)
+    let printed = print_run(rt, alloc, &plan, scripts, gate);
+    drop(plan);
+    let (front, rest) = printed?;
+    Ok(whole_text(front, rest, &[])?)
 }
 
 /// The output of the run of the named texts, each script worked by its own signalman on a thread of his own; or why
@@ -42,8 +93,8 @@ pub fn run_outcome<R: Threads + Wait + Sync, S: Shelf, G: Gate>(
     plan_name: &str,
     script_names: &[&str],
     gate: &G,
-) -> Result<Output, Stop>
-    ensures told { MakesText IsOutputOf (λ output. output) result
+) -> Result<Vec<u8>, Stop>
+    ensures told { MakesText IsOutputOf (λ text. text.items) result
         (run_told (S.held shelf.old) plan_name.now (named script_names.now)) }
     ensures fault { IsErrOf result Stop.ShelfFault
         → HasShelfFault (S.faults shelf.old) (S.faults shelf.new) (plan_name.now ∷ named script_names.now)
@@ -52,7 +103,7 @@ pub fn run_outcome<R: Threads + Wait + Sync, S: Shelf, G: Gate>(
 {
     let inputs = fetch_inputs(rt, alloc, shelf, plan_name, script_names)?;
     match run_output(rt, alloc, inputs, gate) {
-        Ok(output) => Ok(output),
+        Ok(text) => Ok(text),
         Err(NoMemory) => Err(Stop::NoMemory),
     }
 }

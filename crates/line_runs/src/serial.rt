@@ -4,7 +4,7 @@ ghost use Rattle.std.specs.Prelude.{◌≡◌, ◌+◌, ◌<◌, ◌^◌, Some, 
 ghost use Rattle.line_law.specs.Lines.{IsLineOf};
 ghost use Rattle.line_law.specs.Serial.{AreLeft, calls_left, count_left, next_box, serial_journal};
 ghost use Rattle.line_runs.specs.Looks.{look_of};
-ghost use Rattle.line_runs.specs.Rosters.{calls_of_scripts};
+ghost use Rattle.line_runs.specs.Rosters.{AreFewCalls, calls_of_scripts};
 ghost use Rattle.line_runs.specs.Serial.{Turns, rest_of};
 ghost use Rattle.text_fetch.specs.Runs.{AreScriptsOf};
 
@@ -105,6 +105,27 @@ fn worked_entries<G: Gate>(
     Ok(entries)
 }
 
+// The entries of all calls of these scripts, made on a line that is open.
+fn script_entries<G: Gate>(
+    alloc: Global,
+    plain: &mut Plain,
+    plan: &Plan,
+    scripts: &[Script],
+    gate: &G,
+) -> Result<Vec<Entry>, AllocError>
+    requires few { AreFewCalls scripts.now }
+    requires line { IsLineOf plan.now plain.old }
+    requires left { AreLeft plan.now plain.old.line (calls_of_scripts scripts.now) }
+    requires count { plain.old.calls + count_left (calls_of_scripts scripts.now) < 2 ^ 32 }
+    ensures { IfOk result
+        (λ entries. entries.items ≡ rest_of plan.now plain.old.line (calls_of_scripts scripts.now)) }
+{
+    let mut roster = Roster::new(alloc, scripts)?;
+    let entries = worked_entries(alloc, plain, plan, &mut roster, gate);
+    drop(roster);
+    entries
+}
+
 /// Works the scripts of all boxes on one thread. At each point the lowest box makes its next call that has one left and
 /// isn't stopped at an await that the line doesn't satisfy; where all are stopped, the lowest makes its await.
 pub fn work_serially<G: Gate>(
@@ -118,8 +139,9 @@ pub fn work_serially<G: Gate>(
 {
     plan.meets_conditions();
     let mut plain = Plain::open(alloc, plan)?;
-    let mut roster = Roster::new(alloc, scripts)?;
-    let entries = worked_entries(alloc, &mut plain, plan, &mut roster, gate)?;
+    let entries = script_entries(alloc, &mut plain, plan, scripts, gate);
+    drop(plain);
+    let entries = entries?;
     Ok(Journal {
         entries: Items::from_vec(entries),
     })

@@ -1,15 +1,17 @@
 //! The summary of the made line, built whole.
 
-ghost use Rattle.std.specs.Prelude.{◌≡◌, ◌≤◌, ◌++◌, All, IfOk, IsErrOf, OnOk, length, string_bytes};
+ghost use Rattle.std.specs.Prelude.{◌≡◌, ◌≤◌, ◌+◌, ◌++◌, List, All, IfOk, IsErrOf, OnOk, length, string_bytes};
+ghost use Rattle.line_law.specs.declared.call.Entry.{Entry};
 ghost use Rattle.line_law.specs.History.{IsLegal};
 ghost use Rattle.line_report.specs.Asked.{AreFewEntries};
 ghost use Rattle.script_text.specs.Entries.{IsSpelled};
 ghost use Rattle.text_fetch.specs.FromTexts.{Gives};
 ghost use Rattle.train_register.specs.Registers.{AreParts};
+ghost use Rattle.line_runs.specs.Counting.{AreCounts};
 ghost use Rattle.line_runs.specs.Made.{IsMade, IsSummaryOf, count_line, counts_text, summary_text};
 ghost use Rattle.line_runs.specs.Outputs.{MakesText};
 
-use crate::counting::count_along;
+use crate::counting::{Counts, count_along};
 use crate::worked::{WorkedLine, worked_line};
 use line_journal::Merged;
 use line_maker::{MakeError, make_line};
@@ -50,6 +52,23 @@ fn put_counts(
     put_count(out, "refused", refused)
 }
 
+// Puts the summary of so many calls of the made line behind a text, by what was counted along them.
+fn put_told(
+    out: &mut String,
+    alloc: Global,
+    trains: u32,
+    plan: &Plan,
+    calls: usize,
+    counts: &Counts,
+) -> Result<(), NoMemory>
+    requires { length counts.now.trains.items + 1 ≡ length plan.now.boxes }
+    ensures { (es : List Entry) → AreCounts plan.now es counts.now.refused counts.now.trains.items → calls ≡ length es
+        → OnOk result (string_bytes out.new ≡ string_bytes out.old ++ summary_text trains plan.now es) }
+{
+    put_counts(out, trains, plan, calls, counts.refused)?;
+    put_sections(out, alloc, plan, &counts.trains)
+}
+
 // Puts the summary of a journal of the made line behind a text.
 fn put_summary(
     out: &mut String,
@@ -63,8 +82,9 @@ fn put_summary(
     ensures { OnOk result (string_bytes out.new ≡ string_bytes out.old ++ summary_text trains plan.now merged.now) }
 {
     let counts = count_along(alloc, plan, merged)?;
-    put_counts(out, trains, plan, merged.len(), counts.refused)?;
-    put_sections(out, alloc, plan, &counts.trains)
+    let put = put_told(out, alloc, trains, plan, merged.len(), &counts);
+    drop(counts);
+    put
 }
 
 // The summary of a journal of the made line.
@@ -82,7 +102,9 @@ fn line_summary(
 {
     let merged = line.merged(alloc, plan)?;
     let mut out = String::new(alloc);
-    put_summary(&mut out, alloc, trains, plan, &merged)?;
+    let put = put_summary(&mut out, alloc, trains, plan, &merged);
+    drop(merged);
+    put?;
     Ok(out.into_bytes())
 }
 

@@ -59,6 +59,43 @@ fn watch_and_close<R: Threads + Wait + Sync, G: Gate>(
     closed_line(alloc, line, men)
 }
 
+// The registers of an open line that is watched for so many rounds while its men work their scripts, and the board.
+fn ended_and_board<R: Threads + Wait + Sync, G: Gate>(
+    rt: &R,
+    alloc: Global,
+    plan: &Plan,
+    scripts: &[Script],
+    rounds: u32,
+    line: Line,
+    men: Vec<Signalman>,
+    gate: &G,
+) -> Result<(Ended, Board), NoMemory>
+    requires scripts { AreScriptsOf plan.now scripts.now }
+    requires rounds { (1 ≤ rounds) × (rounds ≤ 1000) }
+    requires line { line.table.shared.key ≡ plan.now }
+    requires men { AreFresh line.table.shared.table_id plan.now (lengths_of scripts.now) men.items }
+    ensures worked { IfOk result (λ r. AreWorked plan.now scripts.now r.0.registers) }
+    ensures filled { IfOk result (λ r. IsFilled plan.now rounds r.1) }
+    ensures shown { IfOk result (λ r. AreRoundsOf plan.now r.0.registers r.1.rounds) }
+{
+    match Board::new(alloc, plan, rounds) {
+        Ok(mut board) => {
+            match watch_and_close(rt, alloc, plan, scripts, line, men, gate, &mut board) {
+                Ok(ended) => Ok((ended, board)),
+                Err(NoMemory) => {
+                    drop(board);
+                    Err(NoMemory)
+                }
+            }
+        }
+        Err(NoMemory) => {
+            drop(line);
+            drop(men);
+            Err(NoMemory)
+        }
+    }
+}
+
 // A line that is opened and has its men, watched for so many rounds while they work their scripts.
 fn watched_by_men<R: Threads + Wait + Sync, G: Gate>(
     rt: &R,
@@ -80,10 +117,14 @@ fn watched_by_men<R: Threads + Wait + Sync, G: Gate>(
     ensures shown { IfOk result
         (λ watched. IsBoardOf plan.now watched.worked.journal.entries watched.board.rounds) }
 {
-    let mut board = Board::new(alloc, plan, rounds)?;
-    let ended = watch_and_close(rt, alloc, plan, scripts, line, men, gate, &mut board)?;
-    let worked = merged_line(alloc, plan, scripts, ended)?;
-    Ok(WatchedLine { worked, board })
+    let (ended, board) = ended_and_board(rt, alloc, plan, scripts, rounds, line, men, gate)?;
+    match merged_line(alloc, plan, scripts, ended) {
+        Ok(worked) => Ok(WatchedLine { worked, board }),
+        Err(NoMemory) => {
+            drop(board);
+            Err(NoMemory)
+        }
+    }
 }
 
 // A line whose scripts are worked on this thread, where the post of a box was taken: each round shows how its
@@ -105,8 +146,13 @@ fn watched_alone<G: Gate>(
 {
     let ended = work_alone(alloc, plan, scripts, gate)?;
     let worked = merged_line(alloc, plan, scripts, ended)?;
-    let board = Board::of_journal(alloc, plan, rounds, &worked.journal)?;
-    Ok(WatchedLine { worked, board })
+    match Board::of_journal(alloc, plan, rounds, &worked.journal) {
+        Ok(board) => Ok(WatchedLine { worked, board }),
+        Err(NoMemory) => {
+            drop(worked);
+            Err(NoMemory)
+        }
+    }
 }
 
 /// Works the scripts of a plan's boxes as [`worked_line`](crate::worked_line) does, while an observer watches the
@@ -129,7 +175,9 @@ pub fn watched_line<R: Threads + Wait + Sync, G: Gate>(
         (λ watched. IsBoardOf plan.now watched.worked.journal.entries watched.board.rounds) }
 {
     let lengths = lengths_of(alloc, scripts)?;
-    match open_line(alloc, plan, &lengths) {
+    let opened = open_line(alloc, plan, &lengths);
+    drop(lengths);
+    match opened {
         Ok((line, men)) => watched_by_men(rt, alloc, plan, scripts, rounds, line, men, gate),
         Err(OpenError::PostTaken { .. }) => watched_alone(alloc, plan, scripts, rounds, gate),
         Err(OpenError::NoMemory) => Err(NoMemory),

@@ -101,7 +101,9 @@ fn work_by_men<R: Threads + Wait + Sync, G: Gate>(
     ensures taken { IfErr result (WasTaken plan.now) }
 {
     let lengths = lengths_of(alloc, scripts)?;
-    let (line, men) = open_line(alloc, plan, &lengths)?;
+    let opened = open_line(alloc, plan, &lengths);
+    drop(lengths);
+    let (line, men) = opened?;
     Ok(work_and_close(rt, alloc, plan, scripts, line, men, gate)?)
 }
 

@@ -4,8 +4,8 @@ use Rattle.line_runs.specs.Copying.{AreLinesLeft, behind_line}
 use Rattle.line_runs.proofs.Copied.{all_left}
 use Rattle.line_runs.proofs.printing.copy_behind.Goals as goal
 
-pub copy_from-requires-clause-left : goal.copy_from-requires-clause-left
-copy_from-requires-clause-left c =
+pub copy_from-copied-requires-clause-left : goal.copy_from-copied-requires-clause-left
+copy_from-copied-requires-clause-left c =
     let plan = c.args.plan.now in
     let lines = map behind_line c.args.registers.now in
     let left : AreLinesLeft plan c.args.merged.now lines =

@@ -5,8 +5,8 @@ use Rattle.line_runs.specs.Copying.{AreLinesLeft, behind_line}
 use Rattle.line_runs.proofs.Copied.{all_left, left_in_front}
 use Rattle.line_runs.proofs.printing.copy_front.Goals as goal
 
-pub copy_from-requires-clause-left : goal.copy_from-requires-clause-left
-copy_from-requires-clause-left c =
+pub copy_behind_heading-copied-requires-clause-left : goal.copy_behind_heading-copied-requires-clause-left
+copy_behind_heading-copied-requires-clause-left c =
     let plan = c.args.plan.now in
     let es = c.args.merged.now in
     let half = c.args.half in

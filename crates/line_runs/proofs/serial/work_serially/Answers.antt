@@ -4,21 +4,21 @@ use Rattle.line_law.proofs.SerialLaws.{left_opens}
 use Rattle.line_runs.proofs.SerialTurns.{scripts_few, scripts_are, calls_few, begins}
 use Rattle.line_runs.proofs.serial.work_serially.Goals as goal
 
-pub new-requires : goal.new-requires
-new-requires g c = scripts_few c.args.plan.now c.args.scripts.now c.requires
+pub script_entries-entries-requires-clause-few : goal.script_entries-entries-requires-clause-few
+script_entries-entries-requires-clause-few g c κs within = scripts_few c.args.plan.now c.args.scripts.now c.requires
 
-pub worked_entries-requires-clause-left : goal.worked_entries-requires-clause-left
-worked_entries-requires-clause-left g c κs within =
-    rw (c.in_ok-plain.ensures.opening, c.in_ok-roster.ensures)
+pub script_entries-entries-requires-clause-left : goal.script_entries-entries-requires-clause-left
+script_entries-entries-requires-clause-left g c κs within =
+    rw c.in_ok-plain.ensures.opening
     (left_opens c.args.plan.now _ (scripts_are c.args.plan.now c.args.scripts.now c.requires))
 
-pub worked_entries-requires-clause-few : goal.worked_entries-requires-clause-few
-worked_entries-requires-clause-few g c κs within =
+pub script_entries-entries-requires-clause-count : goal.script_entries-entries-requires-clause-count
+script_entries-entries-requires-clause-count g c κs within =
     let is : IsPlan c.args.plan.now = c.meets_conditions.ensures in
     let few = calls_few c.args.plan.now c.args.scripts.now is c.requires in
-    rw (c.in_ok-plain.ensures.opening, c.in_ok-roster.ensures) (omega arith)
+    rw c.in_ok-plain.ensures.opening (omega arith)
 
 pub returns : goal.returns
 returns g c =
     c.from_vec.ensures ∙ c.in_ok-entries.ensures
-    ∙ rw (c.in_ok-plain.ensures.opening, c.in_ok-roster.ensures) (begins c.args.plan.now _)
+    ∙ rw c.in_ok-plain.ensures.opening (begins c.args.plan.now _)

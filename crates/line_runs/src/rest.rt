@@ -1,0 +1,87 @@
+//! What stands in the output of a run behind the lines of its journal's front half, until it is one text with them.
+
+ghost use Rattle.std.specs.Prelude.{◌≡◌, ◌-◌, ◌^◌, ◌++◌, IfOk, OnOk, length, min};
+
+use crate::registers::PrintedRegisters;
+use std::alloc::AllocError;
+use std::marker::Model;
+
+// The journal's last line.
+const END: &[u8] = b"end\n";
+
+/// What is printed of a run behind the lines of its journal's front half. Contracts see its text.
+#[derive(Drop)]
+pub(crate) struct OutputRest {
+    /// The lines of the other entries.
+    pub(crate) journal: Vec<u8>,
+    /// The registers.
+    pub(crate) registers: PrintedRegisters,
+    /// What stands before the lines of the refused calls.
+    pub(crate) heading: Vec<u8>,
+    /// The refused calls of the front half.
+    pub(crate) refused_front: Vec<u8>,
+    /// The other refused calls.
+    pub(crate) refused_behind: Vec<u8>,
+    /// The most trains of the sections.
+    pub(crate) sections: Vec<u8>,
+}
+
+impl Model for OutputRest {
+    ghost use Rattle.std.specs.Prelude.{ℕ, List};
+    ghost use Rattle.line_runs.specs.Outputs.{rest_text};
+
+    ghost Value = { List ℕ };
+
+    ghost view = { λ rest. rest_text rest.journal.items rest.registers rest.heading.items
+        rest.refused_front.items rest.refused_behind.items rest.sections.items };
+}
+
+impl OutputRest {
+    // How many bytes it has, as far as a number can tell it.
+    fn room(&self) -> usize
+        ensures { result ≡ min (length self.now) (2 ^ 64 - 1) }
+    {
+        let registers = self.registers.room();
+        let journal = registers.saturating_add(self.journal.len());
+        let end = journal.saturating_add(END.len());
+        let heading = end.saturating_add(self.heading.len());
+        let front = heading.saturating_add(self.refused_front.len());
+        let refused = front.saturating_add(self.refused_behind.len());
+        refused.saturating_add(self.sections.len())
+    }
+
+    // Puts it and another text behind a text, which gets room for both at once.
+    fn put(&self, out: &mut Vec<u8>, behind: &[u8]) -> Result<(), AllocError>
+        ensures { OnOk result (out.new.items ≡ out.old.items ++ self.now ++ behind.now) }
+    {
+        out.reserve_exact(self.room().saturating_add(behind.len()))?;
+        out.extend_from_slice(&self.journal)?;
+        out.extend_from_slice(END)?;
+        self.registers.put(out)?;
+        out.extend_from_slice(&self.heading)?;
+        out.extend_from_slice(&self.refused_front)?;
+        out.extend_from_slice(&self.refused_behind)?;
+        out.extend_from_slice(&self.sections)?;
+        out.extend_from_slice(behind)
+    }
+}
+
+/// The front of an output, the rest of it, and a text behind them, as one text. What is asked for is room for the whole.
+pub(crate) fn whole_text(
+    front: Vec<u8>,
+    rest: OutputRest,
+    behind: &[u8],
+) -> Result<Vec<u8>, AllocError>
+    ensures { IfOk result (λ text. text.items ≡ front.items ++ rest ++ behind.now) }
+{
+    let mut text = front;
+    let put = rest.put(&mut text, behind);
+    drop(rest);
+    match put {
+        Ok(()) => Ok(text),
+        Err(error) => {
+            drop(text);
+            Err(error)
+        }
+    }
+}
