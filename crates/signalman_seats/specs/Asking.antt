@@ -46,7 +46,7 @@ pub record Waited (plan : PlanFields) (call : Call) (v : View) (looks : ℕ) (w 
   pub watched : Watched plan v looks w
   pub in_vain : InVain plan (caller_of v.posts) call (look_word plan v call) looks v.seen w.seen
 
--- the call has taken so many looks at most, and all of them, each in vain, where an await has not met what it looked for
+-- the call has taken so many looks at most, and all of them, in vain, where an await has not met what it looked for
 abbrev pub Looked : PlanFields → Call → ℕ → View → ℕ → View → Type 0
 Looked plan call looks v n w =
     (l : ℕ) × (w.looks ≡ v.looks + l) × (l ≤ looks)

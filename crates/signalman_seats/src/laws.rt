@@ -28,11 +28,11 @@ ghost use Rattle.signalman_seats.specs.Refusals.{IsRefusedAfter, IsRefusedBy, wo
 /// part of the box, whatever the others did in it. So it is the one that the law gives after what he had seen before
 /// the call.
 ///
-/// So a man who has performed a call that came to its word knows the cause of its refusal: what the word read at the one
-/// step at which the call was decided.
+/// So a man who has performed a call that came to its word knows the cause of its refusal: what the word read at the
+/// one step at which the call was decided.
 ///
 /// Where an await was told that it isn't satisfied yet, he took exactly the looks that he was given, none of them a
-/// glance; and at each of them the word of the call refused it, as that word was after a history which he had then seen.
+/// glance; and at each of them the word of the call refused it, as it read after a legal history that he had then seen.
 #[tactic(auto, using(crate::proofs::Refusing::refused_at_word, crate::proofs::Refusing::refused_in_box))]
 pub fn refusal_law()
     ensures word { (plan : PlanFields) (es : List Entry) (e : Entry) → IsPlan plan → IsLegal plan (es ++ e ∷ [])

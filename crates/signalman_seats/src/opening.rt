@@ -132,8 +132,8 @@ fn seat_men(
 ///
 /// `PostTaken` where a draw of this call found another number of posts drawn than the number of its box; the line is
 /// then given up. The post that drew comes with the two numbers: its last draw found the second. They differ, the first
-/// is a box of the line, and the second is no greater than the number of boxes. That a line which opens loses no draw is
-/// tested alone.
+/// is a box of the line, and the second is no greater than the number of boxes. That a line which opens loses no draw
+/// is tested alone.
 /// `NoMemory` where memory runs out.
 pub fn open_line(
     alloc: Global,
