@@ -32,7 +32,7 @@ use Rattle.line_working.specs.Working.{CanWork, DidWork}
 use Rattle.line_working.proofs.FreshMen.{fresh_works}
 use Rattle.text_fetch.specs.Runs.{AreScriptsOf, Run}
 use Rattle.line_runs.specs.Rosters.{calls_of_scripts}
-use Rattle.line_runs.specs.Worked.{ArePullsTold, AreWorked, HasCallsOf, HoldsFew, IsJournalOf}
+use Rattle.line_runs.specs.Worked.{AreOfMen, ArePullsTold, AreWorked, HasCallsOf, HaveWorked, HoldsFew, IsJournalOf}
 use Rattle.line_runs.specs.Worked.{IsWorkedLine, lengths_of}
 use Rattle.line_runs.proofs.SerialTurns.{boxes_few, entries_few, scripts_are, scripts_few}
 
@@ -132,13 +132,6 @@ can_work_lent table_id plan key scripts men lent of same own fresh b d e lt =
     subst (λ (p : PlanFields). CanWork table_id p (get_or scripts b e) (get_or lent b d)) (sym of)
     (subst (λ (ms : List Man). CanWork table_id plan (get_or scripts b e) (get_or ms b d)) (sym same)
     (can_work table_id plan scripts men own fresh b d e (subst (λ (ms : List Man). b < length ms) same lt)))
-
--- each of these men has worked his script
-pub record HaveWorked (table_id : TableId) (plan : PlanFields) (scripts : List Script) (looks : ℕ)
-    (before after : List Man) : Type 0 where
-  pub each : length after ≡ length before
-  pub worked : (b : ℕ) (d : Man) (e : Script) → b < length before
-      → DidWork table_id plan (get_or scripts b e) looks (get_or before b d) (get_or after b d)
 
 -- what the men of a line have worked, by the plan of which they are
 pub have_worked : (table_id : TableId) (plan key : PlanFields) (scripts : List Script) (looks : ℕ)
@@ -250,6 +243,21 @@ men_done table_id plan key scripts looks n before lent after of same len own fre
           (subst (λ (p : PlanFields). AreMen table_id p after) (sym of)
           (are_men table_id plan scripts looks before after own fresh have));
     }
+
+-- the registers of a line that its men have closed are theirs
+pub of_men : (table_id : TableId) (plan key : PlanFields) (scripts : List Script) (looks : ℕ)
+    (before after written : List Man) (registers : List RegisterFields) → key ≡ plan → looks ≡ plan.looks
+    → AreFresh table_id plan (lengths_of scripts) before → AreDone table_id plan key scripts looks before after written
+    → Closed key written registers → AreOfMen plan scripts registers
+of_men table_id plan key scripts looks before after written registers of same fresh done closed = record {
+  table_id = table_id;
+  before = before;
+  after = after;
+  fresh = fresh;
+  worked = subst (λ (n : ℕ). HaveWorked table_id plan scripts n before after) same done.have;
+  closed = subst (λ (men : List Man). Closed plan men registers) done.back
+      (subst (λ (p : PlanFields). Closed p written registers) of closed);
+}
 
 pub done_worked : (table_id : TableId) (plan key : PlanFields) (scripts : List Script) (looks : ℕ)
     (before after written : List Man) (registers : List RegisterFields) → IsPlan plan → key ≡ plan

@@ -1,5 +1,6 @@
 -- A line that is worked by its scripts, and the journal that comes of it.
-use Rattle.std.specs.Prelude.{◌≡◌, ◌≤◌, ℕ, List, ◌∷◌, ◌++◌, All, Ok, length, map}
+use Rattle.std.specs.Prelude.{◌≡◌, ◌≤◌, ◌<◌, ◌⊎◌, ℕ, List, ◌∷◌, ◌++◌, All, Ok, length, map, slice_index_or}
+use Rattle.atomic_table.specs.Seated.{TableId}
 use Rattle.line_plan.specs.Plans.{PlanFields}
 use Rattle.line_plan.specs.Sections.{IsSection, limit_of}
 use Rattle.line_plan.specs.declared.section.Section.{Section}
@@ -7,7 +8,7 @@ use Rattle.line_law.specs.declared.call.Act.TheVariants.{Pull}
 use Rattle.line_law.specs.declared.call.Entry.{Entry}
 use Rattle.line_law.specs.History.{IsLegal, calls_of, state_of}
 use Rattle.line_law.specs.Sections.{IsClean, held_by}
-use Rattle.line_law.specs.Serial.{calls_left}
+use Rattle.line_law.specs.Serial.{calls_left, serial_journal}
 use Rattle.line_journal.specs.Order.{IsInOrder}
 use Rattle.line_report.specs.Asked.{AreFewEntries}
 use Rattle.line_report.specs.Journals.{journal_text}
@@ -16,6 +17,9 @@ use Rattle.line_report.specs.Verdicts.{verdict_of}
 use Rattle.line_report.specs.declared.judging.Verdict.TheVariants.{Legal}
 use Rattle.script_text.specs.Entries.{IsSpelled}
 use Rattle.script_text.specs.declared.script.Script.{Script}
+use Rattle.signalman_seats.specs.Lines.{AreFresh, Closed}
+use Rattle.signalman_seats.specs.Men.{Man}
+use Rattle.line_working.specs.Working.{DidWork}
 use Rattle.text_fetch.specs.Runs.{Run}
 use Rattle.train_laws.specs.MayPull.{IsPullTold}
 use Rattle.train_register.specs.Registers.{AreParts, IsPrintable, RegisterFields, register_text}
@@ -37,6 +41,28 @@ pub record AreWorked (plan : PlanFields) (scripts : List Script) (registers : Li
   pub parts : AreParts plan history registers
   pub calls : HasCallsOf scripts history
   pub few : AreFewEntries history
+
+-- each of these men has worked his script, with so many looks at most for an await
+pub record HaveWorked (table_id : TableId) (plan : PlanFields) (scripts : List Script) (looks : ℕ)
+    (before after : List Man) : Type 0 where
+  pub each : length after ≡ length before
+  pub worked : (b : ℕ) (d : Man) (e : Script) → b < length before
+      → DidWork table_id plan (slice_index_or scripts b e) looks (slice_index_or before b d) (slice_index_or after b d)
+
+-- The scripts were worked by the men of a line. It opened with a man at each box, who had seen and done nothing; each
+-- worked his script with the looks of the plan; and they closed the line, which gave these registers.
+pub record AreOfMen (plan : PlanFields) (scripts : List Script) (registers : List RegisterFields) : Type 0 where
+  pub table_id : TableId
+  pub before : List Man
+  pub after : List Man
+  pub fresh : AreFresh table_id plan (lengths_of scripts) before
+  pub worked : HaveWorked table_id plan scripts plan.looks before after
+  pub closed : Closed plan after registers
+
+-- by the men of a line; or where the post of a box was lost as the line opened, one call at a time in the serial order
+abbrev pub AreOfMenOrSerial : PlanFields → List Script → List RegisterFields → Type 0
+AreOfMenOrSerial plan scripts registers =
+    AreOfMen plan scripts registers ⊎ AreParts plan (serial_journal plan (calls_of_scripts scripts)) registers
 
 -- after each prefix of a journal that is clean for a section, the section holds no more trains than it may
 abbrev pub HoldsFew : PlanFields → List Entry → Type 0

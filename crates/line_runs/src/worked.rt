@@ -4,9 +4,11 @@ ghost use Rattle.std.specs.Prelude.{◌≡◌, All, IfErr, IfOk};
 ghost use Rattle.line_report.specs.Asked.{AreFewEntries};
 ghost use Rattle.script_text.specs.Entries.{IsSpelled};
 ghost use Rattle.signalman_seats.specs.Lines.{AreFresh, AreMen, Closed, WasTaken};
+ghost use Rattle.line_law.specs.Serial.{serial_journal};
 ghost use Rattle.text_fetch.specs.Runs.{AreScriptsOf};
 ghost use Rattle.train_register.specs.Registers.{AreParts, IsPrintable};
-ghost use Rattle.line_runs.specs.Worked.{AreWorked, IsJournalOf, IsWorkedLine, lengths_of};
+ghost use Rattle.line_runs.specs.Rosters.{calls_of_scripts};
+ghost use Rattle.line_runs.specs.Worked.{AreOfMen, AreOfMenOrSerial, AreWorked, IsJournalOf, IsWorkedLine, lengths_of};
 
 use crate::serial::work_serially;
 use instrument_rule::Line;
@@ -81,7 +83,8 @@ fn work_and_close<R: Threads + Wait + Sync, G: Gate>(
     requires scripts { AreScriptsOf plan.now scripts.now }
     requires line { line.table.shared.key ≡ plan.now }
     requires men { AreFresh line.table.shared.table_id plan.now (lengths_of scripts.now) men.items }
-    ensures { IfOk result (λ ended. AreWorked plan.now scripts.now ended.registers) }
+    ensures worked { IfOk result (λ ended. AreWorked plan.now scripts.now ended.registers) }
+    ensures men { IfOk result (λ ended. AreOfMen plan.now scripts.now ended.registers) }
 {
     plan.meets_conditions();
     work_line(rt, alloc, &line, &mut men, scripts, plan.looks, gate);
@@ -98,6 +101,7 @@ fn work_by_men<R: Threads + Wait + Sync, G: Gate>(
 ) -> Result<Ended, OpenError>
     requires { AreScriptsOf plan.now scripts.now }
     ensures worked { IfOk result (λ ended. AreWorked plan.now scripts.now ended.registers) }
+    ensures men { IfOk result (λ ended. AreOfMen plan.now scripts.now ended.registers) }
     ensures taken { IfErr result (WasTaken plan.now) }
 {
     let lengths = lengths_of(alloc, scripts)?;
@@ -115,7 +119,9 @@ pub(crate) fn work_alone<G: Gate>(
     gate: &G,
 ) -> Result<Ended, NoMemory>
     requires { AreScriptsOf plan.now scripts.now }
-    ensures { IfOk result (λ ended. AreWorked plan.now scripts.now ended.registers) }
+    ensures worked { IfOk result (λ ended. AreWorked plan.now scripts.now ended.registers) }
+    ensures serial { IfOk result
+        (λ ended. AreParts plan.now (serial_journal plan.now (calls_of_scripts scripts.now)) ended.registers) }
 {
     plan.meets_conditions();
     let journal = work_serially(alloc, plan, scripts, gate)?;
@@ -133,7 +139,8 @@ pub(crate) fn work_scripts<R: Threads + Wait + Sync, G: Gate>(
     gate: &G,
 ) -> Result<Ended, NoMemory>
     requires { AreScriptsOf plan.now scripts.now }
-    ensures { IfOk result (λ ended. AreWorked plan.now scripts.now ended.registers) }
+    ensures worked { IfOk result (λ ended. AreWorked plan.now scripts.now ended.registers) }
+    ensures by_whom { IfOk result (λ ended. AreOfMenOrSerial plan.now scripts.now ended.registers) }
 {
     match work_by_men(rt, alloc, plan, scripts, gate) {
         Ok(ended) => Ok(ended),
@@ -199,7 +206,8 @@ pub(crate) fn merged_line(
 }
 
 /// Works the scripts of a plan's boxes, one for each in box order, and merges the registers into the journal. Each
-/// script is worked by its own signalman on a thread of his own, each call behind the gate.
+/// script is worked by its own signalman on a thread of his own, each call behind the gate, with the looks of the plan.
+/// Where the post of a box was lost as the line opened, they are worked in the serial order on this thread.
 pub fn worked_line<R: Threads + Wait + Sync, G: Gate>(
     rt: &R,
     alloc: Global,
@@ -214,6 +222,7 @@ pub fn worked_line<R: Threads + Wait + Sync, G: Gate>(
     ensures few { IfOk result (λ line. AreFewEntries line.journal.entries) }
     ensures spelled { IfOk result (λ line. All (IsSpelled plan.now) line.journal.entries) }
     ensures printable { IfOk result (λ line. All (IsPrintable plan.now) line.ended.registers) }
+    ensures by_whom { IfOk result (λ line. AreOfMenOrSerial plan.now scripts.now line.ended.registers) }
 {
     let ended = work_scripts(rt, alloc, plan, scripts, gate)?;
     merged_line(alloc, plan, scripts, ended)
