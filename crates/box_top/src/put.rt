@@ -5,7 +5,6 @@ ghost use Rattle.rail_text.specs.Causes.{Rose};
 ghost use Rattle.box_top.specs.Top.{PutOutcome, PutStop, PutText, refused_line};
 
 use crate::status::Status;
-use line_runs::Output;
 use rail_text::{Cause, Sink, SinkFault, cause_text, put_all};
 use std::alloc::{AllocError, Global};
 use text_fetch::Stop;
@@ -63,23 +62,6 @@ pub fn put_outcome<K: Sink>(alloc: Global, out: &mut K, outcome: Result<Vec<u8>,
 {
     match outcome {
         Ok(text) => put_text(out, &text, Status::Done),
-        Err(stop) => put_stop(alloc, out, stop),
-    }
-}
-
-/// Puts the output of a run in its parts, or the line of a refusal. Of a fault of the shelf or want of memory nothing
-/// is put.
-pub fn put_output<K: Sink>(alloc: Global, out: &mut K, outcome: Result<Output, Stop>) -> Status
-    ensures took { PutOutcome (λ output. output) outcome (K.taken out.old) (K.taken out.new) result }
-    ensures sink { result ≡ Status.SinkFault → Rose (K.faults out.old) (K.faults out.new) }
-    ensures not_fetched { result ≡ Status.ShelfFault → out.new ≡ out.old }
-    ensures no_memory { result ≡ Status.NoMemory → out.new ≡ out.old }
-{
-    match outcome {
-        Ok(output) => match output.put(out) {
-            Ok(()) => Status::Done,
-            Err(SinkFault::Failed) => Status::SinkFault,
-        },
         Err(stop) => put_stop(alloc, out, stop),
     }
 }

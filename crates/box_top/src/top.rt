@@ -9,7 +9,7 @@ ghost use Rattle.text_fetch.specs.FromTexts.{Held, named};
 ghost use Rattle.box_top.specs.Top.{Completes, Printed, ShelfCause};
 
 use crate::desk::serve_desk;
-use crate::put::{WORDS_LINE, put_outcome, put_output, put_text};
+use crate::put::{WORDS_LINE, put_outcome, put_text};
 use crate::status::Status;
 use command_words::{CommandLine, command_of};
 use line_runs::{run_outcome, stress_outcome, watch_outcome};
@@ -43,7 +43,7 @@ fn serve_run<R: Threads + Wait + Sync, S: Shelf, K: Sink, G: Gate>(
     ensures same { (n : List ℕ) → S.held shelf.new n ≡ S.held shelf.old n }
 {
     let outcome = run_outcome(rt, alloc, shelf, plan, scripts, gate);
-    put_output(alloc, out, outcome)
+    put_outcome(alloc, out, outcome)
 }
 
 // Runs the scripts of a plan in the same way, while an observer looks at the line's instruments in so many rounds.
@@ -73,7 +73,7 @@ fn serve_watch<R: Threads + Wait + Sync, S: Shelf, K: Sink, G: Gate>(
     ensures same { (n : List ℕ) → S.held shelf.new n ≡ S.held shelf.old n }
 {
     let outcome = watch_outcome(rt, alloc, shelf, rounds, plan, scripts, gate);
-    put_output(alloc, out, outcome)
+    put_outcome(alloc, out, outcome)
 }
 
 // Works the made line of so many trains, each script on a thread of its own.

@@ -9,12 +9,12 @@ use Rattle.box_top.proofs.top.serve_run.Goals as goal
 
 pub returns-clause-printed : goal.returns-clause-printed
 returns-clause-printed g c =
-    outcome_printed c.run_outcome-outcome.result (λ output. output) (g.S.Shelf.held c.args.shelf.now) _
+    outcome_printed c.run_outcome-outcome.result (λ text. text.items) (g.S.Shelf.held c.args.shelf.now) _
     (Command.Run c.args.plan.now (named c.args.scripts.now)) _ _ _ refl
-    (makes_print IsOutputOf OutputOf (λ run text h. h) c.run_outcome-outcome.result (λ output. output) _
-    c.run_outcome-outcome.ensures.told) c.put_output.ensures.took
+    (makes_print IsOutputOf OutputOf (λ run text h. h) c.run_outcome-outcome.result (λ text. text.items) _
+    c.run_outcome-outcome.ensures.told) c.put_outcome.ensures.took
 
 pub returns-clause-headline : goal.returns-clause-headline
 returns-clause-headline g c done told =
-    run_done c.run_outcome-outcome.result (λ output. output) (g.S.Shelf.held c.args.shelf.now) c.args.plan.now
-    (named c.args.scripts.now) _ _ _ c.run_outcome-outcome.ensures.told c.put_output.ensures.took done told
+    run_done c.run_outcome-outcome.result (λ text. text.items) (g.S.Shelf.held c.args.shelf.now) c.args.plan.now
+    (named c.args.scripts.now) _ _ _ c.run_outcome-outcome.ensures.told c.put_outcome.ensures.took done told

@@ -9,13 +9,13 @@ use Rattle.box_top.proofs.top.serve_watch.Goals as goal
 
 pub returns-clause-printed : goal.returns-clause-printed
 returns-clause-printed g c =
-    outcome_printed c.watch_outcome-outcome.result (λ output. output) (g.S.Shelf.held c.args.shelf.now) _
+    outcome_printed c.watch_outcome-outcome.result (λ text. text.items) (g.S.Shelf.held c.args.shelf.now) _
     (Command.Watch c.args.rounds c.args.plan.now (named c.args.scripts.now)) _ _ _ refl
     (makes_print (IsWatchOf c.args.rounds) (WatchOf c.args.rounds) (λ run text h. h) c.watch_outcome-outcome.result
-    (λ output. output) _ c.watch_outcome-outcome.ensures.told) c.put_output.ensures.took
+    (λ text. text.items) _ c.watch_outcome-outcome.ensures.told) c.put_outcome.ensures.took
 
 pub returns-clause-headline : goal.returns-clause-headline
 returns-clause-headline g c done told =
-    watch_done c.args.rounds c.watch_outcome-outcome.result (λ output. output) (g.S.Shelf.held c.args.shelf.now)
-    c.args.plan.now (named c.args.scripts.now) _ _ _ c.watch_outcome-outcome.ensures.told c.put_output.ensures.took
+    watch_done c.args.rounds c.watch_outcome-outcome.result (λ text. text.items) (g.S.Shelf.held c.args.shelf.now)
+    c.args.plan.now (named c.args.scripts.now) _ _ _ c.watch_outcome-outcome.ensures.told c.put_outcome.ensures.took
     done told
