@@ -165,15 +165,12 @@ fn failed_fetches_print_nothing(rt: HostRuntime) -> Result<(), Fail> {
     Ok(())
 }
 
-// The words, the texts, the status with a sound sink, what is printed, and how many bytes of it are taken before each
-// put, where the sink takes ten bytes at most at a time; then all of them. The output of a run is put in its parts: the
-// journal's first line, its lines, its end, each register, the refused calls, the sections, and the board.
+// The words, the texts, the status with a sound sink, and what is printed.
 type Output = (
     &'static [&'static str],
     &'static [&'static [u8]],
     Status,
     &'static [u8],
-    &'static [usize],
 );
 
 const OUTPUTS: [Output; 13] = [
@@ -182,7 +179,6 @@ const OUTPUTS: [Output; 13] = [
         &[TWO_BOXES, ASH_IDLE, BEECH_IDLE],
         Status::Done,
         IDLE,
-        &[0, 10, 14, 24, 29, 39, 46, 56, 57, 67, 77, 87, 97, 107, 115],
     ),
     (
         WATCH_TWO,
@@ -200,31 +196,24 @@ const OUTPUTS: [Output; 13] = [
             1 up Beech Ash 0 normal unspent\n\
             2 down Ash Beech 0 normal unspent\n\
             2 up Beech Ash 0 normal unspent\n",
-        &[
-            0, 10, 14, 24, 29, 39, 46, 56, 57, 67, 77, 87, 97, 107, 115, 125, 135, 145, 155, 165,
-            175, 185, 195, 205, 215, 225, 235, 245, 255,
-        ],
     ),
     (
         &["check", "plan"],
         &[TWO_BOXES],
         Status::Done,
         b"findings 0\n",
-        &[0, 10, 11],
     ),
     (
         &["chart", "plan", "Ash"],
         &[TWO_BOXES],
         Status::Done,
         b"chart Ash\nchannels 0\ncolumn none\n",
-        &[0, 10, 20, 30, 33],
     ),
     (
         &["upgrade", "plan"],
         &[TWO_BOXES],
         Status::Done,
         b"plan 2\nboxes 2\ndelay 120\nlooks 1000000000\nbox Ash\nbox Beech\nend\n",
-        &[0, 10, 20, 30, 40, 50, 60, 64],
     ),
     (
         RUN_TWO,
@@ -243,25 +232,14 @@ const OUTPUTS: [Output; 13] = [
             refusals 0\n\
             section down Ash Beech most 0\n\
             section up Beech Ash most 0\n",
-        &[
-            0, 10, 20, 30, 40, 44, 48, 58, 68, 78, 88, 93, 103, 110, 120, 121, 131, 141, 151, 161,
-            171, 179,
-        ],
     ),
     (
         RUN_TWO,
         &[b"plan 1", ASH_IDLE, BEECH_IDLE],
         Status::Refused,
         b"refused text 1 line 1: cut\n",
-        &[0, 10, 20, 27],
     ),
-    (
-        &["run"],
-        &[],
-        Status::Words,
-        b"words not understood\n",
-        &[0, 10, 20, 21],
-    ),
+    (&["run"], &[], Status::Words, b"words not understood\n"),
     (
         JUDGE,
         &[
@@ -270,7 +248,6 @@ const OUTPUTS: [Output; 13] = [
         ],
         Status::Done,
         b"wrong at 1\nsaid heard 1 1\nlaw silent 0\n",
-        &[0, 10, 20, 30, 39],
     ),
     (
         AUDIT,
@@ -280,21 +257,18 @@ const OUTPUTS: [Output; 13] = [
         ],
         Status::Done,
         b"audit 1\n1 rule 1 offer\n",
-        &[0, 10, 20, 23],
     ),
     (
         TOKEN,
         &[TOKEN_IDLE],
         Status::Done,
         b"token 1\nend\ntokens 1 0 out 0\n",
-        &[0, 10, 20, 29],
     ),
     (
         &["tables", "plan", "Ash"],
         &[b"plan 1\nboxes 2\ndelay 2\nlooks 9\nbox Ash\nlever 1 lock\nbox Beech\nend\n"],
         Status::Done,
         b"frame Ash\nlever 1 lock blue\nrows 0\n",
-        &[0, 10, 20, 30, 35],
     ),
     (
         &["stress", "1"],
@@ -309,46 +283,74 @@ const OUTPUTS: [Output; 13] = [
             section up Beech Ash most 0\n\
             section down Beech Cedar most 1\n\
             section up Cedar Beech most 0\n",
-        &[
-            0, 10, 20, 30, 40, 50, 60, 70, 80, 90, 100, 110, 120, 130, 140, 150, 160, 165,
-        ],
     ),
 ];
+
+// Fails this put, where the sink takes ten bytes at most at a time, and looks for so many bytes in it.
+fn fail_put<R: Threads + Wait + Sync + Abort>(
+    rt: &R,
+    alloc: Global,
+    (words, texts, status, printed): Output,
+    put: u64,
+    kept: usize,
+) -> Result<(), NoMemory> {
+    let outside = Outside {
+        bad_put: Some(put),
+        ..SOUND
+    };
+    let answer = work_behind(rt, alloc, words, texts, outside, &OpenGate, printed)?;
+    agrees(rt, words, put, answer.fills(kept, status, printed));
+    Ok(())
+}
 
 // Fails each put of an output in turn, and at last one that never comes.
 fn fail_each_put<R: Threads + Wait + Sync + Abort>(
     rt: &R,
     alloc: Global,
-    words: &[&str],
-    texts: &[&[u8]],
-    status: Status,
-    printed: &[u8],
-    before: &[usize],
+    output: Output,
 ) -> Result<(), NoMemory> {
-    let mut put = 0u64;
-    for kept in before {
+    let mut put = 1u64;
+    let mut kept = 0usize;
+    for ten in output.3.chunks(10) {
+        fail_put(rt, alloc, output, put, kept)?;
         put = put.saturating_add(1);
-        let outside = Outside {
-            bad_put: Some(put),
-            ..SOUND
-        };
-        let answer = work_behind(rt, alloc, words, texts, outside, &OpenGate, printed)?;
-        agrees(rt, words, put, answer.fills(*kept, status, printed));
+        kept = kept.saturating_add(ten.len());
     }
-    Ok(())
+    fail_put(rt, alloc, output, put, kept)
 }
 
 #[test]
 fn failed_puts_leave_whole_puts(rt: HostRuntime) -> Result<(), Fail> {
-    for (words, texts, status, printed, before) in OUTPUTS {
-        fail_each_put(&rt, rt.alloc(), words, texts, status, printed, before)?;
+    for output in OUTPUTS {
+        fail_each_put(&rt, rt.alloc(), output)?;
     }
+    Ok(())
+}
+
+// How many bytes of the output of a run are taken before each put; then all of them.
+const KEPT: [usize; 13] = [0, 10, 20, 30, 40, 50, 60, 70, 80, 90, 100, 110, 115];
+
+#[test]
+fn the_output_of_a_run_is_put_as_one_text(rt: HostRuntime) -> Result<(), Fail> {
+    for (place, kept) in KEPT.into_iter().enumerate() {
+        fail_put(&rt, rt.alloc(), OUTPUTS[0], place as u64 + 1, kept)?;
+    }
+    // The third put fails.
+    let outside = Outside {
+        bad_put: Some(3),
+        ..SOUND
+    };
+    let (words, texts, ..) = OUTPUTS[0];
+    let taken = b"journal 1\nend\nregist";
+    let answer = work_behind(&rt, rt.alloc(), words, texts, outside, &OpenGate, taken)?;
+    let is_so = answer.status == Status::SinkFault && answer.taken == Some(20);
+    agrees(&rt, words, 3, is_so);
     Ok(())
 }
 
 #[test]
 fn small_rooms_are_filled(rt: HostRuntime) -> Result<(), Fail> {
-    for (words, texts, status, printed, _) in OUTPUTS {
+    for (words, texts, status, printed) in OUTPUTS {
         for room in [
             0,
             1,
