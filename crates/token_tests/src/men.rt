@@ -43,7 +43,7 @@ fn all_performed(line: &TokenLine, one: &mut TokenMan, other: &mut TokenMan, due
 
 #[test]
 fn two_men_take_the_only_token_to_the_other_end(rt: HostRuntime) {
-    let (line, mut one, mut other) = open_token(rt.alloc(), 1, 0).expect(&rt, "a line");
+    let (line, mut one, mut other) = open_token(rt.alloc(), 1, 0).ok().expect(&rt, "a line");
     let are_fresh = (one.tokens() == 1)
         & (other.tokens() == 0)
         & (one.calls() == 0)
@@ -68,7 +68,7 @@ fn two_men_take_the_only_token_to_the_other_end(rt: HostRuntime) {
 
 #[test]
 fn two_men_give_leave_and_take_it_back(rt: HostRuntime) {
-    let (line, mut one, mut other) = open_token(rt.alloc(), 1, 1).expect(&rt, "a line");
+    let (line, mut one, mut other) = open_token(rt.alloc(), 1, 1).ok().expect(&rt, "a line");
     let are_due = all_performed(&line, &mut one, &mut other, &LEAVE);
     let are_there = (one.tokens() == 1) & (other.tokens() == 1);
     drop(other);

@@ -97,7 +97,7 @@ fn all_tokens_stay(
 
 #[test]
 fn no_token_is_lost_between_two_threads(rt: HostRuntime) {
-    let (line, one, other) = open_token(rt.alloc(), 3, 4).expect(&rt, "a line");
+    let (line, one, other) = open_token(rt.alloc(), 3, 4).ok().expect(&rt, "a line");
     let is_so = all_tokens_stay(&rt, &line, one, other, 7);
     drop(line);
     all_hold(&rt, &[("seven tokens", is_so)]);
@@ -206,7 +206,7 @@ fn make_the_journey(
 #[test]
 fn two_threads_make_the_journey_in_turn(rt: HostRuntime) {
     let gate = InTurn::new();
-    let (line, one, other) = open_token(rt.alloc(), 1, 0).expect(&rt, "a line");
+    let (line, one, other) = open_token(rt.alloc(), 1, 0).ok().expect(&rt, "a line");
     let is_made = make_the_journey(&rt, &line, one, other, &gate);
     let nobody_gave_up = gate.gave_up.load(Ordering::SeqCst) == 0;
     drop(line);
