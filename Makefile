@@ -62,6 +62,6 @@ contracts:
 # The gate: every proof, the must-fail edits, the tests, and the program as two compilers make it.
 test:
 	@echo "make test proves all crates and their tests, tries the must-fail edits, and runs the tests and the programs."
-	@echo "From nothing that took 70 minutes on four processors, and takes over two hours on two; here there are $$(nproc)."
+	@echo "From nothing that took 57 minutes on four processors, and takes over two hours on two; here there are $$(nproc)."
 	@echo "What an earlier run on this machine passed is kept. The last line is 'N passed, M failed'. (make quick: no proofs)"
 	rt ci
