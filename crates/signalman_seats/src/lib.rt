@@ -11,8 +11,10 @@ mod looks;
 mod man;
 mod notes;
 mod opening;
+mod pausing;
 
 pub use closing::{CloseRefused, close_line};
 pub use laws::refusal_law;
 pub use man::Signalman;
 pub use opening::{OpenError, open_line};
+pub use pausing::{BacksOff, Pauses};

@@ -9,9 +9,9 @@ ghost use Rattle.instrument_rule.specs.Views.{caller_of};
 ghost use Rattle.signalman_seats.specs.Asking.{AsksAt, Decided, Waited};
 ghost use Rattle.signalman_seats.specs.Men.{Answered, IsAtDesk};
 
+use crate::pausing::Pauses;
 use block_words::WordOp;
 use box_desk::{Desk, Step, WordAsk};
-use crossbeam_utils::Backoff;
 use instrument_rule::{Line, Post};
 use line_law::{Call, Reply};
 
@@ -57,7 +57,14 @@ pub struct Met {
 }
 
 // Does the operations of a call on its word, of an await look after look, so many at most.
-fn decide(post: &mut Post, line: &Line, desk: &Desk, ask: &WordAsk, looks: u32) -> Met
+fn decide<P: Pauses>(
+    post: &mut Post,
+    line: &Line,
+    desk: &Desk,
+    ask: &WordAsk,
+    looks: u32,
+    pauses: &P,
+) -> Met
     requires line { post.old.seat.table_id ≡ line.now.table.shared.table_id }
     requires sits { Sits line.now.table.shared.key post.old.seat.me.0 }
     requires may { MayStep line.now.table.shared.key ask.now.call post.old.seat.me.0 }
@@ -69,7 +76,6 @@ fn decide(post: &mut Post, line: &Line, desk: &Desk, ask: &WordAsk, looks: u32) 
     ensures decided { Decided line.now.table.shared.key ask.now.call looks post.old.seat.me.0 result.word
         post.new.seat.me.0 }
 {
-    let backoff = Backoff::new();
     let mut left = if ask.awaits { looks } else { 1 };
     while left > 1 {
         if let Some(word) = look(post, line, desk, ask, false) {
@@ -79,7 +85,7 @@ fn decide(post: &mut Post, line: &Line, desk: &Desk, ask: &WordAsk, looks: u32) 
             };
         }
         left -= 1;
-        backoff.snooze();
+        pauses.pause(looks - left);
     }
     let word = look(post, line, desk, ask, true).unwrap();
     let looks = if ask.awaits { looks } else { 0 };
@@ -93,7 +99,14 @@ pub struct Answer {
 }
 
 /// Does one call of the post's box, at its desk and on its word, and gives the reply.
-pub fn work(post: &mut Post, line: &Line, desk: &mut Desk, call: &Call, looks: u32) -> Answer
+pub fn work<P: Pauses>(
+    post: &mut Post,
+    line: &Line,
+    desk: &mut Desk,
+    call: &Call,
+    looks: u32,
+    pauses: &P,
+) -> Answer
     requires line { post.old.seat.table_id ≡ line.now.table.shared.table_id }
     requires sits { Sits line.now.table.shared.key post.old.seat.me.0 }
     requires may { MayStep line.now.table.shared.key call.now post.old.seat.me.0 }
@@ -113,7 +126,10 @@ pub fn work(post: &mut Post, line: &Line, desk: &mut Desk, call: &Call, looks: u
             Answer { reply, looks: 0 }
         }
         Step::NeedsWord(ask) => {
-            let Met { word, looks } = decide(post, line, desk, &ask, looks);
+            let Met { word, looks } = decide(post, line, desk, &ask, looks, pauses);
+            if ask.awaits {
+                pauses.ended(looks);
+            }
             let reply = desk.finish(ask, word);
             Answer { reply, looks }
         }

@@ -13,6 +13,7 @@ ghost use Rattle.signalman_seats.specs.Men.{AreFittings, IsDrawn, IsFresh, IsOf,
 use crate::fittings::Fittings;
 use crate::looks::{Answer, work};
 use crate::notes::PlanNotes;
+use crate::pausing::{BacksOff, Pauses};
 use box_desk::Desk;
 use instrument_rule::{Line, Post};
 use line_law::{Call, Entry, Reply};
@@ -174,7 +175,40 @@ impl Signalman {
         ensures spare { self.new.spare + 1 ≡ self.old.spare }
         ensures moment { self.new.moment ≡ call.moment }
     {
-        let Answer { reply, looks } = work(&mut self.post, line, &mut self.desk, &call, looks);
+        self.perform_pausing(line, call, looks, &BacksOff::new())
+    }
+
+    /// As [`perform`](Signalman::perform), of which it has the very clauses, pausing between two looks as it is told.
+    ///
+    /// It returns if what it is handed does, and may wait through that alone.
+    pub fn perform_pausing<P: Pauses>(
+        &mut self,
+        line: &Line,
+        call: Call,
+        looks: u32,
+        pauses: &P,
+    ) -> Reply
+        requires line { IsOf line.now.table.shared.table_id line.now.table.shared.key self.old }
+        requires spare { 0 < self.old.spare }
+        requires looks { 1 ≤ looks }
+        requires known { KnowsCall line.now.table.shared.key self.old.box_no call }
+        requires later { self.old.moment ≤ call.moment }
+        ensures line { IsOf line.now.table.shared.table_id line.now.table.shared.key self.new }
+        ensures box_no { self.new.box_no ≡ self.old.box_no }
+        ensures performed { Performed line.now.table.shared.key self.old.box_no call looks result self.old.view
+            self.new.view }
+        ensures entries { self.new.entries ≡ part_of self.old.box_no self.new.view.seen }
+        ensures spare { self.new.spare + 1 ≡ self.old.spare }
+        ensures moment { self.new.moment ≡ call.moment }
+    {
+        let Answer { reply, looks } = work(
+            &mut self.post,
+            line,
+            &mut self.desk,
+            &call,
+            looks,
+            pauses,
+        );
         self.looks_taken += looks as u64;
         let box_no = self.box_no;
         let entry = Entry {
