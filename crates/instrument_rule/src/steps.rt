@@ -1,8 +1,9 @@
 //! The operations of calls, each on one word.
-ghost use Rattle.std.specs.Prelude.{◌≡◌};
+ghost use Rattle.std.specs.Prelude.{◌≡◌, false, length};
 ghost use Rattle.line_plan.specs.Sections.{IsSection};
+ghost use Rattle.word_laws.specs.WordPlaces.{word_place};
 ghost use Rattle.line_law.specs.declared.link.Link.TheVariants.{Out};
-ghost use Rattle.instrument_rule.specs.Calls.{MayStep, OpFits, Sits, block_on};
+ghost use Rattle.instrument_rule.specs.Calls.{MayStep, OpFits, Sits, block_on, looks_by, op_word};
 ghost use Rattle.instrument_rule.specs.Told.{Saw, Tells};
 ghost use Rattle.instrument_rule.specs.Views.{caller_of};
 
@@ -78,6 +79,54 @@ impl Post {
         self.step_as::<Brand>(line, box_no, call, op, last)
     }
 
+    /// The place of the word on which the post's first box does an operation for a call.
+    pub fn place(&self, line: &Line, call: &Call, op: WordOp) -> usize
+        ensures { result ≡ word_place (length line.now.table.shared.key.boxes)
+            (op_word (caller_of self.now.seat.me.0.posts) call.now.act op) }
+    {
+        line.place(or_zero(self.first), call.act, op)
+    }
+
+    // A look of an await at the word that has this place.
+    fn look_as<J: Asking>(&mut self, line: &Line, place: usize, call: &Call, op: WordOp) -> u64
+        requires line { self.old.seat.table_id ≡ line.now.table.shared.table_id }
+        requires plan { J.plan ≡ line.now.table.shared.key }
+        requires call { J.call ≡ call.now }
+        requires op { J.op ≡ op }
+        requires look { looks_by J.call.act J.op ≡ 1 }
+        requires place { place ≡ word_place (length line.now.table.shared.key.boxes)
+            (op_word (caller_of self.old.seat.me.0.posts) J.call.act J.op) }
+        requires sits { Sits J.plan self.old.seat.me.0 }
+        requires may { MayStep J.plan J.call self.old.seat.me.0 }
+        requires fits { OpFits J.plan (caller_of self.old.seat.me.0.posts) J.call J.op self.old.seat.me.0 }
+        ensures same { self.new.seat.table_id ≡ self.old.seat.table_id }
+        ensures posts { self.new.seat.me.0.posts ≡ self.old.seat.me.0.posts }
+        ensures told { Tells J.plan J.call J.op J.last self.old.seat.me.0 result self.new.seat.me.0 }
+    {
+        let (_call, _op) = (*call, op);
+        line.table.shared.load::<Do<J>>(&mut self.seat, place)
+    }
+
+    /// A look of an await that isn't its last, at the word that has this place. It is what [`step`](Post::step) does
+    /// for it, by one load alone, so that many looks may follow one another at once.
+    #[inline(always)]
+    pub fn look_at(&mut self, line: &Line, place: usize, call: &Call, op: WordOp) -> u64
+        requires line { self.old.seat.table_id ≡ line.now.table.shared.table_id }
+        requires look { looks_by call.now.act op ≡ 1 }
+        requires place { place ≡ word_place (length line.now.table.shared.key.boxes)
+            (op_word (caller_of self.old.seat.me.0.posts) call.now.act op) }
+        requires sits { Sits line.now.table.shared.key self.old.seat.me.0 }
+        requires may { MayStep line.now.table.shared.key call.now self.old.seat.me.0 }
+        requires op { OpFits line.now.table.shared.key (caller_of self.old.seat.me.0.posts) call.now op
+            self.old.seat.me.0 }
+        ensures same { self.new.seat.table_id ≡ self.old.seat.table_id }
+        ensures posts { self.new.seat.me.0.posts ≡ self.old.seat.me.0.posts }
+        ensures told { Tells line.now.table.shared.key call.now op false self.old.seat.me.0 result
+            self.new.seat.me.0 }
+    {
+        self.look_as::<Brand>(line, place, call, op)
+    }
+
     // A look at the instrument of a section.
     fn glance_as<J: Glancing>(&mut self, line: &Line, section: Section) -> u64
         requires line { self.old.seat.table_id ≡ line.now.table.shared.table_id }
@@ -93,10 +142,10 @@ impl Post {
         line.table.shared.load::<Glance<J>>(&mut self.seat, word)
     }
 
-    /// Looks at the instrument of a section, for no call; the post need hold no box. It has then seen a legal history of
-    /// the line that begins with all that it had seen and has no other entry of its boxes, and the word that it gives is
-    /// the instrument's after that. It counts as a look and as a glance. It makes no entry, takes no memory and waits
-    /// for nobody.
+    /// Looks at the instrument of a section, for no call; the post need hold no box. It has then seen a legal history
+    /// of the line that begins with all that it had seen and has no other entry of its boxes, and the word that it
+    /// gives is the instrument's after that. It counts as a look and as a glance. It makes no entry, takes no memory
+    /// and waits for nobody.
     pub fn glance(&mut self, line: &Line, section: Section) -> u64
         requires line { self.old.seat.table_id ≡ line.now.table.shared.table_id }
         requires sits { Sits line.now.table.shared.key self.old.seat.me.0 }
