@@ -1,5 +1,6 @@
 pub mod Deciding
 pub mod Looking
+pub mod Judging
 pub mod NotYet
 pub mod Performing
 pub mod Gathering

@@ -1,5 +1,5 @@
 -- A call on a word, operation by operation.
-use Rattle.std.specs.Prelude.{◌≡◌, ℕ, ◌≤◌, ◌+◌, true, false, List, [], ◌∷◌, ◌++◌}
+use Rattle.std.specs.Prelude.{◌≡◌, ℕ, ◌≤◌, ◌+◌, Bool, true, false, List, [], ◌∷◌, ◌++◌, Result, IfOk, IfErr, IsOk}
 use Rattle.block_words.specs.declared.WordOp.{WordOp}
 use Rattle.line_plan.specs.Plans.{PlanFields}
 use Rattle.line_law.specs.declared.call.Call.{Call}
@@ -7,15 +7,15 @@ use Rattle.line_law.specs.declared.call.Entry.{Entry}
 use Rattle.line_law.specs.History.{IsLegal, entry_of, state_of}
 use Rattle.line_law.specs.Law.{box_plan_of}
 use Rattle.line_law.specs.States.{box_at}
-use Rattle.word_laws.specs.WordNumbers.{Word, word_of}
+use Rattle.word_laws.specs.WordNumbers.{Word, one_if, word_of}
 use Rattle.box_desk.specs.declared.ask.WordAsk.{WordAsk}
 use Rattle.box_desk.specs.Desks.{DeskFields, IsAsked}
 use Rattle.word_laws.specs.Operations.{first_op, met_by}
 use Rattle.box_desk.specs.Steps.{awaits_of}
 use Rattle.instrument_rule.specs.declared.view.View.{View}
-use Rattle.instrument_rule.specs.Calls.{here_at, op_word}
+use Rattle.instrument_rule.specs.Calls.{MayStep, Sits, here_at, op_word}
 use Rattle.instrument_rule.specs.Rule.{Seen}
-use Rattle.instrument_rule.specs.Told.{Met}
+use Rattle.instrument_rule.specs.Told.{Met, Tells}
 use Rattle.instrument_rule.specs.Views.{caller_of}
 use Rattle.signalman_seats.specs.Looks.{InVain}
 
@@ -70,3 +70,42 @@ pub record Decided (plan : PlanFields) (call : Call) (looks : ℕ) (v : View) (n
   pub olds : w.olds ≡ []
   pub looked : Looked plan call looks v n w
   pub glances : w.glances ≡ v.glances
+
+-- ---- looks
+
+-- by this number the word falls short of what the call looks for
+abbrev pub IsMissed : PlanFields → Call → View → ℕ → Type 0
+IsMissed plan call v n =
+    met_by (box_plan_of plan (caller_of v.posts)) call.act (here_at plan v.seen (caller_of v.posts) call) n ≡ false
+
+-- and by this one it doesn't
+abbrev pub IsHit : PlanFields → Call → View → ℕ → Type 0
+IsHit plan call v n =
+    met_by (box_plan_of plan (caller_of v.posts)) call.act (here_at plan v.seen (caller_of v.posts) call) n ≡ true
+
+-- the first operation of an ask, which only a look of an await may leave undecided, has shown this number
+pub record HasShown (plan : PlanFields) (desk : DeskFields) (ask : WordAsk) (last : Bool) (v : View) (shown : ℕ)
+    (w : View) : Type 0 where
+  pub sits : Sits plan v
+  pub may : MayStep plan ask.call v
+  pub asks : AsksAt plan v desk ask
+  pub once : ask.awaits ≡ false → last ≡ true
+  pub told : Tells plan ask.call ask.first last v shown w
+
+-- what a first operation has come to, which is a look where the call is an await: the call was decided, before the last
+-- look only by what it looks for; or it has waited at a number that falls short
+pub record CameTo (plan : PlanFields) (ask : WordAsk) (last : Bool) (v : View) (found : Result ℕ ℕ) (w : View)
+    : Type 0 where
+  pub counted : w.looks ≡ v.looks + one_if ask.awaits
+  pub decided : IfOk found (λ word. Decided plan ask.call 1 v word w)
+  pub hit : last ≡ false → IfOk found (IsHit plan ask.call v)
+  pub waited : IfErr found (λ word. Waited plan ask.call v 1 w × IsMissed plan ask.call v word)
+  pub over : last ≡ true → IsOk found
+
+-- what so many looks of an await have come to, none of them its last
+pub record LookedOn (plan : PlanFields) (call : Call) (v : View) (taken : ℕ) (found : Result ℕ ℕ) (w : View)
+    : Type 0 where
+  pub counted : w.looks ≡ v.looks + taken
+  pub decided : IfOk found (λ word. Decided plan call taken v word w)
+  pub hit : IfOk found (IsHit plan call v)
+  pub waited : IfErr found (λ word. Waited plan call v taken w × IsMissed plan call v word)

@@ -1,12 +1,10 @@
 //! The operations of a call on its shared word.
 
-ghost use Rattle.std.specs.Prelude.{◌≡◌, ◌<◌, ◌+◌, ◌^◌, true, false, IfNone, IfSome, IsSome};
-ghost use Rattle.line_law.specs.Law.{box_plan_of};
-ghost use Rattle.word_laws.specs.WordNumbers.{one_if};
-ghost use Rattle.word_laws.specs.Operations.{met_by};
-ghost use Rattle.instrument_rule.specs.Calls.{MayStep, Sits, here_at};
+ghost use Rattle.std.specs.Prelude.{◌≡◌, ◌<◌, ◌≤◌, ◌+◌, ◌^◌, true, false, IfSome};
+ghost use Rattle.instrument_rule.specs.declared.view.View.{View};
+ghost use Rattle.instrument_rule.specs.Calls.{MayStep, Sits};
 ghost use Rattle.instrument_rule.specs.Views.{caller_of};
-ghost use Rattle.signalman_seats.specs.Asking.{AsksAt, Decided, Waited};
+ghost use Rattle.signalman_seats.specs.Asking.{AsksAt, CameTo, Decided, HasShown, IsMissed, LookedOn};
 ghost use Rattle.signalman_seats.specs.Men.{Answered, IsAtDesk};
 
 use crate::pausing::Pauses;
@@ -15,9 +13,38 @@ use box_desk::{Desk, Step, WordAsk};
 use instrument_rule::{Line, Post};
 use line_law::{Call, Reply};
 
-// The first operation of a call, which may be a look, and the second where it is then due. It gives the word as it
-// stood before the operation that decided the call; none where a look has decided nothing yet.
-fn look(post: &mut Post, line: &Line, desk: &Desk, ask: &WordAsk, last: bool) -> Option<u64>
+// Judges what the first operation of a call has shown, and does the second where it is due. It gives the word as it
+// stood before the operation that decided the call; where a look has decided nothing yet, the error is the number that
+// it showed.
+fn judge(
+    post: &mut Post,
+    line: &Line,
+    desk: &Desk,
+    ask: &WordAsk,
+    shown: u64,
+    last: bool,
+) -> Result<u64, u64>
+    requires line { post.old.seat.table_id ≡ line.now.table.shared.table_id }
+    requires few { desk.now.calls < 2 ^ 32 }
+    requires shown { (v : View) × HasShown line.now.table.shared.key desk.now ask.now last v shown post.old.seat.me.0 }
+    ensures same { post.new.seat.table_id ≡ post.old.seat.table_id }
+    ensures came { (v : View) → HasShown line.now.table.shared.key desk.now ask.now last v shown post.old.seat.me.0
+        → CameTo line.now.table.shared.key ask.now last v result post.new.seat.me.0 }
+{
+    if desk.met(ask, shown) {
+        match ask.second {
+            Some(second) => Ok(post.step(line, &ask.call, second, true)),
+            None => Ok(shown),
+        }
+    } else if last {
+        Ok(shown)
+    } else {
+        Err(shown)
+    }
+}
+
+// The first operation of a call, which may be a look, and the second where it is then due.
+fn look(post: &mut Post, line: &Line, desk: &Desk, ask: &WordAsk, last: bool) -> Result<u64, u64>
     requires line { post.old.seat.table_id ≡ line.now.table.shared.table_id }
     requires sits { Sits line.now.table.shared.key post.old.seat.me.0 }
     requires may { MayStep line.now.table.shared.key ask.now.call post.old.seat.me.0 }
@@ -25,28 +52,84 @@ fn look(post: &mut Post, line: &Line, desk: &Desk, ask: &WordAsk, last: bool) ->
     requires few { desk.now.calls < 2 ^ 32 }
     requires last { ask.now.awaits ≡ false → last ≡ true }
     ensures same { post.new.seat.table_id ≡ post.old.seat.table_id }
-    ensures counted { post.new.seat.me.0.looks ≡ post.old.seat.me.0.looks + one_if ask.now.awaits }
-    ensures decided { IfSome result (λ word. Decided line.now.table.shared.key ask.now.call 1 post.old.seat.me.0 word
-        post.new.seat.me.0) }
-    ensures last { last ≡ true → IsSome result }
-    ensures found { last ≡ false → IfSome result (λ word. met_by
-        (box_plan_of line.now.table.shared.key (caller_of post.old.seat.me.0.posts)) ask.now.call.act
-        (here_at line.now.table.shared.key post.old.seat.me.0.seen (caller_of post.old.seat.me.0.posts) ask.now.call)
-        word ≡ true) }
-    ensures waited { IfNone result (Waited line.now.table.shared.key ask.now.call post.old.seat.me.0 1
-        post.new.seat.me.0) }
+    ensures came { CameTo line.now.table.shared.key ask.now last post.old.seat.me.0 result post.new.seat.me.0 }
 {
     let shown = post.step(line, &ask.call, ask.first, last);
-    if desk.met(ask, shown) {
-        match ask.second {
-            Some(second) => Some(post.step(line, &ask.call, second, true)),
-            None => Some(shown),
+    judge(post, line, desk, ask, shown, last)
+}
+
+// Looks of an await whose word showed this number at the last, one after another: so many at most, and none after one
+// that shows another number. It gives how many they were, and what they came to. None of them is the await's last.
+fn look_on(
+    post: &mut Post,
+    line: &Line,
+    desk: &Desk,
+    ask: &WordAsk,
+    unmet: u64,
+    most: u32,
+) -> (u32, Result<u64, u64>)
+    requires line { post.old.seat.table_id ≡ line.now.table.shared.table_id }
+    requires sits { Sits line.now.table.shared.key post.old.seat.me.0 }
+    requires may { MayStep line.now.table.shared.key ask.now.call post.old.seat.me.0 }
+    requires ask { AsksAt line.now.table.shared.key post.old.seat.me.0 desk.now ask.now }
+    requires few { desk.now.calls < 2 ^ 32 }
+    requires awaits { ask.now.awaits ≡ true }
+    requires unmet { IsMissed line.now.table.shared.key ask.now.call post.old.seat.me.0 unmet }
+    requires most { 0 < most }
+    ensures same { post.new.seat.table_id ≡ post.old.seat.table_id }
+    ensures some { (0 < result.0) × (result.0 ≤ most) }
+    ensures came { LookedOn line.now.table.shared.key ask.now.call post.old.seat.me.0 result.0 result.1
+        post.new.seat.me.0 }
+{
+    let WordAsk { call, first, .. } = *ask;
+    let place = post.place(line, &call, first);
+    for taken in 0..most {
+        let shown = post.look_at(line, place, &call, first);
+        if shown != unmet {
+            return (taken + 1, judge(post, line, desk, ask, shown, false));
         }
-    } else if last {
-        Some(shown)
-    } else {
-        None
     }
+    (most, Err(unmet))
+}
+// The next looks of an await, of which none is its last: one, or, where this number was shown and nobody else is at
+// work, so many at most. It gives how many they were, and what they came to.
+fn look_next(
+    post: &mut Post,
+    line: &Line,
+    desk: &Desk,
+    ask: &WordAsk,
+    alone: Option<u64>,
+    most: u32,
+) -> (u32, Result<u64, u64>)
+    requires line { post.old.seat.table_id ≡ line.now.table.shared.table_id }
+    requires sits { Sits line.now.table.shared.key post.old.seat.me.0 }
+    requires may { MayStep line.now.table.shared.key ask.now.call post.old.seat.me.0 }
+    requires ask { AsksAt line.now.table.shared.key post.old.seat.me.0 desk.now ask.now }
+    requires few { desk.now.calls < 2 ^ 32 }
+    requires awaits { ask.now.awaits ≡ true }
+    requires alone { IfSome alone (λ unmet. IsMissed line.now.table.shared.key ask.now.call post.old.seat.me.0 unmet) }
+    requires most { 0 < most }
+    ensures same { post.new.seat.table_id ≡ post.old.seat.table_id }
+    ensures some { (0 < result.0) × (result.0 ≤ most) }
+    ensures came { LookedOn line.now.table.shared.key ask.now.call post.old.seat.me.0 result.0 result.1
+        post.new.seat.me.0 }
+{
+    match alone {
+        Some(unmet) => look_on(post, line, desk, ask, unmet, most),
+        None => (1, look(post, line, desk, ask, false)),
+    }
+}
+
+// What comes after an unmet look, so many having been taken: a pause, or, where nobody else is at work, the number that
+// it showed.
+fn rest<P: Pauses>(pauses: &P, taken: u32, unmet: u64) -> Option<u64>
+    ensures { IfSome result (λ shown. shown ≡ unmet) }
+{
+    if pauses.is_alone(taken) {
+        return Some(unmet);
+    }
+    pauses.pause(taken);
+    None
 }
 
 /// What the operations of a call on its word came to: the word as it stood before the one that decided the call, and
@@ -77,19 +160,26 @@ fn decide<P: Pauses>(
         post.new.seat.me.0 }
 {
     let mut left = if ask.awaits { looks } else { 1 };
+    let mut alone = None;
     while left > 1 {
-        if let Some(word) = look(post, line, desk, ask, false) {
-            return Met {
-                word,
-                looks: looks - left + 1,
-            };
+        let (taken, found) = look_next(post, line, desk, ask, alone, left - 1);
+        left -= taken;
+        match found {
+            Ok(word) => {
+                let looks = looks - left;
+                pauses.ended(looks);
+                return Met { word, looks };
+            }
+            Err(unmet) => alone = rest(pauses, looks - left, unmet),
         }
-        left -= 1;
-        pauses.pause(looks - left);
     }
     let word = look(post, line, desk, ask, true).unwrap();
-    let looks = if ask.awaits { looks } else { 0 };
-    Met { word, looks }
+    if ask.awaits {
+        pauses.ended(looks);
+        Met { word, looks }
+    } else {
+        Met { word, looks: 0 }
+    }
 }
 
 /// What a call was answered, after how many looks.
@@ -127,9 +217,6 @@ pub fn work<P: Pauses>(
         }
         Step::NeedsWord(ask) => {
             let Met { word, looks } = decide(post, line, desk, &ask, looks, pauses);
-            if ask.awaits {
-                pauses.ended(looks);
-            }
             let reply = desk.finish(ask, word);
             Answer { reply, looks }
         }

@@ -5,21 +5,21 @@ use Rattle.signalman_seats.proofs.Performing.{answered_by_word, answered_here, a
 use Rattle.signalman_seats.proofs.looks.work.Goals as goal
 
 pub decide-word-requires-clause-may : goal.decide-word-requires-clause-may
-decide-word-requires-clause-may c = may_ask c.args.line.now.table.shared.key c.args.call.now c.args.post.now.seat.me.0
+decide-word-requires-clause-may g c = may_ask c.args.line.now.table.shared.key c.args.call.now c.args.post.now.seat.me.0
     c.args.desk.now c.prepare.new.self
     c.prepare.result c.in-NeedsWord.ask c.args.line.now.is_plan c.requires.may c.requires.desk
     (c.prepare.ensures c.args.line.now.table.shared.key (caller_of c.args.post.now.seat.me.0.posts)
     c.requires.desk.desk_of) c.in-NeedsWord.is
 
 pub decide-word-requires-clause-ask : goal.decide-word-requires-clause-ask
-decide-word-requires-clause-ask c = asks_so c.args.line.now.table.shared.key c.args.call.now c.args.post.now.seat.me.0
+decide-word-requires-clause-ask g c = asks_so c.args.line.now.table.shared.key c.args.call.now c.args.post.now.seat.me.0
     c.args.desk.now c.prepare.new.self
     c.prepare.result c.in-NeedsWord.ask c.args.line.now.is_plan c.requires.may c.requires.desk
     (c.prepare.ensures c.args.line.now.table.shared.key (caller_of c.args.post.now.seat.me.0.posts)
     c.requires.desk.desk_of) c.in-NeedsWord.is
 
 pub decide-word-requires-clause-few : goal.decide-word-requires-clause-few
-decide-word-requires-clause-few c =
+decide-word-requires-clause-few g c =
     let same = same_calls c.args.line.now.table.shared.key c.args.call.now c.args.post.now.seat.me.0 c.args.desk.now
     c.prepare.new.self
     c.prepare.result c.in-NeedsWord.ask c.args.line.now.is_plan c.requires.may c.requires.desk
@@ -27,7 +27,7 @@ decide-word-requires-clause-few c =
     c.requires.desk.desk_of) c.in-NeedsWord.is in let few = c.requires.few in omega arith
 
 pub finish-reply-requires-clause-asked : goal.finish-reply-requires-clause-asked
-finish-reply-requires-clause-asked c = (
+finish-reply-requires-clause-asked g c = (
   c.args.line.now.table.shared.key,
   caller_of c.args.post.now.seat.me.0.posts,
   (asks_so c.args.line.now.table.shared.key c.args.call.now c.args.post.now.seat.me.0 c.args.desk.now c.prepare.new.self
@@ -43,7 +43,7 @@ finish-reply-requires-clause-asked c = (
 )
 
 pub finish-reply-requires-clause-few : goal.finish-reply-requires-clause-few
-finish-reply-requires-clause-few c =
+finish-reply-requires-clause-few g c =
     let same = same_calls c.args.line.now.table.shared.key c.args.call.now c.args.post.now.seat.me.0 c.args.desk.now
     c.prepare.new.self
     c.prepare.result c.in-NeedsWord.ask c.args.line.now.is_plan c.requires.may c.requires.desk
@@ -51,7 +51,7 @@ finish-reply-requires-clause-few c =
     c.requires.desk.desk_of) c.in-NeedsWord.is in let few = c.requires.few in omega arith
 
 pub returns-in-Local-clause-answered : goal.returns-in-Local-clause-answered
-returns-in-Local-clause-answered c =
+returns-in-Local-clause-answered g c =
     answered_here c.args.line.now.table.shared.key c.args.call.now c.args.looks c.args.post.now.seat.me.0 c.step.result
     c.step.new.self.seat.me.0 c.args.desk.now c.prepare.new.self c.prepare.result c.in-Local.reply
     c.args.line.now.is_plan c.requires.sits c.requires.may c.requires.desk
@@ -59,7 +59,7 @@ returns-in-Local-clause-answered c =
     c.requires.desk.desk_of) c.in-Local.is c.step.ensures.told
 
 pub returns-in-NeedsWord-clause-answered : goal.returns-in-NeedsWord-clause-answered
-returns-in-NeedsWord-clause-answered c = answered_by_word c.args.line.now.table.shared.key c.args.call.now
+returns-in-NeedsWord-clause-answered g c = answered_by_word c.args.line.now.table.shared.key c.args.call.now
     c.args.post.now.seat.me.0 c.args.desk.now c.prepare.new.self
     c.prepare.result c.in-NeedsWord.ask c.args.line.now.is_plan c.requires.may c.requires.desk
     (c.prepare.ensures c.args.line.now.table.shared.key (caller_of c.args.post.now.seat.me.0.posts)
@@ -75,7 +75,7 @@ returns-in-NeedsWord-clause-answered c = answered_by_word c.args.line.now.table.
     c.requires.desk.desk_of) c.in-NeedsWord.is).asked.desk_of) c.finish-reply.ensures.kept
 
 pub returns-in-NeedsWord-clause-calls : goal.returns-in-NeedsWord-clause-calls
-returns-in-NeedsWord-clause-calls c =
+returns-in-NeedsWord-clause-calls g c =
     let same = same_calls c.args.line.now.table.shared.key c.args.call.now c.args.post.now.seat.me.0 c.args.desk.now
     c.prepare.new.self
     c.prepare.result c.in-NeedsWord.ask c.args.line.now.is_plan c.requires.may c.requires.desk
