@@ -1,6 +1,7 @@
 //! The work of a line: each signalman works his script, on a thread of his own.
 #![tactic(auto)]
 
+mod crew;
 mod gate;
 mod working;
 

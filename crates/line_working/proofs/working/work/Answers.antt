@@ -26,40 +26,40 @@ loop-i-init g c =
       worked = begun line.table.shared.key man.box_no c.args.looks man.view legal;
     }
 
-pub perform-requires-clause-spare : goal.perform-requires-clause-spare
-perform-requires-clause-spare g c =
+pub perform_pausing-reply-requires-clause-spare : goal.perform_pausing-reply-requires-clause-spare
+perform_pausing-reply-requires-clause-spare g c =
     let before = ap (λ (m : Man). m.spare) c.lend_watch.ensures.same in
     let items = ap length c.as_slice-call-items.ensures in
     let spare = c.loop-i.invariant.spare in
     let room = c.requires.ready.room in
     omega arith
 
-pub perform-requires-clause-known : goal.perform-requires-clause-known
-perform-requires-clause-known g c = (next_call _ _ _ _ _ _ _ c.as_slice-call-items.ensures c.loop-i-test.true
+pub perform_pausing-reply-requires-clause-known : goal.perform_pausing-reply-requires-clause-known
+perform_pausing-reply-requires-clause-known g c = (next_call _ _ _ _ _ _ _ c.as_slice-call-items.ensures c.loop-i-test.true
     c.loop-i.invariant.rest).known
 
-pub perform-requires-clause-later : goal.perform-requires-clause-later
-perform-requires-clause-later g c = (next_call _ _ _ _ _ _ _ c.as_slice-call-items.ensures c.loop-i-test.true
+pub perform_pausing-reply-requires-clause-later : goal.perform_pausing-reply-requires-clause-later
+perform_pausing-reply-requires-clause-later g c = (next_call _ _ _ _ _ _ _ c.as_slice-call-items.ensures c.loop-i-test.true
     c.loop-i.invariant.rest).later
 
 pub loop-i-preserved : goal.loop-i-preserved
 loop-i-preserved g c =
     let plan = c.args.line.now.table.shared.key in
     let old = c.loop-i.man in
-    let new = c.perform.new.self in
+    let new = c.perform_pausing-reply.new.self in
     let now = c.loop-i.invariant in
     let rest : List Call = drop (c.loop-i.i + 1) c.args.script.now.calls in
     record {
-      of_line = c.perform.ensures.line;
-      box_no = c.perform.ensures.box_no ∙ now.box_no;
-      rest = subst (λ (b : ℕ). AreCalls plan b new.moment rest) (sym c.perform.ensures.box_no)
-          (subst (λ (m : ℕ). AreCalls plan old.box_no m rest) (sym c.perform.ensures.moment)
+      of_line = c.perform_pausing-reply.ensures.line;
+      box_no = c.perform_pausing-reply.ensures.box_no ∙ now.box_no;
+      rest = subst (λ (b : ℕ). AreCalls plan b new.moment rest) (sym c.perform_pausing-reply.ensures.box_no)
+          (subst (λ (m : ℕ). AreCalls plan old.box_no m rest) (sym c.perform_pausing-reply.ensures.moment)
           (next_call _ _ _ _ _ _ _ c.as_slice-call-items.ensures c.loop-i-test.true now.rest).rest);
-      entries = c.perform.ensures.entries ∙ ap (λ (b : ℕ). part_of b new.view.seen) now.box_no;
-      spare = (let e = c.perform.ensures.spare in let n = now.spare in omega arith);
-      moment = moment_on _ _ _ _ _ _ c.as_slice-call-items.ensures c.loop-i-test.true c.perform.ensures.moment;
+      entries = c.perform_pausing-reply.ensures.entries ∙ ap (λ (b : ℕ). part_of b new.view.seen) now.box_no;
+      spare = (let e = c.perform_pausing-reply.ensures.spare in let n = now.spare in omega arith);
+      moment = moment_on _ _ _ _ _ _ c.as_slice-call-items.ensures c.loop-i-test.true c.perform_pausing-reply.ensures.moment;
       worked = one_more_of _ _ _ _ _ _ _ _ _ _ _ _ now.box_no c.as_slice-call-items.ensures c.loop-i-test.true
-          now.worked c.perform.ensures.performed;
+          now.worked c.perform_pausing-reply.ensures.performed;
     }
 
 pub returns : goal.returns
