@@ -4,4 +4,6 @@
 #[cfg(test)]
 pub mod line;
 #[cfg(test)]
+pub mod relay;
+#[cfg(test)]
 mod tests;

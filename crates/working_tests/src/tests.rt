@@ -1,5 +1,6 @@
-//! Tests of a line of two boxes with bells alone.
+//! Tests of lines with bells alone.
 
 mod calls;
 mod desk;
 mod held;
+mod waiting;

@@ -1,5 +1,6 @@
 //! The line of the tests, what its men have told, and the one assertion.
 
+ghost use Rattle.std.specs.Prelude.{◌≤◌};
 ghost use Rattle.working_tests.specs.Scripts.{AreForBoxes};
 
 use crate::line::{read_scripts, worked};
@@ -41,18 +42,20 @@ fn have_told(men: &[Signalman], replies: &[&[Reply]]) -> bool {
             .all(|(man, told)| are_entries(man.entries(), told))
 }
 
-// Works scripts of a plan's boxes, with three looks an await. Do the men have these replies?
+// Works scripts of a plan's boxes, with so many looks an await. Do the men have these replies?
 fn are_told_by<R: Threads + Wait + Sync, G: Gate>(
     rt: &R,
     alloc: Global,
     plan: &Plan,
     scripts: &[Script],
+    looks: u32,
     gate: &G,
     replies: &[&[Reply]],
 ) -> Result<bool, NoMemory>
-    requires { AreForBoxes plan.now scripts.now }
+    requires scripts { AreForBoxes plan.now scripts.now }
+    requires looks { 1 ≤ looks }
 {
-    let men = worked(rt, alloc, plan, scripts, 3, gate)?;
+    let men = worked(rt, alloc, plan, scripts, looks, gate)?;
     let are_so = have_told(&men, replies);
     drop(men);
     Ok(are_so)
@@ -63,17 +66,42 @@ fn are_told<R: Threads + Wait + Sync, G: Gate>(
     rt: &R,
     alloc: Global,
     plan: &Plan,
+    looks: u32,
     texts: &[&str],
     gate: &G,
     replies: &[&[Reply]],
-) -> Result<bool, ReadError> {
+) -> Result<bool, ReadError>
+    requires { 1 ≤ looks }
+{
     if texts.len() != plan.boxes.len() {
         return Ok(false);
     }
     let scripts = read_scripts(alloc, plan, texts)?;
-    let are_so = are_told_by(rt, alloc, plan, &scripts, gate, replies);
+    let are_so = are_told_by(rt, alloc, plan, &scripts, looks, gate, replies);
     drop(scripts);
     Ok(are_so?)
+}
+
+/// Works scripts of the boxes of a plan, with so many looks an await. Do the men have these replies?
+///
+/// # Errors
+///
+/// `Refused` where a text is no plan or no script of its box, `NoMemory` where memory runs out.
+pub fn are_replies_on<R: Threads + Wait + Sync, G: Gate>(
+    rt: &R,
+    alloc: Global,
+    plan: &str,
+    looks: u32,
+    texts: &[&str],
+    gate: &G,
+    replies: &[&[Reply]],
+) -> Result<bool, ReadError>
+    requires { 1 ≤ looks }
+{
+    let plan = read_plan(alloc, plan.as_bytes())?;
+    let are_so = are_told(rt, alloc, &plan, looks, texts, gate, replies);
+    drop(plan);
+    are_so
 }
 
 /// Works scripts of the two boxes, with three looks an await. Do the men have these replies?
@@ -88,8 +116,5 @@ pub fn are_replies<R: Threads + Wait + Sync, G: Gate>(
     gate: &G,
     replies: &[&[Reply]],
 ) -> Result<bool, ReadError> {
-    let plan = read_plan(alloc, BELLS.as_bytes())?;
-    let are_so = are_told(rt, alloc, &plan, texts, gate, replies);
-    drop(plan);
-    are_so
+    are_replies_on(rt, alloc, BELLS, 3, texts, gate, replies)
 }

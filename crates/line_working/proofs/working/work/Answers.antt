@@ -35,12 +35,12 @@ perform_pausing-reply-requires-clause-spare g c =
     omega arith
 
 pub perform_pausing-reply-requires-clause-known : goal.perform_pausing-reply-requires-clause-known
-perform_pausing-reply-requires-clause-known g c = (next_call _ _ _ _ _ _ _ c.as_slice-call-items.ensures c.loop-i-test.true
-    c.loop-i.invariant.rest).known
+perform_pausing-reply-requires-clause-known g c = (next_call _ _ _ _ _ _ _ c.as_slice-call-items.ensures
+    c.loop-i-test.true c.loop-i.invariant.rest).known
 
 pub perform_pausing-reply-requires-clause-later : goal.perform_pausing-reply-requires-clause-later
-perform_pausing-reply-requires-clause-later g c = (next_call _ _ _ _ _ _ _ c.as_slice-call-items.ensures c.loop-i-test.true
-    c.loop-i.invariant.rest).later
+perform_pausing-reply-requires-clause-later g c = (next_call _ _ _ _ _ _ _ c.as_slice-call-items.ensures
+    c.loop-i-test.true c.loop-i.invariant.rest).later
 
 pub loop-i-preserved : goal.loop-i-preserved
 loop-i-preserved g c =
@@ -57,7 +57,8 @@ loop-i-preserved g c =
           (next_call _ _ _ _ _ _ _ c.as_slice-call-items.ensures c.loop-i-test.true now.rest).rest);
       entries = c.perform_pausing-reply.ensures.entries ∙ ap (λ (b : ℕ). part_of b new.view.seen) now.box_no;
       spare = (let e = c.perform_pausing-reply.ensures.spare in let n = now.spare in omega arith);
-      moment = moment_on _ _ _ _ _ _ c.as_slice-call-items.ensures c.loop-i-test.true c.perform_pausing-reply.ensures.moment;
+      moment = moment_on _ _ _ _ _ _ c.as_slice-call-items.ensures c.loop-i-test.true
+          c.perform_pausing-reply.ensures.moment;
       worked = one_more_of _ _ _ _ _ _ _ _ _ _ _ _ now.box_no c.as_slice-call-items.ensures c.loop-i-test.true
           now.worked c.perform_pausing-reply.ensures.performed;
     }
