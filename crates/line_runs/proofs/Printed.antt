@@ -54,7 +54,8 @@ in_halves plan es half front behind first second within =
     let counted : 1 + length (take half es) ≡ half + 1 = omega (arith, length-take half es, within) in
     record {
       journal = rw (first.journal, second.journal)
-          (append_assoc (heading_text plan) (entries_text plan 1 (take half es)) (entries_text plan (half + 1) (drop half es))
+          (append_assoc (heading_text plan) (entries_text plan 1 (take half es))
+          (entries_text plan (half + 1) (drop half es))
           ∙ ap (λ (t : List ℕ). heading_text plan ++ t)
           (ap (λ (n : ℕ). entries_text plan 1 (take half es) ++ entries_text plan n (drop half es)) (sym counted)
           ∙ (sym (entries_text-append plan 1 (take half es) (drop half es)) ∙ ap (entries_text plan 1) parts)));

@@ -24,7 +24,8 @@ output_text plan es = journal_text plan es ++ (registers_text plan es ++ result_
 -- and the lines of the refused calls of both halves, with what stands before and behind these
 abbrev pub rest_text : List ℕ → List (List ℕ) → List ℕ → List ℕ → List ℕ → List ℕ → List ℕ
 rest_text journal registers heading refused_front refused_behind sections =
-    journal ++ codes "end\n" ++ flat_map (λ text. text) registers ++ heading ++ refused_front ++ refused_behind ++ sections
+    journal ++ codes "end\n" ++ flat_map (λ text. text) registers ++ heading ++ refused_front ++ refused_behind
+    ++ sections
 
 -- a text is the whole output of a journal of this run
 abbrev pub IsOutputOf : Run → List ℕ → Type 0

@@ -12,6 +12,7 @@ mod rest;
 mod roster;
 mod run;
 mod serial;
+mod sizes;
 mod stress;
 mod turns;
 mod watch;

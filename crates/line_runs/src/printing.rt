@@ -17,6 +17,7 @@ use crate::copying::{CopiedLines, copy_from};
 use crate::counting::print_counts;
 use crate::registers::PrintedRegisters;
 use crate::rest::OutputRest;
+use crate::sizes::{journal_room, output_room};
 use crate::worked::{WorkedLine, merged_entries};
 use line_journal::{Merged, Walk};
 use line_plan::Plan;
@@ -29,10 +30,6 @@ use train_register::{Ended, Register, print_register};
 
 // How many times over the registers are cut in halves, each printed on a thread.
 const CUTS: u32 = 2;
-
-// How much longer a line of the journal is than the register's, with a box's name and a number of more digits. It is
-// only room that is made at once.
-const LONGER: usize = 16;
 
 // Prints these registers, one after another, behind others.
 fn push_each(
@@ -223,28 +220,120 @@ fn copy_behind(
     copied
 }
 
-// The journal's first line and the lines of all entries, copied from the registers that are printed: those of its front
-// half on one thread, the others on another.
-fn copy_halves<R: Threads + Sync>(
-    rt: &R,
+// What stands before and behind the lines of the refused calls, and room for the whole output. Each byte of it is
+// written once, since to take the memory is most of what it costs to fill it.
+fn counts_and_room(
     alloc: Global,
     plan: &Plan,
     merged: &Merged<'_>,
     registers: &PrintedRegisters,
-) -> Result<(CopiedLines, CopiedLines), NoMemory>
-    requires { HasTexts plan.now merged.now registers.now }
-    ensures { IfOk result (λ r. AreHalves plan.now merged.now r.0 r.1) }
+) -> Result<((Vec<u8>, Vec<u8>), Vec<u8>), NoMemory>
+    requires legal { IsLegal plan.now merged.now }
+    requires few { AreFewEntries merged.now }
+    ensures { IfOk result (λ r. AreCountsTold plan.now merged.now r.0.0.items r.0.1.items) }
 {
-    let half = merged.len() / 2;
-    let room = registers
-        .room()
-        .saturating_add(merged.len().saturating_mul(LONGER))
-        / 2;
+    let (told, refused) = print_counts(alloc, plan, merged)?;
+    let bytes = output_room(merged.len(), refused, registers.room());
+    match Vec::from_elem(alloc, 0u8, bytes) {
+        Ok(room) => Ok((told, room)),
+        Err(AllocError) => {
+            drop(told);
+            Err(NoMemory)
+        }
+    }
+}
+
+// The same text, in room that was made for it and what comes behind it.
+fn in_room(room: Vec<u8>, text: Vec<u8>) -> Result<Vec<u8>, AllocError>
+    ensures { IfOk result (λ moved. moved.items ≡ text.items) }
+{
+    let mut moved = room;
+    moved.clear();
+    let put = moved.extend_from_slice(&text);
+    drop(text);
+    match put {
+        Ok(()) => Ok(moved),
+        Err(error) => {
+            drop(moved);
+            Err(error)
+        }
+    }
+}
+
+// The same lines, those of the journal in room for the whole output, and what was counted.
+fn lines_in_room(
+    copied: CopiedLines,
+    counted: ((Vec<u8>, Vec<u8>), Vec<u8>),
+) -> Result<(CopiedLines, (Vec<u8>, Vec<u8>)), NoMemory>
+    ensures lines { IfOk result (λ r. r.0 ≡ copied) }
+    ensures counts { IfOk result (λ r. r.1 ≡ counted.0) }
+{
+    let CopiedLines { journal, refused } = copied;
+    let (counts, room) = counted;
+    match in_room(room, journal) {
+        Ok(journal) => Ok((CopiedLines { journal, refused }, counts)),
+        Err(AllocError) => {
+            drop(refused);
+            drop(counts);
+            Err(NoMemory)
+        }
+    }
+}
+
+// The journal's first line and the lines of its front half, in room for the whole output, and what stands before and
+// behind the lines of the refused calls. While the lines are copied from the registers, the refused calls and the most
+// trains of the sections are counted and printed on a thread, and room is made there.
+fn front_and_counts<R: Threads + Sync>(
+    rt: &R,
+    alloc: Global,
+    plan: &Plan,
+    merged: &Merged<'_>,
+    half: usize,
+    registers: &PrintedRegisters,
+    room: usize,
+) -> Result<(CopiedLines, (Vec<u8>, Vec<u8>)), NoMemory>
+    requires texts { HasTexts plan.now merged.now registers.now }
+    requires half { half ≤ length merged.now }
+    ensures front { IfOk result
+        (λ r. AreCopied plan.now (heading_text plan.now) 1 (take half merged.now) r.0) }
+    ensures counts { IfOk result (λ r. AreCountsTold plan.now merged.now r.1.0.items r.1.1.items) }
+{
     let front = || -> Result<CopiedLines, NoMemory>
         requires { HasTexts plan.now merged.now registers.now × (half ≤ length merged.now) }
         ensures { IfOk result
             (AreCopied plan.entry.now (heading_text plan.entry.now) 1 (take half merged.entry.now)) }
     { copy_front(alloc, plan, merged, half, registers, room) };
+    let counts = || -> Result<((Vec<u8>, Vec<u8>), Vec<u8>), NoMemory>
+        requires { IsLegal plan.now merged.now × AreFewEntries merged.now }
+        ensures { IfOk result (λ r. AreCountsTold plan.entry.now merged.entry.now r.0.0.items r.0.1.items) }
+    { counts_and_room(alloc, plan, merged, registers) };
+    let (front, counts) = join(rt, front, counts);
+    let both = both_made(front, counts)?;
+    lines_in_room(both.0, both.1)
+}
+
+// The journal's first line and the lines of all entries, copied from the registers that are printed, and what stands
+// before and behind the lines of the refused calls. The lines of the journal's front half are copied on one thread, the
+// others on another.
+fn copied_and_counted<R: Threads + Sync>(
+    rt: &R,
+    alloc: Global,
+    plan: &Plan,
+    merged: &Merged<'_>,
+    registers: &PrintedRegisters,
+) -> Result<((CopiedLines, (Vec<u8>, Vec<u8>)), CopiedLines), NoMemory>
+    requires { HasTexts plan.now merged.now registers.now }
+    ensures halves { IfOk result (λ r. AreHalves plan.now merged.now r.0.0 r.1) }
+    ensures counts { IfOk result (λ r. AreCountsTold plan.now merged.now r.0.1.0.items r.0.1.1.items) }
+{
+    let half = merged.len() / 2;
+    let room = journal_room(merged.len(), registers.room()) / 2;
+    let front = || -> Result<(CopiedLines, (Vec<u8>, Vec<u8>)), NoMemory>
+        requires { HasTexts plan.now merged.now registers.now × (half ≤ length merged.now) }
+        ensures { IfOk result (λ r.
+            AreCopied plan.entry.now (heading_text plan.entry.now) 1 (take half merged.entry.now) r.0
+            × AreCountsTold plan.entry.now merged.entry.now r.1.0.items r.1.1.items) }
+    { front_and_counts(rt, alloc, plan, merged, half, registers, room) };
     let behind = || -> Result<CopiedLines, NoMemory>
         requires { HasTexts plan.now merged.now registers.now × (half ≤ length merged.now) }
         ensures { IfOk result (AreCopied plan.entry.now [] (half + 1) (drop half merged.entry.now)) }
@@ -253,44 +342,18 @@ fn copy_halves<R: Threads + Sync>(
     both_made(front, behind)
 }
 
-// What is copied of both halves of a journal, and what stands before and behind the lines of its refused calls. The
-// refused calls and the most trains of the sections are counted and printed on a thread, while the journal is copied
-// from the registers.
-fn copied_and_counted<R: Threads + Sync>(
-    rt: &R,
-    alloc: Global,
-    plan: &Plan,
-    merged: &Merged<'_>,
-    registers: &PrintedRegisters,
-) -> Result<((CopiedLines, CopiedLines), (Vec<u8>, Vec<u8>)), NoMemory>
-    requires { HasTexts plan.now merged.now registers.now }
-    ensures halves { IfOk result (λ r. AreHalves plan.now merged.now r.0.0 r.0.1) }
-    ensures counts { IfOk result (λ r. AreCountsTold plan.now merged.now r.1.0.items r.1.1.items) }
-{
-    let halves = || -> Result<(CopiedLines, CopiedLines), NoMemory>
-        requires { HasTexts plan.now merged.now registers.now }
-        ensures { IfOk result (λ r. AreHalves plan.entry.now merged.entry.now r.0 r.1) }
-    { copy_halves(rt, alloc, plan, merged, registers) };
-    let counts = || -> Result<(Vec<u8>, Vec<u8>), NoMemory>
-        requires { IsLegal plan.now merged.now × AreFewEntries merged.now }
-        ensures { IfOk result (λ r. AreCountsTold plan.entry.now merged.entry.now r.0.items r.1.items) }
-    { print_counts(alloc, plan, merged) };
-    let (halves, counts) = join(rt, halves, counts);
-    both_made(halves, counts)
-}
-
 // The output of a line, up to the lines of its journal's front half, and the rest: by what was copied of both halves of
 // its journal, the registers, and what stands before and behind the lines of the refused calls.
 fn put_together(
-    halves: (CopiedLines, CopiedLines),
-    registers: PrintedRegisters,
+    front: CopiedLines,
     counts: (Vec<u8>, Vec<u8>),
+    behind: CopiedLines,
+    registers: PrintedRegisters,
 ) -> (Vec<u8>, OutputRest)
-    ensures front { result.0.items ≡ halves.0.journal }
-    ensures rest { result.1 ≡ rest_text halves.1.journal registers counts.0.items halves.0.refused halves.1.refused
+    ensures front { result.0.items ≡ front.journal }
+    ensures rest { result.1 ≡ rest_text behind.journal registers counts.0.items front.refused behind.refused
         counts.1.items }
 {
-    let (front, behind) = halves;
     let (heading, sections) = counts;
     let rest = OutputRest {
         journal: behind.journal,
@@ -303,8 +366,8 @@ fn put_together(
     (front.journal, rest)
 }
 
-/// The whole output of a line, by its journal, where its registers are printed already: up to the lines of the journal's
-/// front half, and the rest.
+/// The whole output of a line, by its journal, where its registers are printed already: up to the lines of the
+/// journal's front half, with room for all of it, and the rest.
 pub(crate) fn print_whole<R: Threads + Sync>(
     rt: &R,
     alloc: Global,
@@ -316,7 +379,7 @@ pub(crate) fn print_whole<R: Threads + Sync>(
     ensures { IfOk result (λ r. r.0.items ++ r.1 ≡ output_text plan.now merged.now) }
 {
     match copied_and_counted(rt, alloc, plan, merged, &registers) {
-        Ok((halves, counts)) => Ok(put_together(halves, registers, counts)),
+        Ok((front, behind)) => Ok(put_together(front.0, front.1, behind, registers)),
         Err(NoMemory) => {
             drop(registers);
             Err(NoMemory)

@@ -66,7 +66,8 @@ impl OutputRest {
     }
 }
 
-/// The front of an output, the rest of it, and a text behind them, as one text. What is asked for is room for the whole.
+/// The front of an output, the rest of it, and a text behind them, as one text. The front has room for the whole as a
+/// rule; where it hasn't, room is asked for.
 pub(crate) fn whole_text(
     front: Vec<u8>,
     rest: OutputRest,

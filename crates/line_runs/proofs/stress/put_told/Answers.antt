@@ -13,7 +13,8 @@ returns c es counted calls =
     let refused = c.args.counts.now.refused in
     let old = string_bytes c.args.out.now in
     let are : AreCounts plan es refused c.deref.result.now =
-    subst (λ (trains : List (ByWay HeldTrains)). AreCounts plan es refused trains) (sym c.deref.ensures.value) counted in
+    subst (λ (trains : List (ByWay HeldTrains)). AreCounts plan es refused trains) (sym c.deref.ensures.value)
+    counted in
     let put =
     c.in_ok-put_counts.ensures ∙ ap (λ (n : ℕ). old ++ counts_text c.args.trains plan n refused) calls in
     on_ok_weaker c.put_sections.result (summary_told c.args.trains plan es refused c.deref.result.now old _ _ are put)
