@@ -1,13 +1,13 @@
 //! Audits of legal journals: which entries break which of the nine rules.
 
 ghost use Rattle.line_law.specs.History.{IsLegal};
-ghost use Rattle.line_report.specs.Asked.{AreAsked, AreFewEntries};
+ghost use Rattle.line_report.specs.Asked.{AreFewEntries};
 
 use crate::facts::none_is_wrong;
+use crate::legal::legal_journal;
 use crate::lines::absolute;
 use line_law::Journal;
 use line_plan::Plan;
-use line_report::{Verdict, judge, read_journal};
 use plan_text::read_plan;
 use rail_text::{NoMemory, ReadError};
 use reg_audit::{Breach, audit};
@@ -207,28 +207,16 @@ fn names(
     Ok(are_wanted)
 }
 
-// Is the journal legal, and does an audit name these breaches?
-fn is_audited_as(
-    alloc: Global,
-    plan: &Plan,
-    journal: &Journal,
-    wanted: &[(u32, u8)],
-) -> Result<bool, NoMemory>
-    requires asked { AreAsked plan.now journal.now.entries }
-    requires few { AreFewEntries journal.now.entries }
-{
-    match judge(alloc, plan, journal)? {
-        Verdict::Legal => names(alloc, plan, journal, wanted),
-        Verdict::WrongAt { .. } => Ok(false),
-    }
-}
-
-// The same of the journal that a text spells.
+// Is the journal that a text spells legal, and does an audit name these breaches?
 fn audits(alloc: Global, plan: &Plan, text: &str, wanted: &[(u32, u8)]) -> Result<bool, ReadError> {
-    let journal = read_journal(alloc, plan, text.as_bytes())?;
-    let are_named = is_audited_as(alloc, plan, &journal, wanted);
-    drop(journal);
-    Ok(are_named?)
+    match legal_journal(alloc, plan, text)? {
+        Some(journal) => {
+            let are_named = names(alloc, plan, &journal, wanted);
+            drop(journal);
+            Ok(are_named?)
+        }
+        None => Ok(false),
+    }
 }
 
 // The first journal of which an audit names other breaches.

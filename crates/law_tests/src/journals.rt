@@ -4,11 +4,11 @@
 ghost use Rattle.std.specs.Prelude.{All};
 ghost use Rattle.line_journal.specs.Lists.{HaveEnded};
 ghost use Rattle.line_law.specs.History.{IsLegal};
-ghost use Rattle.line_report.specs.Asked.{AreAsked, AreFewEntries};
 ghost use Rattle.script_text.specs.Entries.{IsSpelled};
 
 use crate::chains::{chain, told_in_turn, worked_from_the_end};
 use crate::facts::{holds, none_is_wrong};
+use crate::legal::legal_journal;
 use crate::lines::{absolute, in_seconds, permissive, upwards};
 use line_journal::{
     Merged, Walk, exchange_law, merge, merged, one_order_law, order_law, parts_law, reply_law,
@@ -16,7 +16,7 @@ use line_journal::{
 use line_law::{Entry, Journal};
 use line_maker::make_line;
 use line_plan::Plan;
-use line_report::{Verdict, judge, read_journal};
+use line_report::read_journal;
 use rail_text::{NoMemory, ReadError};
 use std::alloc::Global;
 use std::test::Fail;
@@ -466,8 +466,8 @@ fn ends_as(alloc: Global, plan: &Plan, ended: &Ended, entries: &[Entry]) -> Resu
     Ok(is_merged & are_told)
 }
 
-// Are the registers of a legal history merged into this journal, and do they tell the history where its boxes are told?
-fn merges_as(
+/// Are the registers of a legal history merged into this journal, and do they tell the history where its boxes are told?
+pub fn merges_as(
     alloc: Global,
     plan: &Plan,
     worked: &Journal,
@@ -487,23 +487,6 @@ fn merges_as(
     Ok(is_told? & is_merged?)
 }
 
-/// Is a history legal, and are its registers merged into this journal?
-pub fn is_merged_as(
-    alloc: Global,
-    plan: &Plan,
-    worked: &Journal,
-    wanted: &Journal,
-) -> Result<bool, NoMemory>
-    requires asked { AreAsked plan.now worked.now.entries }
-    requires few { AreFewEntries worked.now.entries }
-    requires spelled { All (IsSpelled plan.now) worked.now.entries }
-{
-    match judge(alloc, plan, worked)? {
-        Verdict::Legal => merges_as(alloc, plan, worked, wanted),
-        Verdict::WrongAt { .. } => Ok(false),
-    }
-}
-
 // Is the history that a text spells legal, and are its registers merged into this journal?
 fn merges_into(
     alloc: Global,
@@ -511,10 +494,14 @@ fn merges_into(
     worked: &str,
     wanted: &Journal,
 ) -> Result<bool, ReadError> {
-    let worked = read_journal(alloc, plan, worked.as_bytes())?;
-    let is_so = is_merged_as(alloc, plan, &worked, wanted);
-    drop(worked);
-    Ok(is_so?)
+    match legal_journal(alloc, plan, worked)? {
+        Some(worked) => {
+            let is_so = merges_as(alloc, plan, &worked, wanted);
+            drop(worked);
+            Ok(is_so?)
+        }
+        None => Ok(false),
+    }
 }
 
 // The same with the journal that another text spells.

@@ -17,6 +17,8 @@ mod journals;
 #[cfg(test)]
 mod laws;
 #[cfg(test)]
+mod legal;
+#[cfg(test)]
 mod lines;
 #[cfg(test)]
 mod made;

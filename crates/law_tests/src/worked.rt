@@ -2,18 +2,20 @@
 //! section holds in the end, and the most that it held. What is printed of them is shown by the worked cases.
 
 ghost use Rattle.std.specs.Prelude.{◌↔◌, All, IsTrue};
+ghost use Rattle.line_law.specs.History.{IsLegal};
 ghost use Rattle.line_law.specs.Lines.{IsLineOf};
 ghost use Rattle.line_plan.specs.Sections.{IsSection};
-ghost use Rattle.line_report.specs.Asked.{AreAsked, AreFewEntries};
+ghost use Rattle.line_report.specs.Asked.{AreFewEntries};
 ghost use Rattle.script_text.specs.Entries.{IsSpelled};
 
 use crate::facts::{first_untrue, holds, none_is_wrong};
-use crate::journals::is_merged_as;
+use crate::journals::merges_as;
+use crate::legal::legal_journal;
 use crate::lines::{absolute, permissive};
 use block_words::Way;
 use line_law::{Act, Call, Entry, Journal, Plain, knows, knows_outgoing};
 use line_plan::{Plan, Section};
-use line_report::{Verdict, judge, may_judge, most_trains, read_journal};
+use line_report::{may_judge, most_trains};
 use rail_text::{NoMemory, ReadError};
 use std::alloc::Global;
 use std::test::Fail;
@@ -121,17 +123,15 @@ fn comes_to_beech(plan: &Plan, limit: u32) -> bool {
     (DOWN.advance(plan) == 1) & (DOWN.limit(plan) == limit) & has_ends
 }
 
-// The most trains that the section held in a journal, where that is legal.
+// The most trains that the section held in a legal journal, where it is one of the plan.
 fn most_held(alloc: Global, plan: &Plan, journal: &Journal) -> Result<Option<u32>, NoMemory>
-    requires { AreFewEntries journal.now.entries }
+    requires legal { IsLegal plan.now journal.now.entries }
+    requires few { AreFewEntries journal.now.entries }
 {
     if !is_section(plan, DOWN) || !may_judge(alloc, plan, journal)? {
         return Ok(None);
     }
-    match judge(alloc, plan, journal)? {
-        Verdict::Legal => Ok(Some(most_trains(alloc, plan, journal, DOWN)?)),
-        Verdict::WrongAt { .. } => Ok(None),
-    }
+    Ok(Some(most_trains(alloc, plan, journal, DOWN)?))
 }
 
 // Makes a call on a line, where it may be made. Are its answer and its reply the one that stands beside it?
@@ -170,8 +170,8 @@ fn held_after(alloc: Global, plan: &Plan, entries: &[Entry]) -> Result<Option<u3
     Ok(if are_so { Some(held) } else { None })
 }
 
-// Makes the calls of a journal. Does the section then hold so many trains, held it so many at most, and is the journal
-// merged again from its registers?
+// Makes the calls of a legal journal. Does the section then hold so many trains, held it so many at most, and is the
+// journal merged again from its registers?
 fn is_worked(
     alloc: Global,
     plan: &Plan,
@@ -179,22 +179,26 @@ fn is_worked(
     held: u32,
     most: u32,
 ) -> Result<bool, NoMemory>
-    requires asked { AreAsked plan.now journal.now.entries }
+    requires legal { IsLegal plan.now journal.now.entries }
     requires few { AreFewEntries journal.now.entries }
     requires spelled { All (IsSpelled plan.now) journal.now.entries }
 {
     let in_the_end = held_after(alloc, plan, journal.entries.as_slice())?;
     let at_most = most_held(alloc, plan, journal)?;
-    let is_merged = is_merged_as(alloc, plan, journal, journal)?;
+    let is_merged = merges_as(alloc, plan, journal, journal)?;
     Ok((in_the_end == Some(held)) & (at_most == Some(most)) & is_merged)
 }
 
-// The same of the journal that a text spells.
+// Is the journal that a text spells legal, and is it worked so?
 fn works(alloc: Global, plan: &Plan, text: &str, held: u32, most: u32) -> Result<bool, ReadError> {
-    let journal = read_journal(alloc, plan, text.as_bytes())?;
-    let is_so = is_worked(alloc, plan, &journal, held, most);
-    drop(journal);
-    Ok(is_so?)
+    match legal_journal(alloc, plan, text)? {
+        Some(journal) => {
+            let is_so = is_worked(alloc, plan, &journal, held, most);
+            drop(journal);
+            Ok(is_so?)
+        }
+        None => Ok(false),
+    }
 }
 
 // The journals of an absolute line, with the trains that its section holds in the end, and the most that it held.
