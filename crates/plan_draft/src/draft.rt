@@ -126,8 +126,9 @@ impl Model for PlanDraft {
         × (in_box d.stage ≡ true → vec_len d.boxes < vec_capacity d.boxes) };
 }
 
-ghost use Rattle.std.specs.Prelude.{◌≡◌, ◌<◌, ◌≤◌, ◌+◌, ◌++◌, [], ◌∷◌, length, true, IfOk, OnErr, OnOk, None, vec_len};
-ghost use Rattle.std.specs.Prelude.{vec_capacity};
+ghost use Rattle.std.specs.Prelude.{◌≡◌, ◌<◌, ◌≤◌, ◌+◌, ◌^◌, ◌++◌, [], ◌∷◌, length, true, false, bytes_eq, IfOk, OnErr};
+ghost use Rattle.std.specs.Prelude.{OnOk, None, vec_len, vec_capacity};
+ghost use Rattle.std.specs.List.{list_any};
 ghost use Rattle.bell_codes.specs.Table.{code_number, opening_codes};
 ghost use Rattle.plan_draft.specs.Drafts.{boxes_with, in_box, opening_classes};
 ghost use Rattle.line_plan.specs.Plans.{opening_names};
@@ -221,6 +222,64 @@ fn no_label(alloc: Global) -> Label
     Label::from_string(String::new(alloc))
 }
 
+// A class more under the next code number, with its code and its name, which are new. Where memory runs out, only the
+// code may stand.
+fn push_class(
+    alloc: Global,
+    codes: &mut CodeTable,
+    names: &mut Names,
+    classes: &mut Vec<Class>,
+    name: &str,
+    code: Code,
+) -> Result<(), NoMemory>
+    requires new { code_number codes.old code ≡ None }
+    requires room { length codes.old < 200 }
+    requires few { length names.old < 2 ^ 32 }
+    requires name { list_any (bytes_eq name.now) names.old ≡ false }
+    ensures codes { OnOk result (codes.new ≡ codes.old ++ code ∷ []) }
+    ensures names { OnOk result (names.new ≡ names.old ++ name.now ∷ []) }
+    ensures classes { OnOk result (classes.new.items
+        ≡ classes.old.items ++ record { name = name.now; code = length codes.old + 1 } ∷ []) }
+    ensures grown { length codes.old ≤ length codes.new }
+    ensures same_names { OnErr result (names.new ≡ names.old) }
+    ensures same_classes { OnErr result (classes.new.items ≡ classes.old.items) }
+{
+    classes.reserve(1)?;
+    let number = add_code(codes, code)?;
+    let name = add_label(alloc, names, name)?;
+    classes.push_reserved(Class { name, code: number });
+    Ok(())
+}
+
+// A train more, with its name, which is new.
+fn push_train(
+    alloc: Global,
+    names: &mut Names,
+    trains: &mut Vec<TrainPlan>,
+    name: &str,
+    class_no: u32,
+    box_no: u32,
+    place: u32,
+) -> Result<(), NoMemory>
+    requires few { length names.old < 2 ^ 32 }
+    requires name { list_any (bytes_eq name.now) names.old ≡ false }
+    ensures names { OnOk result (names.new ≡ names.old ++ name.now ∷ []) }
+    ensures trains { OnOk result (trains.new.items
+        ≡ trains.old.items ++ record { name = name.now; class_no = class_no; box_no = box_no; place = place } ∷ []) }
+    ensures same_names { OnErr result (names.new ≡ names.old) }
+    ensures same_trains { OnErr result (trains.new.items ≡ trains.old.items) }
+{
+    trains.reserve(1)?;
+    let name = add_label(alloc, names, name)?;
+    trains.push_reserved(TrainPlan {
+        name,
+        class_no,
+        box_no,
+        place,
+    });
+    Ok(())
+}
+
 // A box whose lines were being read is complete. There is room for it.
 fn put_away(stage: Stage, boxes: &mut Vec<BoxPlan>, here: BoxPlan)
     requires { in_box stage ≡ true → vec_len boxes.old < vec_capacity boxes.old }
@@ -305,13 +364,14 @@ impl PlanDraft {
         if self.codes.len() >= CodeTable::MOST {
             return Err(LineFault::Cause(Cause::TooMany));
         }
-        self.classes.reserve(1)?;
-        let number = add_code(&mut self.codes, code)?;
-        let label = add_label(self.alloc, &mut self.class_names, name)?;
-        self.classes.push_reserved(Class {
-            name: label,
-            code: number,
-        });
+        push_class(
+            self.alloc,
+            &mut self.codes,
+            &mut self.class_names,
+            &mut self.classes,
+            name,
+            code,
+        )?;
         self.stage = Stage::Class;
         Ok(())
     }
@@ -365,14 +425,15 @@ impl PlanDraft {
         if self.trains.len() >= MOST_PLAN_TRAINS {
             return Err(LineFault::Cause(Cause::TooMany));
         }
-        self.trains.reserve(1)?;
-        let label = add_label(self.alloc, &mut self.train_names, name)?;
-        self.trains.push_reserved(TrainPlan {
-            name: label,
+        push_train(
+            self.alloc,
+            &mut self.train_names,
+            &mut self.trains,
+            name,
             class_no,
             box_no,
             place,
-        });
+        )?;
         Ok(())
     }
 
