@@ -466,7 +466,8 @@ fn ends_as(alloc: Global, plan: &Plan, ended: &Ended, entries: &[Entry]) -> Resu
     Ok(is_merged & are_told)
 }
 
-/// Are the registers of a legal history merged into this journal, and do they tell the history where its boxes are told?
+/// Are the registers of a legal history merged into this journal, and do they tell the history where its boxes are
+/// told?
 pub fn merges_as(
     alloc: Global,
     plan: &Plan,

@@ -3,7 +3,7 @@
 use line_plan::Plan;
 use plan_text::read_plan;
 use rail_text::ReadError;
-use std::alloc::Global;
+use std::alloc::{AllocError, Global};
 
 // A plan of this version, with this delay: a frame with its locking and a starter at Ash, a home signal and a berth at
 // Beech, a section on the down line with what a line says of it, and six trains.
@@ -38,6 +38,17 @@ box Beech\nplace P\nlever 1 signal\nstarter up 1 P\n\
 train t1 ordinary Beech P\ntrain t2 express Beech P\ntrain t3 light Beech P\n\
 train t4 empty Beech P\ntrain t5 light Beech P\nend\n";
 
+/// Two boxes with their names alone.
+pub const NAMES: &str = "plan 1\nboxes 2\ndelay 2\nlooks 1000000000\nbox Ash\nbox Beech\nend\n";
+
+// Ash has a starter. Beech, in the middle, has berths, starters, signals and two rows.
+const BOXES: &str = "class parcels 1-3\nbox Ash\nplace P\nlever 2 signal\nstarter down 2 P\n\
+box Beech\nplace DB\nplace DP\nplace UB\nplace UP\n\
+lever 1 signal\nlever 2 signal\nlever 3 signal\nlever 4 signal\nlever 7 points\nlever 120 spare\n\
+signal 1 DB DP\nsignal 3 UB UP\nstarter down 2 DP\nstarter up 4 UP\nberth up UB\nberth down DB\n\
+clear up UP\ntrack 7 DP\nrow 1 locks 7 normal\nrow 3 locks 7 normal\nbox Cedar\nplace P\n\
+train t1 ordinary Ash P\ntrain given light Beech DP\ntrain none empty Beech UP\nend\n";
+
 /// Two boxes with an absolute line between them.
 pub fn absolute(alloc: Global) -> Result<Plan, ReadError> {
     read_plan(alloc, ABSOLUTE.as_bytes())
@@ -56,4 +67,20 @@ pub fn in_seconds(alloc: Global) -> Result<Plan, ReadError> {
 /// Two boxes with an absolute line from the second to the first.
 pub fn upwards(alloc: Global) -> Result<Plan, ReadError> {
     read_plan(alloc, UPWARDS.as_bytes())
+}
+
+// Three boxes, in a version.
+fn three_boxes(alloc: Global, version: u8) -> Result<String, AllocError> {
+    let mut text = String::new(alloc);
+    write!(text, "plan {version}\nboxes 3\ndelay 2\nlooks 9\n")?;
+    text.push_str(BOXES)?;
+    Ok(text)
+}
+
+/// The plan of three boxes, in a version.
+pub fn plan_of_three(alloc: Global, version: u8) -> Result<Plan, ReadError> {
+    let text = three_boxes(alloc, version)?;
+    let plan = read_plan(alloc, text.as_bytes());
+    drop(text);
+    plan
 }

@@ -222,8 +222,8 @@ fn first_unworked(alloc: Global, plan: &Plan) -> Result<Option<&'static str>, Re
 
 const UP: Way = Way::Up;
 
-// Calls of boxes, and whether the plan of an absolute line knows them: at its first moment, and in the last of a day and
-// behind it.
+// Calls of boxes, and whether the plan of an absolute line knows them: at its first moment, and in the last of a day
+// and behind it.
 const CALLS: [(u32, u32, Act, bool); 16] = [
     (0, 0, Act::Pull { lever: 8 }, true),
     (0, 0, Act::Pull { lever: 9 }, false),
