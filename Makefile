@@ -1,7 +1,7 @@
 # The crates whose tests try what no words reach.
 TESTS = $(patsubst crates/%/,%,$(wildcard crates/*_tests/))
 
-.PHONY: demo build cases quick $(TESTS) bench soak faults edge sizes planted contracts test
+.PHONY: demo build cases quick $(TESTS) bench soak loaded faults edge sizes planted contracts test
 
 example = run data/example.plan data/ash.script data/beech.script data/cedar.script
 
@@ -28,16 +28,21 @@ $(TESTS):
 	cd crates/$@ && rt try --test --seconds 580
 
 # Times the program that `make build` leaves on large inputs, which are made first, beside any other program of the same
-# commands: make bench BESIDE="PROGRAM..". It takes some minutes, and wants a quiet machine.
+# commands: make bench BESIDE="PROGRAM..". It takes some minutes, and wants a quiet machine; the load of its second table
+# it makes itself.
 bench:
 	python3 bench/times.py $(BESIDE) crates/box_main/out/box_main
 
-# Four that try the program that `make build` leaves: it works made lines for MINUTES, with bad signalmen; each allocation
-# is refused in turn; bad files, outputs and words; the greatest texts. Each stops with status 0 where it found nothing.
+# Five that try the program that `make build` leaves: it works made lines for MINUTES, with bad signalmen; large lines
+# beside busy processes; each allocation is refused in turn; bad files, outputs and words; the greatest texts. Each stops
+# with status 0 where it found nothing.
 MINUTES = 10
 
 soak:
 	python3 hostile/soak.py crates/box_main/out/box_main $(MINUTES)
+
+loaded:
+	python3 hostile/loaded.py crates/box_main/out/box_main
 
 faults:
 	python3 hostile/faults.py crates/box_main/out/box_main $(wildcard crates/desk_tests/out/desk_tests_tests)

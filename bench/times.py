@@ -6,9 +6,12 @@ space between. All programs are run on each case in turn, ROUNDS times (5). CASE
 and outputs are kept in the folder WORK (else a new one, which is removed).
 
 Printed are, for each case and program, the best and the median seconds, the processor's seconds of the best round,
-the greatest memory in MiB (never told as less than this script's own, some 15), the best seconds as a ratio to the
-first program's, and whether its output is that of the first program, byte for byte. Where the replies depend on the
-order of the signalmen, the first program judges it.
+the greatest memory in MiB (never told as less than this script's own, some 15), the best and the median seconds as
+ratios to the first program's, and whether its output is that of the first program, byte for byte. Where the replies
+depend on the order of the signalmen, the first program judges it.
+
+A second table has some of the runs under load: beside as many busy processes as there are processors, which are
+started for it and ended behind it.
 """
 
 import filecmp
@@ -20,6 +23,8 @@ import sys
 import tempfile
 import time
 
+from load import load
+
 HERE = os.path.dirname(os.path.abspath(__file__))
 RUNS = ["made", "wide", "wide64", "free", "racy", "frame", "frame32", "trains", "convoy"]
 JUDGED = ["made", "wide", "wide64", "free", "racy", "frame32", "trains"]
@@ -28,6 +33,8 @@ CASES = [
     *(f"{command}-{name}" for command in ("judge", "audit") for name in JUDGED),
     *("check", "tables", "chart", "upgrade", "stress"),
 ]
+# Those that are run under load too.
+UNDER_LOAD = ["made", "trains", "convoy", "wide", "wide64", "free"]
 # Whose replies depend on the order of the signalmen.
 IN_ANY_ORDER = {"free", "racy"}
 
@@ -88,14 +95,23 @@ def compare(case, programs, rounds, work):
         for place in range(len(programs)):
             number = (place + turn) % len(programs)
             taken[number].append(programs[number].run(words, f"{work}/out/{case}.{number}"))
+    medians = [statistics.median(it[0] for it in runs) for runs in taken]
     base = min(it[0] for it in taken[0])
     for number, runs in enumerate(taken):
-        best = min(runs)
-        median = statistics.median(it[0] for it in runs)
+        best, median = min(runs), medians[number]
         memory, status = max(it[2] for it in runs), max(it[3] for it in runs)
         told = verdict(case, number, status, work, programs[0])
-        numbers = f"{best[0]:9.4f} {median:9.4f} {best[1]:9.4f} {memory:9.1f} {best[0] / base:7.2f}"
-        print(f"{case:14} {number:3} {numbers}  {told}", flush=True)
+        numbers = f"{best[0]:9.4f} {median:9.4f} {best[1]:9.4f} {memory:9.1f}"
+        ratios = f"{best[0] / base:7.2f} {median / medians[0]:7.2f}"
+        print(f"{case:14} {number:3} {numbers} {ratios}  {told}", flush=True)
+
+
+def table(title, cases, programs, rounds, work):
+    print(title)
+    numbers = f"{'best':>9} {'median':>9} {'processor':>9} {'MiB':>9}"
+    print(f"{'case':14} {'':3} {numbers} {'by best':>7} {'median':>7}  output")
+    for case in cases:
+        compare(case, programs, rounds, work)
 
 
 def main(said):
@@ -108,12 +124,13 @@ def main(said):
         os.makedirs(f"{work}/out", exist_ok=True)
         if not os.path.isfile(f"{work}/convoy/plan"):
             subprocess.run([sys.executable, f"{HERE}/inputs.py", work], check=True)
-        print(f"{os.cpu_count()} processors, load {os.getloadavg()[0]:.2f}, best of {rounds}")
+        print(f"{os.cpu_count()} processors, load {os.getloadavg()[0]:.2f}, rounds {rounds}")
         for number, program in enumerate(programs):
             print(f"program {number}: {program.said}")
-        print(f"{'case':14} {'':3} {'best':>9} {'median':>9} {'processor':>9} {'MiB':>9} {'ratio':>7}  output")
-        for case in os.environ.get("CASES", " ".join(CASES)).split():
-            compare(case, programs, rounds, work)
+        cases = os.environ.get("CASES", " ".join(CASES)).split()
+        table("quiet", cases, programs, rounds, work)
+        with load():
+            table("under load", [case for case in cases if case in UNDER_LOAD], programs, rounds, work)
     finally:
         if not kept:
             shutil.rmtree(work)

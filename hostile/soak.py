@@ -3,7 +3,8 @@
 
 PROGRAM is the proved program, crates/box_main/out/box_main. Each round makes a line of 2 to 6 boxes, absolute and
 permissive, in either version, with trains that are offered and accepted by the book, signalmen who leave out calls,
-overrun, divide trains and release lines, and signalmen who do anything at all; few looks, so that awaits are given up.
+overrun, divide trains and release lines, and signalmen who do anything at all; few looks, so that awaits are given up, or
+a million, so that men sleep.
 The scripts are worked by `watch`, each on its thread, and the output is tested here, from the replies alone:
 
 - the journal has each script's calls, once each and in their order; the registers are its parts; the refused calls are
@@ -60,7 +61,7 @@ class Made:
         self.most = {}
         trains, wild = chance.randint(1, 12), chance.choice([0.0, 0.03, 0.2])
         self.plan = [f"plan {self.version}", f"boxes {self.boxes}", f"delay {chance.choice([0, 2, 40])}",
-                     f"looks {chance.choice([1, 3, 20, 200, 2_000])}"]  # fmt: skip
+                     f"looks {chance.choice([1, 3, 20, 200, 2_000, 1_000_000])}"]  # fmt: skip
         for box, name in enumerate(self.names):
             self.plan += self.with_permissive(box, box_lines(self.boxes, box, name))
         self.scripts = [[] for _ in self.names]

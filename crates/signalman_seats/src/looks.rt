@@ -91,6 +91,7 @@ fn look_on(
     }
     (most, Err(unmet))
 }
+
 // The next looks of an await, of which none is its last: one, or, where this number was shown and nobody else is at
 // work, so many at most. It gives how many they were, and what they came to.
 fn look_next(
