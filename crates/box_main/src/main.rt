@@ -1,7 +1,7 @@
 //! The program: it does what the words of its command line say, over files and standard output.
 #![tactic(auto)]
 
-use box_top::{OpenGate, Status, box_top};
+use box_top::{Status, TimedGate, box_top};
 use rail_text::{FileShelf, OutSink};
 use std::alloc::AllocError;
 use std::process::ExitCode;
@@ -28,6 +28,7 @@ fn main(rt: HostRuntime) -> ExitCode {
     };
     let mut shelf = FileShelf::new(&rt);
     let mut out = OutSink::new(io::writer(&rt));
-    let status = box_top(&rt, rt.alloc(), &words, &mut shelf, &mut out, &OpenGate);
+    let gate = TimedGate::new(&rt);
+    let status = box_top(&rt, rt.alloc(), &words, &mut shelf, &mut out, &gate);
     ExitCode::from(status.code())
 }

@@ -7,7 +7,7 @@ mod status;
 mod top;
 
 pub use desk::desk_top;
-pub use line_working::{Gate, OpenGate, work_line};
+pub use line_working::{Gate, OpenGate, TimedGate, work_line};
 pub use status::Status;
 pub use top::box_top;
 

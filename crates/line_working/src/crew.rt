@@ -1,5 +1,6 @@
 //! The men of a line while they work their scripts, who wait for one another without wasting the machine.
 
+use crate::gate::Gate;
 use block_words::Way;
 use line_law::{Act, Call, Reply};
 use signalman_seats::Pauses;
@@ -10,11 +11,14 @@ use std::sync::atomic::{AtomicU32, AtomicU64};
 use std::thread::Parker;
 use std::{hint, thread};
 
-// So many looks of an await are taken one right after another. Before each of some more a man lets another thread run;
-// before the others he sleeps.
+// So many looks of an await are taken one right after another. Between so many more a man lets other threads run, where
+// the gate says that this is soon over; before the others he sleeps.
 const EAGER_LOOKS: u32 = 20;
 
-const YIELDS: u32 = 4;
+const YIELDS: u32 = 60;
+
+// Where it wasn't soon over, so many times a man sleeps before it is tried again.
+const SLEEPS: u32 = 4096;
 
 // After so many looks of an await a man who is alone no longer waits for those whose turn hasn't come.
 const LOOKS_FOR_OTHERS: u32 = 10_000;
@@ -54,7 +58,11 @@ pub struct Crew {
     // How many have begun, ever and without having ended.
     begun: AtomicU32,
     working: AtomicU32,
+    // How many had begun when a man who was alone gave up waiting for the others.
+    given_up: AtomicU32,
     asleep: AtomicU64,
+    // How many sleeps are left before a man lets others run again.
+    sleeps_left: AtomicU32,
     // None where memory has run out: then nobody sleeps.
     beds: Vec<Bed>,
 }
@@ -66,19 +74,27 @@ impl Crew {
             men,
             begun: AtomicU32::new(0),
             working: AtomicU32::new(0),
+            given_up: AtomicU32::new(0),
             asleep: AtomicU64::new(0),
+            sleeps_left: AtomicU32::new(0),
             beds: beds(alloc, men).unwrap_or_else(|_| Vec::new(alloc)),
         }
     }
 
     /// The man of box `box_no` begins to work.
-    pub fn begin<'a, R: Wait>(&'a self, rt: &'a R, box_no: u32) -> Mate<'a, R> {
+    pub fn begin<'a, R: Wait, G: Gate>(
+        &'a self,
+        rt: &'a R,
+        gate: &'a G,
+        box_no: u32,
+    ) -> Mate<'a, R, G> {
         self.working.fetch_add(1, SeqCst);
         self.begun.fetch_add(1, SeqCst);
         let place = box_no as usize;
         let bit = self.beds.get(place).map_or(0, |bed| bed.bit);
         Mate {
             rt,
+            gate,
             crew: self,
             place,
             bit,
@@ -118,18 +134,47 @@ impl Crew {
         }
         others_work
     }
+
+    // Whether a man who is alone and has taken so many looks needn't wait for those who haven't begun: there are none,
+    // he has waited long enough, or another has, since when nobody has begun.
+    fn needs_no_others(&self, taken: u32) -> bool {
+        let begun = self.begun.load(SeqCst);
+        if begun as usize == self.men || begun == self.given_up.load(SeqCst) {
+            return true;
+        }
+        if taken < LOOKS_FOR_OTHERS {
+            return false;
+        }
+        self.given_up.store(begun, SeqCst);
+        true
+    }
+
+    // The man of a box sleeps until he is woken, once more.
+    fn sleep<R: Wait>(&self, rt: &R, place: usize) {
+        let left = self.sleeps_left.load(SeqCst);
+        self.sleeps_left.store(left.saturating_sub(1), SeqCst);
+        if let Some(bed) = self.beds.get(place) {
+            for _ in rt.forever() {
+                if !self.sleeps(bed.bit) {
+                    break;
+                }
+                bed.parker.park(rt);
+            }
+        }
+    }
 }
 
 /// One man of a crew, who has begun to work.
 #[derive(Drop)]
-pub struct Mate<'a, R: Wait> {
+pub struct Mate<'a, R: Wait, G: Gate> {
     rt: &'a R,
+    gate: &'a G,
     crew: &'a Crew,
     place: usize,
     bit: u64,
 }
 
-impl<'a, R: Wait> Mate<'a, R> {
+impl<'a, R: Wait, G: Gate> Mate<'a, R, G> {
     /// Wakes the neighbours who may wait for what this call has changed.
     pub fn tell(&self, call: &Call, reply: &Reply) {
         match (call.act, reply) {
@@ -162,36 +207,26 @@ impl<'a, R: Wait> Mate<'a, R> {
             self.crew.wake(place);
         }
     }
-
-    // Sleeps until he is woken.
-    fn sleep(&self) {
-        if let Some(bed) = self.crew.beds.get(self.place) {
-            for _ in self.rt.forever() {
-                if !self.crew.sleeps(self.bit) {
-                    break;
-                }
-                bed.parker.park(self.rt);
-            }
-        }
-    }
 }
 
-impl<'a, R: Wait> Pauses for Mate<'a, R> {
+impl<'a, R: Wait, G: Gate> Pauses for Mate<'a, R, G> {
     fn pause(&self, taken: u32) {
         if taken < EAGER_LOOKS {
             hint::spin_loop();
-        } else if taken < EAGER_LOOKS + YIELDS {
-            thread::yield_now();
         } else if self.crew.sleeps(self.bit) {
             // He lay down before his last look.
-            self.sleep();
+            self.crew.sleep(self.rt, self.place);
+        } else if taken < EAGER_LOOKS + YIELDS && self.crew.sleeps_left.load(SeqCst) == 0 {
+            if !self.gate.lets_run() {
+                self.crew.sleeps_left.store(SLEEPS, SeqCst);
+            }
         } else if self.bit == 0 || !self.crew.lie_down(self.bit) {
             thread::yield_now();
         }
     }
 
     fn ended(&self, taken: u32) {
-        if taken > EAGER_LOOKS + YIELDS && self.crew.sleeps(self.bit) {
+        if taken > EAGER_LOOKS && self.crew.sleeps(self.bit) {
             self.crew.get_up(self.bit);
         }
     }
@@ -200,11 +235,10 @@ impl<'a, R: Wait> Pauses for Mate<'a, R> {
         if taken < EAGER_LOOKS {
             return false;
         }
-        let all_begun = self.crew.begun.load(SeqCst) as usize == self.crew.men;
         let working = self.crew.working.load(SeqCst);
         let asleep = self.crew.asleep.load(SeqCst);
         asleep & self.bit == 0
             && asleep.count_ones() + 1 >= working
-            && (all_begun || taken >= LOOKS_FOR_OTHERS)
+            && self.crew.needs_no_others(taken)
     }
 }

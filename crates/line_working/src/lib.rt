@@ -5,5 +5,5 @@ mod crew;
 mod gate;
 mod working;
 
-pub use gate::{Gate, OpenGate};
+pub use gate::{Gate, OpenGate, TimedGate};
 pub use working::work_line;

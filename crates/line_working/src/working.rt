@@ -33,7 +33,7 @@ fn work<R: Wait, G: Gate>(
     // is asked for the script that has no call; and with his script they are no more than a box may have.
     drop(man.lend_watch(line));
     let _entries = man.entries();
-    let mate = crew.begin(rt, script.box_no);
+    let mate = crew.begin(rt, gate, script.box_no);
     for (i, call) in script.calls.as_slice().iter().enumerate() {
         gate.pass(script.box_no, i as u32 + 1);
         let reply = man.perform_pausing(line, *call, looks, &mate);
@@ -46,10 +46,10 @@ fn work<R: Wait, G: Gate>(
 /// with the same promise. Before each call the man passes the gate. It may wait for the threads that it started. Where
 /// there is no man it returns at once.
 ///
-/// A man whose await isn't met looks again at once a few times, then lets other threads run between his looks, then
-/// sleeps until a neighbour has done something that he may wait for, or nobody is at work. The last man at work never
-/// sleeps: he takes the looks that are left to him, waiting only, for so many of them, for men whose turn to begin
-/// hasn't come. Where there is no memory for their beds nobody sleeps.
+/// A man whose await isn't met looks again at once a few times, then lets other threads run between his looks, as far
+/// as the gate says that this is soon over, then sleeps until a neighbour has done something that he may wait for, or
+/// nobody is at work. The last man at work never sleeps: he takes the looks that are left to him, waiting only, for so
+/// many of them, for men whose turn to begin hasn't come. Where there is no memory for their beds nobody sleeps.
 ///
 /// The men stay in their places. What each has seen has grown to a legal history of the line, in which his part has one
 /// entry more for each call of his script, in order and no other; all his looks were those of his awaits, and his
