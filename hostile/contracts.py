@@ -14,7 +14,7 @@ import sys
 
 ROOT = os.path.dirname(os.path.dirname(os.path.abspath(__file__)))
 CLAUSE = re.compile(r"\s*(requires|ensures|ghost)\b(\*?)\s*(\w+\s*:?)?\s*\{")
-SKIPPED = re.compile(r'//[^\n]*|"(?:\\.|[^"\\])*"|b?\'(?:\\.[^\']*|[^\\\'])\'')
+SKIPPED = re.compile(r'//[^\n]*|"(?:\\[\s\S]|[^"\\])*"|b?\'(?:\\.[^\']*|[^\\\'])\'')
 
 
 def files_of(commit):
