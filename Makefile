@@ -9,7 +9,8 @@ example = run data/example.plan data/ash.script data/beech.script data/cedar.scr
 demo:
 	cd crates/box_main && rt try -- $(example)
 
-# Proves the program and what it stands on, works the example line, and leaves the program as crates/box_main/out/box_main.
+# Proves the program and what it stands on, works the example line, and leaves the program as
+# crates/box_main/out/box_main.
 build:
 	cd crates/box_main && rt run -- $(example)
 
@@ -19,7 +20,7 @@ cases:
 	cd crates/worked_cases && rt try $$(find data -type f ! -name '*_limits' -printf '--data %p=%p ') -- data
 
 # What a newcomer runs first: the worked cases and rows and all tests, without proofs. It works as many at once as there
-# are processors, and takes some seven minutes on four.
+# are processors, and takes three to seven minutes on four.
 quick:
 	$(MAKE) --no-print-directory --keep-going --output-sync -j$$(nproc) cases $(TESTS)
 
@@ -28,14 +29,14 @@ $(TESTS):
 	cd crates/$@ && rt try --test --seconds 580
 
 # Times the program that `make build` leaves on large inputs, which are made first, beside any other program of the same
-# commands: make bench BESIDE="PROGRAM..". It takes some minutes, and wants a quiet machine; the load of its second table
-# it makes itself.
+# commands: make bench BESIDE="PROGRAM..". It takes some minutes, and wants a quiet machine; it makes the load of its
+# second table itself.
 bench:
 	python3 bench/times.py $(BESIDE) crates/box_main/out/box_main
 
 # Five that try the program that `make build` leaves: it works made lines for MINUTES, with bad signalmen; large lines
-# beside busy processes; each allocation is refused in turn; bad files, outputs and words; the greatest texts. Each stops
-# with status 0 where it found nothing.
+# beside busy processes; each allocation is refused in turn; bad files, outputs and words; the greatest texts. Each
+# stops with status 0 where it found nothing.
 MINUTES = 10
 
 soak:
@@ -67,6 +68,6 @@ contracts:
 # The gate: every proof, the must-fail edits, the tests, and the program as two compilers make it.
 test:
 	@echo "make test proves all crates and their tests, tries the must-fail edits, and runs the tests and the programs."
-	@echo "From nothing that took 57 minutes on four processors, and takes over two hours on two; here there are $$(nproc)."
-	@echo "What an earlier run on this machine passed is kept. The last line is 'N passed, M failed'. (make quick: no proofs)"
+	@echo "From nothing that took 31 to 57 minutes on four processors, and takes an hour or two on two; here: $$(nproc)."
+	@echo "What an earlier run here passed is kept. The last line is 'N passed, M failed'. Without proofs: make quick"
 	rt ci

@@ -6,6 +6,7 @@ is to be printed; a row that answers otherwise is told, and the exit status is t
 """
 
 import os
+import resource
 import subprocess
 import sys
 import tempfile
@@ -17,6 +18,47 @@ EXAMPLE = os.path.join(HERE, "..", "crates", "box_main", "data")
 TEXTS = ["example.plan", "ash.script", "beech.script", "cedar.script"]
 WORDS = b"words not understood\n"
 NOBODY = 65534
+
+# Two boxes that await each other first. Of men who work one after another the first awaits in vain, whoever he is.
+IN_TURN = {
+    "turn.plan": "plan 1\nboxes 2\ndelay 2\nlooks 1000000000\nbox Ash\nbox Beech\nend\n",
+    "turn_ash.script": "script Ash\n10:00 await_bell down 1\n10:00 ring down 1\nend\n",
+    "turn_beech.script": "script Beech\n10:00 await_bell up 1\n10:00 ring up 1\nend\n",
+}
+ASH_FIRST = b"""journal 1
+1 Ash 10:00 await_bell down 1 -> not_yet 0 none
+2 Ash 10:00 ring down 1 -> rung 1
+3 Beech 10:00 await_bell up 1 -> heard 1 1
+4 Beech 10:00 ring up 1 -> rung 1
+end
+register Ash 2
+1 10:00 await_bell down 1 -> not_yet 0 none
+2 10:00 ring down 1 -> rung 1
+register Beech 2
+1 10:00 await_bell up 1 -> heard 1 1
+2 10:00 ring up 1 -> rung 1
+refusals 1
+1 Ash 10:00 await_bell down 1 -> not_yet 0 none
+section down Ash Beech most 0
+section up Beech Ash most 0
+"""
+BEECH_FIRST = b"""journal 1
+1 Beech 10:00 await_bell up 1 -> not_yet 0 none
+2 Beech 10:00 ring up 1 -> rung 1
+3 Ash 10:00 await_bell down 1 -> heard 1 1
+4 Ash 10:00 ring down 1 -> rung 1
+end
+register Ash 2
+1 10:00 await_bell down 1 -> heard 1 1
+2 10:00 ring down 1 -> rung 1
+register Beech 2
+1 10:00 await_bell up 1 -> not_yet 0 none
+2 10:00 ring up 1 -> rung 1
+refusals 1
+1 Beech 10:00 await_bell up 1 -> not_yet 0 none
+section down Ash Beech most 0
+section up Beech Ash most 0
+"""
 
 
 class Edge:
@@ -132,6 +174,20 @@ class Edge:
         os.close(writing)
         self.row("a closed output", ["run", *TEXTS], 3, b"", stdout=None, preexec_fn=lambda: os.close(1))
 
+    # ---- threads
+
+    def refused_threads(self):
+        """Where no thread can be started, no man waits for one whose turn hasn't come."""
+        if os.getuid() != 0:
+            return
+        for name, text in IN_TURN.items():
+            with open(self.path(name), "w", encoding="ascii") as file:
+                file.write(text)
+        os.chmod(self.folder, 0o755)
+        one = lambda: resource.setrlimit(resource.RLIMIT_NPROC, (1, 1))
+        how = {"user": NOBODY, "group": NOBODY, "preexec_fn": one}
+        self.row("no thread can be started", ["run", *IN_TURN], 0, (ASH_FIRST, BEECH_FIRST), **how)
+
     # ---- words
 
     def words(self):
@@ -153,7 +209,8 @@ class Edge:
         must_be = b"journal 1\n1 Ash"
         if not self.output.startswith(must_be):
             sys.exit(f"{self.program} doesn't work the example line")
-        for part in (self.files, self.leave_to_read, self.cut_while_read, self.pipes, self.outputs, self.words):
+        files = (self.files, self.leave_to_read, self.cut_while_read)
+        for part in (*files, self.pipes, self.outputs, self.refused_threads, self.words):
             part()
         print(f"edge {self.rows} agree {self.rows - self.bad}")
         return 1 if self.bad else 0
