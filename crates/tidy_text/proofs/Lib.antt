@@ -1,0 +1,5 @@
+pub mod Words
+mod Bytes
+pub mod Mended
+pub mod Kept
+pub mod Returns
