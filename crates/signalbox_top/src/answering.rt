@@ -1,0 +1,70 @@
+//! What is put, and where: results to one sink, everything else to the other.
+
+ghost use Rattle.std.specs.Prelude.{◌≡◌, ◌≢◌};
+ghost use Rattle.rail_text.specs.Bytes.{appended};
+ghost use Rattle.rail_text.specs.Causes.{Rose};
+ghost use Rattle.signalbox_top.specs.Top.{TakesFront};
+
+use crate::status::Status;
+use rail_text::{Sink, SinkFault, put_all};
+use std::alloc::{AllocError, Global};
+
+/// Why a command could not be done.
+#[derive(Drop)]
+pub(crate) enum Trouble {
+    /// What is told of it, in one line.
+    Told(String),
+    /// Memory ran out.
+    NoMemory,
+}
+
+impl From<AllocError> for Trouble {
+    fn from(_: AllocError) -> Trouble {
+        Trouble::NoMemory
+    }
+}
+
+/// What is told of a file, behind its name, in a line.
+pub(crate) fn trouble_with(alloc: Global, file: &str, what: &str) -> Trouble {
+    match format!(in alloc; "signalbox: {file}: {what}\n") {
+        Ok(line) => Trouble::Told(line),
+        Err(AllocError) => Trouble::NoMemory,
+    }
+}
+
+/// Tells why a command could not be done. Where it can't be told, nobody hears of it.
+pub(crate) fn tell<L: Sink>(told: &mut L, what: &str) -> Status
+    ensures { result ≡ Status.Failed }
+{
+    let _ = put_all(told, what.as_bytes());
+    Status::Failed
+}
+
+/// Tells of trouble.
+pub(crate) fn tell_trouble<L: Sink>(told: &mut L, trouble: &Trouble) -> Status
+    ensures { result ≡ Status.Failed }
+{
+    match trouble {
+        Trouble::Told(line) => tell(told, line.as_str()),
+        Trouble::NoMemory => tell(told, "signalbox: out of memory\n"),
+    }
+}
+
+/// Puts a result, and answers the status; where the output can't be written, that is told.
+pub(crate) fn put_result<K: Sink, L: Sink>(
+    out: &mut K,
+    told: &mut L,
+    text: &[u8],
+    status: Status,
+) -> Status
+    requires { status ≢ Status.Failed }
+    ensures all { result ≢ Status.Failed
+        → (result ≡ status) × (K.taken out.new ≡ appended (K.taken out.old) text.now) × (told.new ≡ told.old) }
+    ensures part { result ≡ Status.Failed → TakesFront (K.taken out.old) (K.taken out.new) }
+    ensures cause { result ≡ Status.Failed → Rose (K.faults out.old) (K.faults out.new) }
+{
+    match put_all(out, text) {
+        Ok(()) => status,
+        Err(SinkFault::Failed) => tell(told, "signalbox: the output could not be written\n"),
+    }
+}

@@ -1,0 +1,14 @@
+//! What `signalbox` does of a command line: it fetches texts, and puts what it finds of them.
+#![tactic(auto)]
+
+mod answering;
+mod files;
+mod shelf;
+mod status;
+mod tidying;
+mod top;
+
+pub use files::ReasonedFiles;
+pub use shelf::ReasonedShelf;
+pub use status::Status;
+pub use top::signalbox_top;

@@ -1,0 +1,62 @@
+//! The top call of `signalbox`.
+
+ghost use Rattle.std.specs.Prelude.{◌≡◌, ◌≢◌, ℕ, List, Some};
+ghost use Rattle.signalbox_words.specs.Commands.{bytes_of, shown};
+ghost use Rattle.signalbox_top.specs.Top.{Headline, TakesFront, asked};
+
+use crate::answering::{put_result, tell};
+use crate::shelf::ReasonedShelf;
+use crate::status::Status;
+use crate::tidying::serve_tidy;
+use rail_text::{NoMemory, Sink};
+use signalbox_words::{SignalboxCommand, Words, read_words};
+use std::alloc::Global;
+
+// Does a command.
+fn serve<S: ReasonedShelf, K: Sink, L: Sink>(
+    alloc: Global,
+    command: SignalboxCommand<'_>,
+    shelf: &mut S,
+    out: &mut K,
+    told: &mut L,
+) -> Status
+    ensures headline { result ≢ Status.Failed
+        → Headline (S.held shelf.old) (Some (shown command.entry)) (K.taken out.old) (K.taken out.new) }
+    ensures part { result ≡ Status.Failed → TakesFront (K.taken out.old) (K.taken out.new) }
+    ensures same { (n : List ℕ) → S.held shelf.new n ≡ S.held shelf.old n }
+{
+    match command {
+        SignalboxCommand::Tidy { file } => serve_tidy(alloc, file, shelf, out, told),
+        SignalboxCommand::Rehearse { .. } => tell(told, "signalbox: rehearse isn't here yet\n"),
+    }
+}
+
+/// Does what the words of a command line say, those behind the program's name. Results are put to `out`, everything
+/// else to `told`.
+///
+/// `tidy FILE` puts the text under that name with its form mended. `--help`, `help COMMAND` and `--version` put what
+/// they ask for, as results.
+///
+/// - `Done`: it is done, and nothing was found.
+/// - `Found`: it is done, and something was found.
+/// - `Failed`: it could not be done. Of the results nothing was taken, or a front part where the sink failed; `told` has
+///   been told why.
+pub fn signalbox_top<S: ReasonedShelf, K: Sink, L: Sink>(
+    alloc: Global,
+    words: &[String],
+    shelf: &mut S,
+    out: &mut K,
+    told: &mut L,
+) -> Status
+    ensures headline { result ≢ Status.Failed
+        → Headline (S.held shelf.old) (asked (bytes_of words.now)) (K.taken out.old) (K.taken out.new) }
+    ensures part { result ≡ Status.Failed → TakesFront (K.taken out.old) (K.taken out.new) }
+    ensures same { (n : List ℕ) → S.held shelf.new n ≡ S.held shelf.old n }
+{
+    match read_words(alloc, words) {
+        Ok(Words::Command(command)) => serve(alloc, command, shelf, out, told),
+        Ok(Words::Shown(text)) => put_result(out, told, text.as_bytes(), Status::Done),
+        Ok(Words::Wrong(text)) => tell(told, text.as_str()),
+        Err(NoMemory) => tell(told, "signalbox: out of memory\n"),
+    }
+}

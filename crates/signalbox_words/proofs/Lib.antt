@@ -1,0 +1,2 @@
+mod MatchRules
+mod Told

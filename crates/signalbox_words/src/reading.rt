@@ -1,0 +1,127 @@
+//! The words of a command line.
+
+ghost use Rattle.std.specs.Prelude.{◌≡◌, IfOk};
+ghost use Rattle.std.specs.Option.{option_map};
+ghost use Rattle.clap.specs.Words.{found_of, rows_of};
+ghost use Rattle.clap.specs.Values.{kind_of};
+ghost use Rattle.signalbox_words.specs.Commands.{AreRead, TellsFault, bytes_of, command_read, has_flag};
+ghost use Rattle.signalbox_words.specs.Commands.{rehearse_read, shown};
+
+use crate::table::program;
+use clap::error::ErrorKind;
+use clap::{ArgMatches, Error};
+use rail_text::NoMemory;
+use std::alloc::Global;
+
+/// A command of `signalbox`, with the names of its texts.
+#[derive(Debug, Drop)]
+pub enum SignalboxCommand<'a> {
+    /// `tidy FILE`: a text is printed with its form mended.
+    Tidy {
+        file: &'a str,
+    },
+    /// `rehearse PLAN SCRIPT..`: a plan's line is worked on one thread by the scripts of its boxes, up to a stop.
+    Rehearse {
+        /// It stops at the first refused call, if that comes before.
+        to_refusal: bool,
+        /// The journal is printed.
+        journal: bool,
+        plan: &'a str,
+        scripts: Vec<&'a str>,
+    },
+}
+
+/// What words come to.
+#[derive(Debug, Drop)]
+pub enum Words<'a> {
+    /// They are this command.
+    Command(SignalboxCommand<'a>),
+    /// They ask for this text: help, or the version.
+    Shown(String),
+    /// They are no command; the text says why.
+    Wrong(String),
+}
+
+// Whether an option stands there.
+#[tactic(auto, using(crate::proofs::MatchRules::count_rules))]
+fn has_flag(found: &ArgMatches<'_>, id: &str) -> bool
+    ensures { result ≡ has_flag id.now (rows_of (found_of found.now)) }
+{
+    found.get_count(id) > 0
+}
+
+// A rehearsal, by what clap found.
+#[tactic(auto, using(crate::proofs::MatchRules::match_rules))]
+fn read_rehearse<'a>(
+    alloc: Global,
+    found: &ArgMatches<'a>,
+) -> Result<Option<SignalboxCommand<'a>>, NoMemory>
+    ensures { IfOk result (λ command. option_map shown command ≡ rehearse_read (rows_of (found_of found.now))) }
+{
+    let (Some(plan), Some(scripts)) = (found.get_str("plan"), found.get_strs("script")) else {
+        return Ok(None);
+    };
+    let scripts = Vec::from_slice(alloc, scripts)?;
+    Ok(Some(SignalboxCommand::Rehearse {
+        to_refusal: has_flag(found, "to-refusal"),
+        journal: has_flag(found, "journal"),
+        plan,
+        scripts,
+    }))
+}
+
+// A command, by its name and what clap found.
+#[tactic(auto, using(crate::proofs::MatchRules::match_rules))]
+fn read_command<'a>(
+    alloc: Global,
+    name: &str,
+    found: &ArgMatches<'a>,
+) -> Result<Option<SignalboxCommand<'a>>, NoMemory>
+    ensures { IfOk result
+        (λ command. option_map shown command ≡ command_read name.now (rows_of (found_of found.now))) }
+{
+    match name {
+        "tidy" => Ok(
+            found
+                .get_str("file")
+                .map(|file| SignalboxCommand::Tidy { file }),
+        ),
+        "rehearse" => read_rehearse(alloc, found),
+        _ => Ok(None),
+    }
+}
+
+// What clap says of words that it doesn't take.
+fn told<'a>(alloc: Global, error: &Error) -> Result<Words<'a>, NoMemory>
+    ensures { IfOk result (TellsFault (kind_of error.now)) }
+{
+    let text = format!(in alloc; "{error}")?;
+    match error.kind() {
+        ErrorKind::OutOfMemory => {
+            drop(text);
+            Err(NoMemory)
+        }
+        ErrorKind::DisplayHelp | ErrorKind::DisplayVersion => Ok(Words::Shown(text)),
+        _ => Ok(Words::Wrong(text)),
+    }
+}
+
+/// What the words of a command line come to, those behind the program's name: a command, a text that they ask for, or
+/// what is wrong with them, in clap's words.
+pub fn read_words<'a>(alloc: Global, words: &'a [String]) -> Result<Words<'a>, NoMemory>
+    ensures { IfOk result (AreRead (bytes_of words.now)) }
+{
+    let program = program(alloc)?;
+    match program.try_get_matches_from(words) {
+        Ok(matches) => {
+            let Some((name, found)) = matches.subcommand() else {
+                return Ok(Words::Wrong(String::new(alloc)));
+            };
+            match read_command(alloc, name, found)? {
+                Some(command) => Ok(Words::Command(command)),
+                None => Ok(Words::Wrong(String::new(alloc))),
+            }
+        }
+        Err(error) => told(alloc, &error),
+    }
+}
