@@ -105,14 +105,15 @@ fn work_first<R: Threads + Wait + Sync, G: Gate>(
     work_both(rt, crew, &mut his, &mut theirs);
 }
 
-/// Each signalman works his script, on a thread of his own. Where a thread can't be started the caller does its work,
-/// with the same promise. Before each call the man passes the gate. It may wait for the threads that it started. Where
-/// there is no man it returns at once.
+/// Each signalman works his script, on a thread of his own; the last on the caller's. Where a thread can't be started
+/// the caller does its work, when the men behind that one have ended, with the same promise. Before each call the man
+/// passes the gate. It may wait for the threads that it started. Where there is no man it returns at once.
 ///
 /// A man whose await isn't met looks again at once a few times, then lets other threads run between his looks, as far
 /// as the gate says that this is soon over, then sleeps until a neighbour has done something that he may wait for, or
-/// nobody is at work. The last man at work never sleeps: he takes the looks that are left to him, waiting only, for so
-/// many of them, for men whose turn to begin hasn't come. Where there is no memory for their beds nobody sleeps.
+/// nobody is awake. The last man who is awake doesn't sleep: he takes the looks that are left to him. A man whose
+/// thread hasn't started yet counts as awake, and one for whom none could be started as soon as his turn has come.
+/// Where there is no memory for their beds nobody sleeps.
 ///
 /// The men stay in their places. What each has seen has grown to a legal history of the line, in which his part has one
 /// entry more for each call of his script, in order and no other; all his looks were those of his awaits, and his
