@@ -1,2 +1,3 @@
 pub mod CallByCall
+pub mod EachMan
 pub mod FreshMen

@@ -1,5 +1,5 @@
 -- What it takes to work the scripts of a line, and what it comes to.
-use Rattle.std.specs.Prelude.{◌≡◌, ℕ, ◌+◌, ◌*◌, ◌≤◌, List, [], ◌∷◌, ◌++◌, length, map, count_by}
+use Rattle.std.specs.Prelude.{◌≡◌, ℕ, ◌+◌, ◌*◌, ◌<◌, ◌≤◌, List, [], ◌∷◌, ◌++◌, length, map, count_by, slice_index_or}
 use mathlib.Core.List.{IsPrefix}
 use Rattle.atomic_table.specs.Seated.{TableId}
 use Rattle.line_plan.specs.Plans.{PlanFields}
@@ -48,3 +48,17 @@ pub record DidWork (table_id : TableId) (plan : PlanFields) (script : Script) (l
   pub entries : after.entries ≡ part_of before.box_no after.view.seen
   pub spare : after.spare + length script.calls ≡ before.spare
   pub moment : after.moment ≡ moment_after before.moment script.calls
+
+-- each of these men may work the script at his place
+pub record CanWorkEach (table_id : TableId) (plan : PlanFields) (scripts : List Script) (men : List Man)
+    : Type 0 where
+  pub count : length scripts ≡ length men
+  pub each : (i : ℕ) (d : Man) (e : Script) → i < length men
+      → CanWork table_id plan (slice_index_or scripts i e) (slice_index_or men i d)
+
+-- each of these men has worked the script at his place
+pub record DidWorkEach (table_id : TableId) (plan : PlanFields) (scripts : List Script) (looks : ℕ)
+    (before after : List Man) : Type 0 where
+  pub count : length after ≡ length before
+  pub each : (i : ℕ) (d : Man) (e : Script) → i < length before
+      → DidWork table_id plan (slice_index_or scripts i e) looks (slice_index_or before i d) (slice_index_or after i d)

@@ -20,47 +20,58 @@ const YIELDS: u32 = 60;
 // Where it wasn't soon over, so many times a man sleeps before it is tried again.
 const SLEEPS: u32 = 4096;
 
-// After so many looks of an await a man who is alone no longer waits for those whose turn hasn't come.
-const LOOKS_FOR_OTHERS: u32 = 10_000;
+// How a man is. Where he doesn't wait, he is up.
+const UP: u32 = 0;
 
-// Where a man sleeps, and his bit of the word that tells who sleeps. The bit is 0 where the word has none for him: then
-// he doesn't sleep.
+// He lies and takes one more look before he sleeps. Whoever does something for him lets him be up.
+const LYING: u32 = 1;
+
+// He sleeps, until he is woken.
+const ASLEEP: u32 = 2;
+
+// Where a man sleeps, and how he is.
 #[derive(Drop)]
 struct Bed {
-    bit: u64,
+    rest: AtomicU32,
     parker: Parker,
 }
 
 // A bed for each of so many boxes.
 fn beds(alloc: Global, boxes: usize) -> Result<Vec<Bed>, AllocError> {
     let mut beds = Vec::with_capacity(alloc, boxes)?;
-    let mut bit = 1u64;
     for _ in 0..boxes {
+        let rest = AtomicU32::new(UP);
         let parker = Parker::new();
-        beds.push(Bed { bit, parker })?;
-        bit <<= 1;
+        beds.push(Bed { rest, parker })?;
     }
     Ok(beds)
 }
 
-/// The men of a line while they work their scripts: who of them is at work, and who sleeps until a neighbour has done
-/// something for him.
+/// The men of a line while they work their scripts: how many of them are awake, and who sleeps until a neighbour has
+/// done something for him.
 ///
-/// Somebody is at work until all have ended. A man lies down by one step on the word that tells who sleeps. Who thereby
-/// finds that all others sleep or have ended gets up at once, and who ends and leaves none but sleepers behind wakes
-/// them. So of all these steps the last one, whoever takes it, finds all the others taken.
+/// Every man is at work from the first, before his thread has started, until his script is done. A man for whom no
+/// thread can be started is put off, and at work again when his turn comes. Of those at work some are awake, and the
+/// others sleep. Then:
+///
+/// - Somebody is awake until all have ended: who sleeps, ends or is put off as the last who was awake wakes one who
+///   sleeps. These steps are counted one after another, so the last of them, whoever takes it, finds that nobody is
+///   awake.
+/// - Nobody is left asleep for good, in whatever order the men are started and put off. Where no thread can be started
+///   they work one after another, each alone in his turn.
+/// - A man is alone, and takes his looks in vain, only where all others at work sleep: each has looked once more after
+///   he lay down, and nobody has done anything for him since.
 ///
 /// A man lies down before his last look and sleeps after it, and his neighbour first changes the word that he looks at
-/// and then sees whether he lies: one of the two finds what the other did.
+/// and then sees whether he lies: one of the two finds what the other did. Who is woken counts as awake before he is
+/// up, and who sleeps counts as awake until he does.
 #[derive(Drop)]
 pub struct Crew {
-    men: usize,
-    // How many have begun, ever and without having ended.
-    begun: AtomicU32,
-    working: AtomicU32,
-    // How many had begun when a man who was alone gave up waiting for the others.
-    given_up: AtomicU32,
-    asleep: AtomicU64,
+    // How often a man has become awake: each once at first, then whenever he is woken or taken on.
+    risen: AtomicU64,
+    // How often a man who was awake has ceased to be: he sleeps, has ended or is put off. As many are awake as have
+    // risen more often.
+    rested: AtomicU64,
     // How many sleeps are left before a man lets others run again.
     sleeps_left: AtomicU32,
     // None where memory has run out: then nobody sleeps.
@@ -68,110 +79,137 @@ pub struct Crew {
 }
 
 impl Crew {
-    /// The crew of a line of so many men, none of whom has begun.
+    /// The crew of a line of so many men, all at work.
     pub fn new(alloc: Global, men: usize) -> Crew {
         Crew {
-            men,
-            begun: AtomicU32::new(0),
-            working: AtomicU32::new(0),
-            given_up: AtomicU32::new(0),
-            asleep: AtomicU64::new(0),
+            risen: AtomicU64::new(men as u64),
+            rested: AtomicU64::new(0),
             sleeps_left: AtomicU32::new(0),
             beds: beds(alloc, men).unwrap_or_else(|_| Vec::new(alloc)),
         }
     }
 
-    /// The man of box `box_no` begins to work.
-    pub fn begin<'a, R: Wait, G: Gate>(
+    /// The man of box `box_no`, who is at work.
+    pub fn mate<'a, R: Wait, G: Gate>(
         &'a self,
         rt: &'a R,
         gate: &'a G,
         box_no: u32,
     ) -> Mate<'a, R, G> {
-        self.working.fetch_add(1, SeqCst);
-        self.begun.fetch_add(1, SeqCst);
         let place = box_no as usize;
-        let bit = self.beds.get(place).map_or(0, |bed| bed.bit);
         Mate {
             rt,
             gate,
             crew: self,
             place,
-            bit,
         }
     }
 
-    // Wakes the man of a box where he sleeps.
-    fn wake(&self, place: usize) {
-        if let Some(bed) = self.beds.get(place) {
-            if self.sleeps(bed.bit) && self.get_up(bed.bit) {
-                bed.parker.unpark();
+    /// A man for whom no thread could be started isn't at work until he is taken on.
+    pub fn put_off<R: Wait>(&self, rt: &R) {
+        self.leave(rt);
+    }
+
+    /// The turn of a man who was put off has come.
+    pub fn take_on(&self) {
+        self.risen.fetch_add(1, SeqCst);
+    }
+
+    // A man who was awake is no longer at work. Where nobody is awake then, one who sleeps is woken.
+    fn leave<R: Wait>(&self, rt: &R) {
+        self.rested.fetch_add(1, SeqCst);
+        for _ in rt.forever() {
+            if self.awake() > 0 {
+                return;
             }
-        }
-    }
-
-    fn wake_all(&self) {
-        for place in 0..self.beds.len() {
+            let Some(place) = self.sleeper() else {
+                return;
+            };
             self.wake(place);
         }
     }
 
-    fn sleeps(&self, bit: u64) -> bool {
-        self.asleep.load(SeqCst) & bit != 0
+    // As many as are awake, or more: there weren't more of them at any moment between the two looks.
+    fn awake(&self) -> u64 {
+        let rested = self.rested.load(SeqCst);
+        self.risen.load(SeqCst).saturating_sub(rested)
     }
 
-    // Lets a man no longer lie. It gives whether he lay.
-    fn get_up(&self, bit: u64) -> bool {
-        self.asleep.fetch_and(!bit, SeqCst) & bit != 0
+    // The place of one who sleeps.
+    fn sleeper(&self) -> Option<usize> {
+        (0..self.beds.len()).find(|place| self.is(*place, ASLEEP))
     }
 
-    // Lets a man lie down, unless all others who work do so already.
-    fn lie_down(&self, bit: u64) -> bool {
-        let asleep = self.asleep.fetch_or(bit, SeqCst) | bit;
-        let others_work = asleep.count_ones() < self.working.load(SeqCst);
-        if !others_work {
-            self.get_up(bit);
+    // Is the man of a box lying, or asleep?
+    fn is(&self, place: usize, rest: u32) -> bool {
+        match self.beds.get(place) {
+            Some(bed) => bed.rest.load(SeqCst) == rest,
+            None => false,
         }
-        others_work
     }
 
-    // Whether a man who is alone and has taken so many looks needn't wait for those who haven't begun: there are none,
-    // he has waited long enough, or another has, since when nobody has begun.
-    fn needs_no_others(&self, taken: u32) -> bool {
-        let begun = self.begun.load(SeqCst);
-        if begun as usize == self.men || begun == self.given_up.load(SeqCst) {
-            return true;
+    // Lets the man of a box be up, and wakes him where he sleeps. He is counted as awake before.
+    fn wake(&self, place: usize) {
+        let Some(bed) = self.beds.get(place) else {
+            return;
+        };
+        if bed.rest.load(SeqCst) == UP {
+            return;
         }
-        if taken < LOOKS_FOR_OTHERS {
-            return false;
+        self.risen.fetch_add(1, SeqCst);
+        if bed.rest.swap(UP, SeqCst) == ASLEEP {
+            bed.parker.unpark();
+        } else {
+            self.rested.fetch_add(1, SeqCst);
         }
-        self.given_up.store(begun, SeqCst);
-        true
     }
 
-    // The man of a box sleeps until he is woken, once more.
+    // Lets a man lie down or get up. It gives whether he has a bed.
+    fn lie(&self, place: usize, rest: u32) -> bool {
+        match self.beds.get(place) {
+            Some(bed) => {
+                bed.rest.store(rest, SeqCst);
+                true
+            }
+            None => false,
+        }
+    }
+
+    // The man of a box, who lay at his last look, sleeps until he is woken, unless somebody has done something for him
+    // since or nobody else is awake.
     fn sleep<R: Wait>(&self, rt: &R, place: usize) {
         let left = self.sleeps_left.load(SeqCst);
         self.sleeps_left.store(left.saturating_sub(1), SeqCst);
-        if let Some(bed) = self.beds.get(place) {
-            for _ in rt.forever() {
-                if !self.sleeps(bed.bit) {
-                    break;
-                }
-                bed.parker.park(rt);
+        let Some(bed) = self.beds.get(place) else {
+            return;
+        };
+        if bed
+            .rest
+            .compare_exchange(LYING, ASLEEP, SeqCst, SeqCst)
+            .is_err()
+        {
+            return;
+        }
+        self.rested.fetch_add(1, SeqCst);
+        if self.awake() == 0 {
+            self.wake(place);
+        }
+        for _ in rt.forever() {
+            if bed.rest.load(SeqCst) == UP {
+                break;
             }
+            bed.parker.park(rt);
         }
     }
 }
 
-/// One man of a crew, who has begun to work.
+/// One man of a crew, who is at work.
 #[derive(Drop)]
 pub struct Mate<'a, R: Wait, G: Gate> {
     rt: &'a R,
     gate: &'a G,
     crew: &'a Crew,
     place: usize,
-    bit: u64,
 }
 
 impl<'a, R: Wait, G: Gate> Mate<'a, R, G> {
@@ -190,12 +228,9 @@ impl<'a, R: Wait, G: Gate> Mate<'a, R, G> {
         }
     }
 
-    /// His script is done. Where nobody is left at work, all who sleep look again.
+    /// His script is done.
     pub fn end(self) {
-        self.crew.working.fetch_sub(1, SeqCst);
-        if self.crew.asleep.load(SeqCst).count_ones() >= self.crew.working.load(SeqCst) {
-            self.crew.wake_all();
-        }
+        self.crew.leave(self.rt);
     }
 
     fn wake_neighbour(&self, side: Way) {
@@ -213,32 +248,24 @@ impl<'a, R: Wait, G: Gate> Pauses for Mate<'a, R, G> {
     fn pause(&self, taken: u32) {
         if taken < EAGER_LOOKS {
             hint::spin_loop();
-        } else if self.crew.sleeps(self.bit) {
-            // He lay down before his last look.
+        } else if self.crew.is(self.place, LYING) {
             self.crew.sleep(self.rt, self.place);
         } else if taken < EAGER_LOOKS + YIELDS && self.crew.sleeps_left.load(SeqCst) == 0 {
             if !self.gate.lets_run() {
                 self.crew.sleeps_left.store(SLEEPS, SeqCst);
             }
-        } else if self.bit == 0 || !self.crew.lie_down(self.bit) {
+        } else if !self.crew.lie(self.place, LYING) {
             thread::yield_now();
         }
     }
 
     fn ended(&self, taken: u32) {
-        if taken > EAGER_LOOKS && self.crew.sleeps(self.bit) {
-            self.crew.get_up(self.bit);
+        if taken > EAGER_LOOKS && self.crew.is(self.place, LYING) {
+            self.crew.lie(self.place, UP);
         }
     }
 
     fn is_alone(&self, taken: u32) -> bool {
-        if taken < EAGER_LOOKS {
-            return false;
-        }
-        let working = self.crew.working.load(SeqCst);
-        let asleep = self.crew.asleep.load(SeqCst);
-        asleep & self.bit == 0
-            && asleep.count_ones() + 1 >= working
-            && self.crew.needs_no_others(taken)
+        taken >= EAGER_LOOKS && self.crew.awake() <= 1
     }
 }

@@ -3,6 +3,7 @@
 
 mod crew;
 mod gate;
+mod starting;
 mod working;
 
 pub use gate::{Gate, OpenGate, TimedGate};

@@ -1,29 +1,30 @@
 //! The scripts of a line, worked by its signalmen.
 
 ghost use Rattle.std.specs.Prelude.{◌≡◌, ◌≤◌, ◌<◌, ℕ, length, slice_index_or};
-ghost use Rattle.line_working.specs.Working.{CanWork, DidWork};
+ghost use denote.Param.Send.{IsSync};
+ghost use Rattle.line_working.specs.Working.{CanWork, CanWorkEach, DidWork, DidWorkEach};
 ghost use Rattle.script_text.specs.declared.script.Script.{Script};
 ghost use Rattle.signalman_seats.specs.Men.{Man};
 
 use crate::crew::Crew;
 use crate::gate::Gate;
+use crate::starting::work_both;
 use instrument_rule::Line;
 use script_text::Script;
 use signalman_seats::Signalman;
 use std::alloc::Global;
 use std::sync::Wait;
-use std::thread;
 use std::thread::Threads;
 
 // Makes the calls of a script, in order. Before each the man passes the gate.
 fn work<R: Wait, G: Gate>(
     rt: &R,
-    man: &mut Signalman,
     line: &Line,
     script: &Script,
     looks: u32,
     gate: &G,
     crew: &Crew,
+    man: &mut Signalman,
 )
     requires ready { CanWork line.now.table.shared.table_id line.now.table.shared.key script.now man.old }
     requires looks { 1 ≤ looks }
@@ -33,7 +34,7 @@ fn work<R: Wait, G: Gate>(
     // is asked for the script that has no call; and with his script they are no more than a box may have.
     drop(man.lend_watch(line));
     let _entries = man.entries();
-    let mate = crew.begin(rt, gate, script.box_no);
+    let mate = crew.mate(rt, gate, script.box_no);
     for (i, call) in script.calls.as_slice().iter().enumerate() {
         gate.pass(script.box_no, i as u32 + 1);
         let reply = man.perform_pausing(line, *call, looks, &mate);
@@ -42,14 +43,77 @@ fn work<R: Wait, G: Gate>(
     mate.end();
 }
 
-/// Each signalman works his script, on a thread of his own. Where a thread can't be started the caller does its work,
-/// with the same promise. Before each call the man passes the gate. It may wait for the threads that it started. Where
-/// there is no man it returns at once.
+// These men of a crew work their scripts, each but the last on a new thread of his own.
+#[cycle(men)]
+fn work_men<R: Threads + Wait + Sync, G: Gate>(
+    rt: &R,
+    line: &Line,
+    scripts: &[Script],
+    looks: u32,
+    gate: &G,
+    crew: &Crew,
+    men: &mut [Signalman],
+)
+    requires ready { CanWorkEach line.now.table.shared.table_id line.now.table.shared.key scripts.now men.old }
+    requires looks { 1 ≤ looks }
+    ensures { DidWorkEach line.now.table.shared.table_id line.now.table.shared.key scripts.now looks men.old men.new }
+{
+    let Some((script, later)) = scripts.split_first() else {
+        return;
+    };
+    let Some((man, others)) = men.split_first_mut() else {
+        return;
+    };
+    work_first(rt, line, script, later, looks, gate, crew, man, others);
+}
+
+// A man of a crew works his script on a new thread, and others theirs. Where there are no others he works here.
+#[cycle(men)]
+fn work_first<R: Threads + Wait + Sync, G: Gate>(
+    rt: &R,
+    line: &Line,
+    script: &Script,
+    later: &[Script],
+    looks: u32,
+    gate: &G,
+    crew: &Crew,
+    man: &mut Signalman,
+    others: &mut [Signalman],
+)
+    requires first { CanWork line.now.table.shared.table_id line.now.table.shared.key script.now man.old }
+    requires others { CanWorkEach line.now.table.shared.table_id line.now.table.shared.key later.now others.old }
+    requires looks { 1 ≤ looks }
+    ensures first { DidWork line.now.table.shared.table_id line.now.table.shared.key script.now looks man.old man.new }
+    ensures others { DidWorkEach line.now.table.shared.table_id line.now.table.shared.key later.now looks others.old
+        others.new }
+{
+    if others.is_empty() {
+        work(rt, line, script, looks, gate, crew, man);
+        return;
+    }
+    let mut his = ||
+        requires { (1 ≤ looks) × CanWork line.now.table.shared.table_id line.now.table.shared.key script.now man.now }
+        ensures { DidWork line.entry.now.table.shared.table_id line.entry.now.table.shared.key script.entry.now looks
+            man.entry.now man.exit.now }
+    { work(rt, line, script, looks, gate, crew, man) };
+    let mut theirs = ||
+        requires { IsSync R.row × IsSync G.row × (1 ≤ looks)
+            × CanWorkEach line.now.table.shared.table_id line.now.table.shared.key later.now others.now }
+        ensures { DidWorkEach line.entry.now.table.shared.table_id line.entry.now.table.shared.key later.entry.now looks
+            others.entry.now others.exit.now }
+    { work_men(rt, line, later, looks, gate, crew, others) };
+    work_both(rt, crew, &mut his, &mut theirs);
+}
+
+/// Each signalman works his script, on a thread of his own; the last on the caller's. Where a thread can't be started
+/// the caller does its work, when the men behind that one have ended, with the same promise. Before each call the man
+/// passes the gate. It may wait for the threads that it started. Where there is no man it returns at once.
 ///
 /// A man whose await isn't met looks again at once a few times, then lets other threads run between his looks, as far
 /// as the gate says that this is soon over, then sleeps until a neighbour has done something that he may wait for, or
-/// nobody is at work. The last man at work never sleeps: he takes the looks that are left to him, waiting only, for so
-/// many of them, for men whose turn to begin hasn't come. Where there is no memory for their beds nobody sleeps.
+/// nobody is awake. The last man who is awake doesn't sleep: he takes the looks that are left to him. A man whose
+/// thread hasn't started yet counts as awake, and one for whom none could be started as soon as his turn has come.
+/// Where there is no memory for their beds nobody sleeps.
 ///
 /// The men stay in their places. What each has seen has grown to a legal history of the line, in which his part has one
 /// entry more for each call of his script, in order and no other; all his looks were those of his awaits, and his
@@ -73,21 +137,6 @@ pub fn work_line<R: Threads + Wait + Sync, G: Gate>(
         → DidWork line.now.table.shared.table_id line.now.table.shared.key (slice_index_or scripts.now i e) looks
         (slice_index_or men.old i d) (slice_index_or men.new i d) }
 {
-    let threads = men.len();
-    if threads == 0 {
-        return;
-    }
-    let crew = Crew::new(alloc, threads);
-    thread::for_each_mut(
-        rt,
-        men,
-        threads,
-        &|i: usize, man: &mut Signalman|
-            requires { (i < length scripts.now) × (1 ≤ looks)
-                × ((e : Script) → CanWork line.now.table.shared.table_id line.now.table.shared.key
-                (slice_index_or scripts.now i e) man.now) }
-            ensures { (e : Script) → DidWork line.entry.now.table.shared.table_id line.entry.now.table.shared.key
-                (slice_index_or scripts.entry.now i e) looks man.entry.now man.exit.now }
-        { work(rt, man, line, &scripts[i], looks, gate, &crew) },
-    );
+    let crew = Crew::new(alloc, men.len());
+    work_men(rt, line, scripts, looks, gate, &crew, men);
 }
