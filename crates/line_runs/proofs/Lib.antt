@@ -1,8 +1,4 @@
 pub mod BothHold
-pub mod LeftOf
-pub mod NextBox
-pub mod Turning
-pub mod SerialTurns
 pub mod ScriptsWorked
 pub mod OutputRead
 pub mod LineWatched

@@ -31,10 +31,10 @@ use Rattle.line_report.proofs.PrintedJournals.{legal_judged, legal_read}
 use Rattle.line_working.specs.Working.{CanWork, DidWork}
 use Rattle.line_working.proofs.FreshMen.{fresh_works}
 use Rattle.text_fetch.specs.Runs.{AreScriptsOf, Run}
-use Rattle.line_runs.specs.Rosters.{calls_of_scripts}
+use Rattle.serial_working.specs.Rosters.{calls_of_scripts}
 use Rattle.line_runs.specs.Worked.{AreOfMen, ArePullsTold, AreWorked, HasCallsOf, HaveWorked, HoldsFew, IsJournalOf}
 use Rattle.line_runs.specs.Worked.{IsWorkedLine, lengths_of}
-use Rattle.line_runs.proofs.SerialTurns.{boxes_few, entries_few, scripts_are, scripts_few}
+use Rattle.serial_working.proofs.SerialTurns.{boxes_few, entries_few, scripts_are, scripts_few}
 
 -- ---- scripts by their boxes
 

@@ -1,6 +1,3 @@
-pub mod Rosters
-pub mod Looks
-pub mod Serial
 pub mod Worked
 pub mod Outputs
 pub mod Made

@@ -23,7 +23,7 @@ use Rattle.line_working.specs.Working.{DidWork}
 use Rattle.text_fetch.specs.Runs.{Run}
 use Rattle.train_laws.specs.MayPull.{IsPullTold}
 use Rattle.train_register.specs.Registers.{AreParts, IsPrintable, RegisterFields, register_text}
-use Rattle.line_runs.specs.Rosters.{calls_of_scripts}
+use Rattle.serial_working.specs.Rosters.{calls_of_scripts}
 
 -- how many calls each script has
 abbrev pub lengths_of : List Script → List ℕ

@@ -5,16 +5,12 @@
 mod both;
 mod copying;
 mod counting;
-mod look;
 mod printing;
 mod registers;
 mod rest;
-mod roster;
 mod run;
-mod serial;
 mod sizes;
 mod stress;
-mod turns;
 mod watch;
 mod watched;
 mod worked;

@@ -7,10 +7,9 @@ ghost use Rattle.signalman_seats.specs.Lines.{AreFresh, AreMen, Closed, WasTaken
 ghost use Rattle.line_law.specs.Serial.{serial_journal};
 ghost use Rattle.text_fetch.specs.Runs.{AreScriptsOf};
 ghost use Rattle.train_register.specs.Registers.{AreParts, IsPrintable};
-ghost use Rattle.line_runs.specs.Rosters.{calls_of_scripts};
+ghost use Rattle.serial_working.specs.Rosters.{calls_of_scripts};
 ghost use Rattle.line_runs.specs.Worked.{AreOfMen, AreOfMenOrSerial, AreWorked, IsJournalOf, IsWorkedLine, lengths_of};
 
-use crate::serial::work_serially;
 use instrument_rule::Line;
 use line_journal::{Merged, merge, merged};
 use line_law::Journal;
@@ -18,6 +17,7 @@ use line_plan::Plan;
 use line_working::{Gate, work_line};
 use rail_text::NoMemory;
 use script_text::Script;
+use serial_working::work_serially;
 use signalman_seats::{OpenError, Signalman, close_line, open_line};
 use std::alloc::{AllocError, Global};
 use std::sync::Wait;

@@ -1,0 +1,4 @@
+pub mod LeftOf
+pub mod NextBox
+pub mod Turning
+pub mod SerialTurns
