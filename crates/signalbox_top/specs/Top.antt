@@ -20,7 +20,6 @@ asked words = if takes program words then command_of words else None
 abbrev pub Headline : Held → Option Command → Option (List ℕ) → Option (List ℕ) → Type 0
 Headline held None old new = Unit {0}
 Headline held (Some (Command.Tidy file)) old new = IfSome (held file) (λ all. new ≡ appended old (tidy_text all))
-Headline held (Some (Command.Rehearse to_refusal journal plan scripts)) old new = Unit {0}
 
 -- nothing was taken, or the front part of a text
 abbrev pub TakesFront : Option (List ℕ) → Option (List ℕ) → Type 0

@@ -27,7 +27,6 @@ fn serve<S: ReasonedShelf, K: Sink, L: Sink>(
 {
     match command {
         SignalboxCommand::Tidy { file } => serve_tidy(alloc, file, shelf, out, told),
-        SignalboxCommand::Rehearse { .. } => tell(told, "signalbox: rehearse isn't here yet\n"),
     }
 }
 

@@ -1,7 +1,4 @@
 -- What the getters of clap's matches read, by the rows of the matches.
-use Rattle.clap.proofs.WalkLemmas.{first_value-rows, raw_values-rows}
-use Rattle.std.proofs.lemmas.Bool.Decides.{nat_tests}
+use Rattle.clap.proofs.WalkLemmas.{first_value-rows}
 
-pub ruleset match_rules = (first_value-rows, raw_values-rows)
-
-pub ruleset count_rules = nat_tests
+pub ruleset match_rules = (first_value-rows)

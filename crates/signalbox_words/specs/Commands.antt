@@ -1,8 +1,8 @@
 -- What the words of a command line ask for.
-use Rattle.std.specs.Prelude.{◌≡◌, ◌≢◌, ◌⊎◌, ℕ, Bool, true, nat_lt, List, Option, Some, None, if◌then◌else◌}
+use Rattle.std.specs.Prelude.{◌≡◌, ◌≢◌, ◌⊎◌, ℕ, true, List, Option, Some, None, if◌then◌else◌}
 use Rattle.std.specs.Prelude.{String, bytes_eq, codes, map, option_and_then, option_map, string_bytes}
 use Rattle.std.specs.Global.{Global}
-use Rattle.clap.specs.Words.{Row, Text, all_of, count_of, first_of, subcommand_of, takes}
+use Rattle.clap.specs.Words.{Row, Text, first_of, subcommand_of, takes}
 use Rattle.clap.specs.declared.error.kind.ErrorKind.{ErrorKind}
 use Rattle.clap.specs.declared.error.kind.ErrorKind.TheVariants as kinds
 use Rattle.signalbox_words.specs.Table.{program}
@@ -11,42 +11,22 @@ use Rattle.signalbox_words.specs.declared.reading.SignalboxCommand.TheVariants a
 use Rattle.signalbox_words.specs.declared.reading.Words.{Words}
 use Rattle.signalbox_words.specs.declared.reading.Words.TheVariants as words
 
--- Tidy: a text is printed with its form mended. Rehearse: a plan's line is worked on one thread by the scripts of its
--- boxes up to a stop, or up to the first refused call if that comes before, and the journal is printed or not.
+-- Tidy: a text is printed with its form mended.
 pub data Command : Type 0 where
   Tidy : List ℕ → Command
-  Rehearse : Bool → Bool → List ℕ → List (List ℕ) → Command
 
 -- the command with the names as their bytes
 abbrev pub shown : SignalboxCommand → Command
 shown (commands.Tidy file) = Command.Tidy file.now
-shown (commands.Rehearse to_refusal journal plan scripts) =
-    Command.Rehearse to_refusal journal plan.now (map (λ script. script.now) scripts.items)
 
 -- words as their bytes
 abbrev pub bytes_of : List (String Global) → List Text
 bytes_of words = map (λ word. string_bytes word) words
 
--- an option stands there, once or more often
-abbrev pub has_flag : Text → List Row → Bool
-has_flag id rows = nat_lt 0 (count_of id rows)
-
--- a rehearsal of a plan and its scripts
-abbrev pub rehearsal_of : Bool → Bool → Option Text → Option (List Text) → Option Command
-rehearsal_of to_refusal journal (Some plan) (Some scripts) = Some (Command.Rehearse to_refusal journal plan scripts)
-rehearsal_of to_refusal journal (Some plan) None = None
-rehearsal_of to_refusal journal None scripts = None
-
--- a rehearsal, by the values that clap found
-abbrev pub rehearse_read : List Row → Option Command
-rehearse_read rows = rehearsal_of (has_flag (codes "to-refusal") rows) (has_flag (codes "journal") rows)
-    (first_of (codes "plan") rows) (all_of (codes "script") rows)
-
 -- a command, by its name and the values that clap found
 abbrev pub command_read : Text → List Row → Option Command
 command_read name rows =
     if bytes_eq name (codes "tidy") then option_map Command.Tidy (first_of (codes "file") rows)
-    else if bytes_eq name (codes "rehearse") then rehearse_read rows
     else None
 
 -- the command of these words, as clap reads them by the table of commands

@@ -4,8 +4,7 @@ ghost use Rattle.std.specs.Prelude.{◌≡◌, IfOk};
 ghost use Rattle.std.specs.Option.{option_map};
 ghost use Rattle.clap.specs.Words.{found_of, rows_of};
 ghost use Rattle.clap.specs.Values.{kind_of};
-ghost use Rattle.signalbox_words.specs.Commands.{AreRead, TellsFault, bytes_of, command_read, has_flag};
-ghost use Rattle.signalbox_words.specs.Commands.{rehearse_read, shown};
+ghost use Rattle.signalbox_words.specs.Commands.{AreRead, TellsFault, bytes_of, command_read, shown};
 
 use crate::table::program;
 use clap::error::ErrorKind;
@@ -17,18 +16,7 @@ use std::alloc::Global;
 #[derive(Debug, Drop)]
 pub enum SignalboxCommand<'a> {
     /// `tidy FILE`: a text is printed with its form mended.
-    Tidy {
-        file: &'a str,
-    },
-    /// `rehearse PLAN SCRIPT..`: a plan's line is worked on one thread by the scripts of its boxes, up to a stop.
-    Rehearse {
-        /// It stops at the first refused call, if that comes before.
-        to_refusal: bool,
-        /// The journal is printed.
-        journal: bool,
-        plan: &'a str,
-        scripts: Vec<&'a str>,
-    },
+    Tidy { file: &'a str },
 }
 
 /// What words come to.
@@ -42,52 +30,17 @@ pub enum Words<'a> {
     Wrong(String),
 }
 
-// Whether an option stands there.
-#[tactic(auto, using(crate::proofs::MatchRules::count_rules))]
-fn has_flag(found: &ArgMatches<'_>, id: &str) -> bool
-    ensures { result ≡ has_flag id.now (rows_of (found_of found.now)) }
-{
-    found.get_count(id) > 0
-}
-
-// A rehearsal, by what clap found.
-#[tactic(auto, using(crate::proofs::MatchRules::match_rules))]
-fn read_rehearse<'a>(
-    alloc: Global,
-    found: &ArgMatches<'a>,
-) -> Result<Option<SignalboxCommand<'a>>, NoMemory>
-    ensures { IfOk result (λ command. option_map shown command ≡ rehearse_read (rows_of (found_of found.now))) }
-{
-    let (Some(plan), Some(scripts)) = (found.get_str("plan"), found.get_strs("script")) else {
-        return Ok(None);
-    };
-    let scripts = Vec::from_slice(alloc, scripts)?;
-    Ok(Some(SignalboxCommand::Rehearse {
-        to_refusal: has_flag(found, "to-refusal"),
-        journal: has_flag(found, "journal"),
-        plan,
-        scripts,
-    }))
-}
-
 // A command, by its name and what clap found.
 #[tactic(auto, using(crate::proofs::MatchRules::match_rules))]
-fn read_command<'a>(
-    alloc: Global,
-    name: &str,
-    found: &ArgMatches<'a>,
-) -> Result<Option<SignalboxCommand<'a>>, NoMemory>
-    ensures { IfOk result
-        (λ command. option_map shown command ≡ command_read name.now (rows_of (found_of found.now))) }
+fn read_command<'a>(name: &str, found: &ArgMatches<'a>) -> Option<SignalboxCommand<'a>>
+    ensures { option_map shown result ≡ command_read name.now (rows_of (found_of found.now)) }
 {
     match name {
-        "tidy" => Ok(
-            found
-                .get_str("file")
-                .map(|file| SignalboxCommand::Tidy { file }),
-        ),
-        "rehearse" => read_rehearse(alloc, found),
-        _ => Ok(None),
+        "tidy" => {
+            let file = found.get_str("file")?;
+            Some(SignalboxCommand::Tidy { file })
+        }
+        _ => None,
     }
 }
 
@@ -117,7 +70,7 @@ pub fn read_words<'a>(alloc: Global, words: &'a [String]) -> Result<Words<'a>, N
             let Some((name, found)) = matches.subcommand() else {
                 return Ok(Words::Wrong(String::new(alloc)));
             };
-            match read_command(alloc, name, found)? {
+            match read_command(name, found) {
                 Some(command) => Ok(Words::Command(command)),
                 None => Ok(Words::Wrong(String::new(alloc))),
             }
