@@ -16,8 +16,8 @@ use crate::both::both_made;
 use crate::copying::{CopiedLines, copy_from};
 use crate::counting::print_counts;
 use crate::registers::PrintedRegisters;
-use crate::rest::OutputRest;
-use crate::sizes::{journal_room, output_room};
+use crate::rest::{OutputRest, in_room};
+use crate::sizes::{journal_room, make_room};
 use crate::worked::{WorkedLine, merged_entries};
 use line_journal::{Merged, Walk};
 use line_plan::Plan;
@@ -220,69 +220,9 @@ fn copy_behind(
     copied
 }
 
-// What stands before and behind the lines of the refused calls, and room for the whole output. Each byte of it is
-// written once, since to take the memory is most of what it costs to fill it.
-fn counts_and_room(
-    alloc: Global,
-    plan: &Plan,
-    merged: &Merged<'_>,
-    registers: &PrintedRegisters,
-) -> Result<((Vec<u8>, Vec<u8>), Vec<u8>), NoMemory>
-    requires legal { IsLegal plan.now merged.now }
-    requires few { AreFewEntries merged.now }
-    ensures { IfOk result (λ r. AreCountsTold plan.now merged.now r.0.0.items r.0.1.items) }
-{
-    let (told, refused) = print_counts(alloc, plan, merged)?;
-    let bytes = output_room(merged.len(), refused, registers.room());
-    match Vec::from_elem(alloc, 0u8, bytes) {
-        Ok(room) => Ok((told, room)),
-        Err(AllocError) => {
-            drop(told);
-            Err(NoMemory)
-        }
-    }
-}
-
-// The same text, in room that was made for it and what comes behind it.
-fn in_room(room: Vec<u8>, text: Vec<u8>) -> Result<Vec<u8>, AllocError>
-    ensures { IfOk result (λ moved. moved.items ≡ text.items) }
-{
-    let mut moved = room;
-    moved.clear();
-    let put = moved.extend_from_slice(&text);
-    drop(text);
-    match put {
-        Ok(()) => Ok(moved),
-        Err(error) => {
-            drop(moved);
-            Err(error)
-        }
-    }
-}
-
-// The same lines, those of the journal in room for the whole output, and what was counted.
-fn lines_in_room(
-    copied: CopiedLines,
-    counted: ((Vec<u8>, Vec<u8>), Vec<u8>),
-) -> Result<(CopiedLines, (Vec<u8>, Vec<u8>)), NoMemory>
-    ensures lines { IfOk result (λ r. r.0 ≡ copied) }
-    ensures counts { IfOk result (λ r. r.1 ≡ counted.0) }
-{
-    let CopiedLines { journal, refused } = copied;
-    let (counts, room) = counted;
-    match in_room(room, journal) {
-        Ok(journal) => Ok((CopiedLines { journal, refused }, counts)),
-        Err(AllocError) => {
-            drop(refused);
-            drop(counts);
-            Err(NoMemory)
-        }
-    }
-}
-
-// The journal's first line and the lines of its front half, in room for the whole output, and what stands before and
-// behind the lines of the refused calls. While the lines are copied from the registers, the refused calls and the most
-// trains of the sections are counted and printed on a thread, and room is made there.
+// The journal's first line and the lines of its front half, and what stands before and behind the lines of the refused
+// calls. While the lines are copied from the registers, the refused calls and the most trains of the sections are
+// counted and printed on a thread.
 fn front_and_counts<R: Threads + Sync>(
     rt: &R,
     alloc: Global,
@@ -303,13 +243,12 @@ fn front_and_counts<R: Threads + Sync>(
         ensures { IfOk result
             (AreCopied plan.entry.now (heading_text plan.entry.now) 1 (take half merged.entry.now)) }
     { copy_front(alloc, plan, merged, half, registers, room) };
-    let counts = || -> Result<((Vec<u8>, Vec<u8>), Vec<u8>), NoMemory>
+    let counts = || -> Result<(Vec<u8>, Vec<u8>), NoMemory>
         requires { IsLegal plan.now merged.now × AreFewEntries merged.now }
-        ensures { IfOk result (λ r. AreCountsTold plan.entry.now merged.entry.now r.0.0.items r.0.1.items) }
-    { counts_and_room(alloc, plan, merged, registers) };
+        ensures { IfOk result (λ r. AreCountsTold plan.entry.now merged.entry.now r.0.items r.1.items) }
+    { print_counts(alloc, plan, merged) };
     let (front, counts) = join(rt, front, counts);
-    let both = both_made(front, counts)?;
-    lines_in_room(both.0, both.1)
+    both_made(front, counts)
 }
 
 // The journal's first line and the lines of all entries, copied from the registers that are printed, and what stands
@@ -367,7 +306,7 @@ fn put_together(
 }
 
 /// The whole output of a line, by its journal, where its registers are printed already: up to the lines of the
-/// journal's front half, with room for all of it, and the rest.
+/// journal's front half, and the rest.
 pub(crate) fn print_whole<R: Threads + Sync>(
     rt: &R,
     alloc: Global,
@@ -387,8 +326,8 @@ pub(crate) fn print_whole<R: Threads + Sync>(
     }
 }
 
-/// The same of a line that was worked, its registers printed on threads.
-pub(crate) fn print_output<R: Threads + Sync>(
+// The same of a line that was worked, its registers printed on threads.
+fn print_line<R: Threads + Sync>(
     rt: &R,
     alloc: Global,
     plan: &Plan,
@@ -405,4 +344,27 @@ pub(crate) fn print_output<R: Threads + Sync>(
     };
     drop(merged);
     printed
+}
+
+/// The same, the lines of the journal's front half in room for the whole output, which is made on a thread meanwhile.
+pub(crate) fn print_output<R: Threads + Sync>(
+    rt: &R,
+    alloc: Global,
+    plan: &Plan,
+    line: &WorkedLine,
+) -> Result<(Vec<u8>, OutputRest), NoMemory>
+    requires { CanBePrinted plan.now line.now.journal.entries line.now.ended.registers }
+    ensures { IfOk result (λ r. r.0.items ++ r.1 ≡ output_text plan.now line.now.journal.entries) }
+{
+    let room = || -> Result<Vec<u8>, NoMemory> {
+        make_room(alloc, line.ended.registers.as_slice())
+    };
+    let printed = || -> Result<(Vec<u8>, OutputRest), NoMemory>
+        requires { CanBePrinted plan.now line.now.journal.entries line.now.ended.registers }
+        ensures { IfOk result
+            (λ r. r.0.items ++ r.1 ≡ output_text plan.entry.now line.entry.now.journal.entries) }
+    { print_line(rt, alloc, plan, line) };
+    let (room, printed) = join(rt, room, printed);
+    let (room, printed) = both_made(room, printed)?;
+    in_room(room, printed)
 }

@@ -3,6 +3,7 @@
 ghost use Rattle.std.specs.Prelude.{◌≡◌, ◌-◌, ◌^◌, ◌++◌, IfOk, OnOk, length, min};
 
 use crate::registers::PrintedRegisters;
+use rail_text::NoMemory;
 use std::alloc::AllocError;
 use std::marker::Model;
 
@@ -63,6 +64,41 @@ impl OutputRest {
         out.extend_from_slice(&self.refused_behind)?;
         out.extend_from_slice(&self.sections)?;
         out.extend_from_slice(behind)
+    }
+}
+
+// The same text, in room that was made for it and what comes behind it.
+fn text_in_room(room: Vec<u8>, text: Vec<u8>) -> Result<Vec<u8>, AllocError>
+    ensures { IfOk result (λ moved. moved.items ≡ text.items) }
+{
+    let mut moved = room;
+    moved.clear();
+    let put = moved.extend_from_slice(&text);
+    drop(text);
+    match put {
+        Ok(()) => Ok(moved),
+        Err(error) => {
+            drop(moved);
+            Err(error)
+        }
+    }
+}
+
+/// The same output, its front in room for the whole.
+pub(crate) fn in_room(
+    room: Vec<u8>,
+    printed: (Vec<u8>, OutputRest),
+) -> Result<(Vec<u8>, OutputRest), NoMemory>
+    ensures front { IfOk result (λ r. r.0.items ≡ printed.0.items) }
+    ensures rest { IfOk result (λ r. r.1 ≡ printed.1) }
+{
+    let (front, rest) = printed;
+    match text_in_room(room, front) {
+        Ok(front) => Ok((front, rest)),
+        Err(AllocError) => {
+            drop(rest);
+            Err(NoMemory)
+        }
     }
 }
 
