@@ -3,7 +3,6 @@ pub mod ScriptsWorked
 pub mod OutputRead
 pub mod LineWatched
 pub mod Refused
-pub mod Room
 pub mod Printed
 pub mod Copied
 pub mod Counted

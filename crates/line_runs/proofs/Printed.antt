@@ -3,7 +3,8 @@ use Rattle.std.proofs.Common.{◌≡◌, ℕ, ◌+◌, ◌≤◌, List, [], ◌�
 use Rattle.std.proofs.Common.{append_assoc, arith, codes, decimal, refl, sym, ap, ◌∙◌}
 use Rattle.std.proofs.lemmas.Result.{IfOk-at_ok}
 use Rattle.std.specs.List.{flat_map, sum, sum_by}
-use Rattle.std.proofs.lemmas.List.{length-take, map-append, take-append-drop}
+use Rattle.std.proofs.lemmas.List.{drop-append-le, length-drop, length-take, length-take-le, map-append}
+use Rattle.std.proofs.lemmas.List.{take-append-drop}
 use Rattle.std.proofs.lemmas.List.Sums.{sum-map}
 use Rattle.line_plan.specs.Plans.{PlanFields}
 use Rattle.line_law.specs.declared.call.Entry.{Entry}
@@ -12,7 +13,7 @@ use Rattle.line_report.specs.Refusals.{refusals_text, refused_count, refused_ent
 use Rattle.line_report.proofs.Entries.{entries_text-append}
 use Rattle.train_register.specs.Registers.{AreParts, RegisterFields, register_text, registers_text}
 use Rattle.train_register.proofs.Parts.{parts_text as registers_whole}
-use Rattle.line_runs.specs.Copying.{AreCopied, AreHalves, CopiedFields, refusals_heading}
+use Rattle.line_runs.specs.Copying.{AreCopied, AreHalves, CopiedFields, one_behind, refusals_heading}
 use Rattle.line_runs.specs.Counting.{AreCountsTold}
 use Rattle.line_runs.specs.Outputs.{AreInOrder, output_text, rest_text}
 use Rattle.line_runs.proofs.Refused.{refused_entries-append}
@@ -62,6 +63,28 @@ in_halves plan es half front behind first second within =
       refused = rw (first.refused, second.refused)
           (ap (λ (n : ℕ). refused_entries plan 1 (take half es) ++ refused_entries plan n (drop half es)) (sym counted)
           ∙ (sym (refused_entries-append plan 1 (take half es) (drop half es)) ∙ ap (refused_entries plan 1) parts));
+    }
+
+-- the entries behind a place, up to another place and behind that
+pub copied_on : (plan : PlanFields) (es : List Entry) (from to : ℕ) (middle last : CopiedFields)
+    → AreCopied plan [] (from + 1) (drop from (take to es)) middle → AreCopied plan [] (to + 1) (drop to es) last
+    → from ≤ to → to ≤ length es → AreCopied plan [] (from + 1) (drop from es) (one_behind middle last)
+copied_on plan es from to middle last first second within fits =
+    let inner : List Entry = drop from (take to es) in
+    let many : length (take to es) ≡ to = length-take-le to es fits in
+    let parts : inner ++ drop to es ≡ drop from es =
+    sym (drop-append-le from (take to es) (drop to es) (omega (arith, many, within)))
+    ∙ ap (λ (xs : List Entry). drop from xs) (take-append-drop to es) in
+    let counted : (from + 1) + length inner ≡ to + 1 =
+    omega (arith, length-drop from (take to es), many, within) in
+    record {
+      journal = rw (first.journal, second.journal)
+          (ap (λ (n : ℕ). entries_text plan (from + 1) inner ++ entries_text plan n (drop to es)) (sym counted)
+          ∙ (sym (entries_text-append plan (from + 1) inner (drop to es)) ∙ ap (entries_text plan (from + 1)) parts));
+      refused = rw (first.refused, second.refused)
+          (ap (λ (n : ℕ). refused_entries plan (from + 1) inner ++ refused_entries plan n (drop to es)) (sym counted)
+          ∙ (sym (refused_entries-append plan (from + 1) inner (drop to es))
+          ∙ ap (refused_entries plan (from + 1)) parts));
     }
 
 -- the texts of registers one after another

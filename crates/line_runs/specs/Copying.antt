@@ -45,7 +45,12 @@ pub record AreCopied (plan : PlanFields) (before : List ℕ) (number : ℕ) (es 
   pub journal : copied.journal ≡ before ++ entries_text plan number es
   pub refused : copied.refused ≡ refused_entries plan number es
 
--- these are copied of the front half of a journal's entries, behind its first line, and of the others
+-- what is copied of some entries and of those behind them
+abbrev pub one_behind : CopiedFields → CopiedFields → CopiedFields
+one_behind front behind =
+    record { journal = front.journal ++ behind.journal; refused = front.refused ++ behind.refused }
+
+-- these are copied of the front of a journal's entries, behind its first line, and of the others
 pub record AreHalves (plan : PlanFields) (es : List Entry) (front behind : CopiedFields) : Type 0 where
   pub journal : front.journal ++ behind.journal ≡ heading_text plan ++ entries_text plan 1 es
   pub refused : front.refused ++ behind.refused ≡ refused_entries plan 1 es

@@ -68,19 +68,18 @@ fn print_told(alloc: Global, plan: &Plan, counts: &Counts) -> Result<(Vec<u8>, V
 }
 
 /// What stands before the lines of a journal's refused calls, and what behind them: how many they are, and the most
-/// trains of the sections. Beside it, how many they are.
+/// trains of the sections.
 pub(crate) fn print_counts(
     alloc: Global,
     plan: &Plan,
     merged: &Merged<'_>,
-) -> Result<((Vec<u8>, Vec<u8>), usize), NoMemory>
+) -> Result<(Vec<u8>, Vec<u8>), NoMemory>
     requires legal { IsLegal plan.now merged.now }
     requires few { AreFewEntries merged.now }
-    ensures { IfOk result (λ r. AreCountsTold plan.now merged.now r.0.0.items r.0.1.items) }
+    ensures { IfOk result (λ r. AreCountsTold plan.now merged.now r.0.items r.1.items) }
 {
     let counts = count_along(alloc, plan, merged)?;
     let told = print_told(alloc, plan, &counts);
-    let refused = counts.refused;
     drop(counts);
-    Ok((told?, refused))
+    told
 }

@@ -4,7 +4,7 @@ ghost use Rattle.std.specs.Prelude.{◌≡◌, ◌+◌, ◌<◌, ◌≤◌, ◌^
 ghost use Rattle.line_law.specs.History.{IsLegal};
 ghost use Rattle.line_report.specs.Asked.{AreFewEntries};
 ghost use Rattle.line_report.specs.Journals.{heading_text};
-ghost use Rattle.line_runs.specs.Copying.{AreCopied, AreHalves, AreLinesLeft, behind_line};
+ghost use Rattle.line_runs.specs.Copying.{AreCopied, AreHalves, one_behind};
 ghost use Rattle.line_runs.specs.Counting.{AreCountsTold};
 ghost use Rattle.line_runs.specs.Outputs.{output_text, rest_text};
 ghost use Rattle.line_runs.specs.Worked.{AreWorked, CanBePrinted, HasTexts, IsJournalOf, IsWorkedLine};
@@ -16,10 +16,10 @@ use crate::both::both_made;
 use crate::copying::{CopiedLines, copy_from};
 use crate::counting::print_counts;
 use crate::registers::PrintedRegisters;
-use crate::rest::OutputRest;
-use crate::sizes::{journal_room, output_room};
+use crate::rest::{OutputRest, in_room};
+use crate::sizes::{journal_room, make_room};
 use crate::worked::{WorkedLine, merged_entries};
-use line_journal::{Merged, Walk};
+use line_journal::Merged;
 use line_plan::Plan;
 use line_report::put_heading;
 use rail_text::NoMemory;
@@ -154,220 +154,208 @@ fn print_heading(alloc: Global, plan: &Plan) -> Result<Vec<u8>, AllocError>
     Ok(text.into_bytes())
 }
 
-// The journal's first line, and the lines of the entries that are ahead, copied from the registers that are printed.
-fn copy_behind_heading(
+// The journal's lines of the entries from one place on up to another, copied from the registers that are printed, behind
+// a text. There is room for so many bytes.
+fn copy_part(
     alloc: Global,
     plan: &Plan,
-    walk: &mut Walk<'_>,
+    merged: &Merged<'_>,
+    from: usize,
+    to: usize,
     registers: &PrintedRegisters,
+    before: Vec<u8>,
     room: usize,
 ) -> Result<CopiedLines, NoMemory>
-    requires numbers { length walk.old + 1 < 2 ^ 64 }
-    requires spelled { All (IsSpelled plan.now) walk.old }
-    requires left { AreLinesLeft plan.now walk.old (map behind_line registers.now) }
-    ensures { IfOk result (AreCopied plan.now (heading_text plan.now) 1 walk.old) }
+    requires texts { HasTexts plan.now merged.now registers.now }
+    requires from { from ≤ to }
+    requires to { to ≤ length merged.now }
+    ensures { IfOk result (AreCopied plan.now before.items (from + 1) (drop from (take to merged.now))) }
 {
-    let heading = print_heading(alloc, plan)?;
-    copy_from(alloc, plan, walk, 0, registers, heading, room)
+    plan.meets_conditions();
+    let mut walk = merged.walk_front(alloc, to)?;
+    let copied = copy_from(alloc, plan, &mut walk, from, registers, before, room);
+    drop(walk);
+    copied
 }
 
-// The journal's first line and the lines of its front half, copied from the registers that are printed. There is room
-// for so many bytes.
+// The journal's first line and the lines of its front entries.
 fn copy_front(
     alloc: Global,
     plan: &Plan,
     merged: &Merged<'_>,
-    half: usize,
+    many: usize,
     registers: &PrintedRegisters,
     room: usize,
 ) -> Result<CopiedLines, NoMemory>
     requires texts { HasTexts plan.now merged.now registers.now }
-    requires half { half ≤ length merged.now }
-    ensures { IfOk result (AreCopied plan.now (heading_text plan.now) 1 (take half merged.now)) }
+    requires many { many ≤ length merged.now }
+    ensures { IfOk result (AreCopied plan.now (heading_text plan.now) 1 (take many merged.now)) }
 {
-    plan.meets_conditions();
-    let mut walk = merged.walk_front(alloc, half)?;
-    let copied = copy_behind_heading(alloc, plan, &mut walk, registers, room);
-    drop(walk);
-    copied
+    let heading = print_heading(alloc, plan)?;
+    copy_part(alloc, plan, merged, 0, many, registers, heading, room)
 }
 
-// The same of the entries behind its front half.
-fn copy_behind(
+// The lines of the entries from one place on.
+fn copy_last(
     alloc: Global,
     plan: &Plan,
     merged: &Merged<'_>,
-    half: usize,
+    from: usize,
     registers: &PrintedRegisters,
     room: usize,
 ) -> Result<CopiedLines, NoMemory>
     requires texts { HasTexts plan.now merged.now registers.now }
-    requires half { half ≤ length merged.now }
-    ensures { IfOk result (AreCopied plan.now [] (half + 1) (drop half merged.now)) }
+    requires from { from ≤ length merged.now }
+    ensures { IfOk result (AreCopied plan.now [] (from + 1) (drop from merged.now)) }
 {
-    plan.meets_conditions();
-    let mut walk = merged.walk(alloc)?;
-    let copied = copy_from(
+    let to = merged.len();
+    copy_part(
         alloc,
         plan,
-        &mut walk,
-        half,
+        merged,
+        from,
+        to,
         registers,
         Vec::new(alloc),
         room,
-    );
-    drop(walk);
-    copied
+    )
 }
 
-// What stands before and behind the lines of the refused calls, and room for the whole output. Each byte of it is
-// written once, since to take the memory is most of what it costs to fill it.
-fn counts_and_room(
+// The lines of the entries from one place on, those up to another place and the rest, each on a thread.
+fn copy_behind<R: Threads + Sync>(
+    rt: &R,
     alloc: Global,
     plan: &Plan,
     merged: &Merged<'_>,
+    from: usize,
+    to: usize,
     registers: &PrintedRegisters,
-) -> Result<((Vec<u8>, Vec<u8>), Vec<u8>), NoMemory>
-    requires legal { IsLegal plan.now merged.now }
-    requires few { AreFewEntries merged.now }
-    ensures { IfOk result (λ r. AreCountsTold plan.now merged.now r.0.0.items r.0.1.items) }
+    room: usize,
+) -> Result<(CopiedLines, CopiedLines), NoMemory>
+    requires texts { HasTexts plan.now merged.now registers.now }
+    requires from { from ≤ to }
+    requires to { to ≤ length merged.now }
+    ensures { IfOk result (λ r. AreCopied plan.now [] (from + 1) (drop from merged.now) (one_behind r.0 r.1)) }
 {
-    let (told, refused) = print_counts(alloc, plan, merged)?;
-    let bytes = output_room(merged.len(), refused, registers.room());
-    match Vec::from_elem(alloc, 0u8, bytes) {
-        Ok(room) => Ok((told, room)),
-        Err(AllocError) => {
-            drop(told);
-            Err(NoMemory)
-        }
-    }
+    let middle = || -> Result<CopiedLines, NoMemory>
+        requires { HasTexts plan.now merged.now registers.now × (from ≤ to) × (to ≤ length merged.now) }
+        ensures { IfOk result (AreCopied plan.entry.now [] (from + 1) (drop from (take to merged.entry.now))) }
+    {
+        copy_part(
+            alloc,
+            plan,
+            merged,
+            from,
+            to,
+            registers,
+            Vec::new(alloc),
+            room,
+        )
+    };
+    let last = || -> Result<CopiedLines, NoMemory>
+        requires { HasTexts plan.now merged.now registers.now × (to ≤ length merged.now) }
+        ensures { IfOk result (AreCopied plan.entry.now [] (to + 1) (drop to merged.entry.now)) }
+    { copy_last(alloc, plan, merged, to, registers, room) };
+    let (middle, last) = join(rt, middle, last);
+    both_made(middle, last)
 }
 
-// The same text, in room that was made for it and what comes behind it.
-fn in_room(room: Vec<u8>, text: Vec<u8>) -> Result<Vec<u8>, AllocError>
-    ensures { IfOk result (λ moved. moved.items ≡ text.items) }
-{
-    let mut moved = room;
-    moved.clear();
-    let put = moved.extend_from_slice(&text);
-    drop(text);
-    match put {
-        Ok(()) => Ok(moved),
-        Err(error) => {
-            drop(moved);
-            Err(error)
-        }
-    }
-}
-
-// The same lines, those of the journal in room for the whole output, and what was counted.
-fn lines_in_room(
-    copied: CopiedLines,
-    counted: ((Vec<u8>, Vec<u8>), Vec<u8>),
-) -> Result<(CopiedLines, (Vec<u8>, Vec<u8>)), NoMemory>
-    ensures lines { IfOk result (λ r. r.0 ≡ copied) }
-    ensures counts { IfOk result (λ r. r.1 ≡ counted.0) }
-{
-    let CopiedLines { journal, refused } = copied;
-    let (counts, room) = counted;
-    match in_room(room, journal) {
-        Ok(journal) => Ok((CopiedLines { journal, refused }, counts)),
-        Err(AllocError) => {
-            drop(refused);
-            drop(counts);
-            Err(NoMemory)
-        }
-    }
-}
-
-// The journal's first line and the lines of its front half, in room for the whole output, and what stands before and
-// behind the lines of the refused calls. While the lines are copied from the registers, the refused calls and the most
-// trains of the sections are counted and printed on a thread, and room is made there.
+// The journal's first line and the lines of its front half, and what stands before and behind the lines of the refused
+// calls. While the lines are copied from the registers, the refused calls and the most trains of the sections are
+// counted and printed on a thread.
 fn front_and_counts<R: Threads + Sync>(
     rt: &R,
     alloc: Global,
     plan: &Plan,
     merged: &Merged<'_>,
-    half: usize,
+    many: usize,
     registers: &PrintedRegisters,
     room: usize,
 ) -> Result<(CopiedLines, (Vec<u8>, Vec<u8>)), NoMemory>
     requires texts { HasTexts plan.now merged.now registers.now }
-    requires half { half ≤ length merged.now }
+    requires many { many ≤ length merged.now }
     ensures front { IfOk result
-        (λ r. AreCopied plan.now (heading_text plan.now) 1 (take half merged.now) r.0) }
+        (λ r. AreCopied plan.now (heading_text plan.now) 1 (take many merged.now) r.0) }
     ensures counts { IfOk result (λ r. AreCountsTold plan.now merged.now r.1.0.items r.1.1.items) }
 {
     let front = || -> Result<CopiedLines, NoMemory>
-        requires { HasTexts plan.now merged.now registers.now × (half ≤ length merged.now) }
+        requires { HasTexts plan.now merged.now registers.now × (many ≤ length merged.now) }
         ensures { IfOk result
-            (AreCopied plan.entry.now (heading_text plan.entry.now) 1 (take half merged.entry.now)) }
-    { copy_front(alloc, plan, merged, half, registers, room) };
-    let counts = || -> Result<((Vec<u8>, Vec<u8>), Vec<u8>), NoMemory>
+            (AreCopied plan.entry.now (heading_text plan.entry.now) 1 (take many merged.entry.now)) }
+    { copy_front(alloc, plan, merged, many, registers, room) };
+    let counts = || -> Result<(Vec<u8>, Vec<u8>), NoMemory>
         requires { IsLegal plan.now merged.now × AreFewEntries merged.now }
-        ensures { IfOk result (λ r. AreCountsTold plan.entry.now merged.entry.now r.0.0.items r.0.1.items) }
-    { counts_and_room(alloc, plan, merged, registers) };
+        ensures { IfOk result (λ r. AreCountsTold plan.entry.now merged.entry.now r.0.items r.1.items) }
+    { print_counts(alloc, plan, merged) };
     let (front, counts) = join(rt, front, counts);
-    let both = both_made(front, counts)?;
-    lines_in_room(both.0, both.1)
+    both_made(front, counts)
 }
 
 // The journal's first line and the lines of all entries, copied from the registers that are printed, and what stands
-// before and behind the lines of the refused calls. The lines of the journal's front half are copied on one thread, the
-// others on another.
+// before and behind the lines of the refused calls. The lines are copied on three threads, the front ones on one, the
+// others on two: a thread passes over the lines before its own, so each later one has fewer to copy.
 fn copied_and_counted<R: Threads + Sync>(
     rt: &R,
     alloc: Global,
     plan: &Plan,
     merged: &Merged<'_>,
     registers: &PrintedRegisters,
-) -> Result<((CopiedLines, (Vec<u8>, Vec<u8>)), CopiedLines), NoMemory>
+) -> Result<
+    (
+        (CopiedLines, (Vec<u8>, Vec<u8>)),
+        (CopiedLines, CopiedLines),
+    ),
+    NoMemory,
+>
     requires { HasTexts plan.now merged.now registers.now }
-    ensures halves { IfOk result (λ r. AreHalves plan.now merged.now r.0.0 r.1) }
+    ensures lines { IfOk result (λ r. AreHalves plan.now merged.now r.0.0 (one_behind r.1.0 r.1.1)) }
     ensures counts { IfOk result (λ r. AreCountsTold plan.now merged.now r.0.1.0.items r.0.1.1.items) }
 {
-    let half = merged.len() / 2;
-    let room = journal_room(merged.len(), registers.room()) / 2;
+    let many = merged.len() / 5 * 2;
+    let to = many + (merged.len() - many) / 2;
+    let room = journal_room(merged.len(), registers.room()) / 5 * 2;
     let front = || -> Result<(CopiedLines, (Vec<u8>, Vec<u8>)), NoMemory>
-        requires { HasTexts plan.now merged.now registers.now × (half ≤ length merged.now) }
+        requires { HasTexts plan.now merged.now registers.now × (many ≤ length merged.now) }
         ensures { IfOk result (λ r.
-            AreCopied plan.entry.now (heading_text plan.entry.now) 1 (take half merged.entry.now) r.0
+            AreCopied plan.entry.now (heading_text plan.entry.now) 1 (take many merged.entry.now) r.0
             × AreCountsTold plan.entry.now merged.entry.now r.1.0.items r.1.1.items) }
-    { front_and_counts(rt, alloc, plan, merged, half, registers, room) };
-    let behind = || -> Result<CopiedLines, NoMemory>
-        requires { HasTexts plan.now merged.now registers.now × (half ≤ length merged.now) }
-        ensures { IfOk result (AreCopied plan.entry.now [] (half + 1) (drop half merged.entry.now)) }
-    { copy_behind(alloc, plan, merged, half, registers, room) };
+    { front_and_counts(rt, alloc, plan, merged, many, registers, room) };
+    let behind = || -> Result<(CopiedLines, CopiedLines), NoMemory>
+        requires { HasTexts plan.now merged.now registers.now × (many ≤ to) × (to ≤ length merged.now) }
+        ensures { IfOk result
+            (λ r. AreCopied plan.entry.now [] (many + 1) (drop many merged.entry.now) (one_behind r.0 r.1)) }
+    { copy_behind(rt, alloc, plan, merged, many, to, registers, room) };
     let (front, behind) = join(rt, front, behind);
     both_made(front, behind)
 }
 
-// The output of a line, up to the lines of its journal's front half, and the rest: by what was copied of both halves of
-// its journal, the registers, and what stands before and behind the lines of the refused calls.
+// The output of a line, up to the front lines of its journal, and the rest: by what was copied of the front of its
+// journal and the two parts behind it, the registers, and what stands before and behind the lines of the refused calls.
 fn put_together(
     front: CopiedLines,
     counts: (Vec<u8>, Vec<u8>),
-    behind: CopiedLines,
+    behind: (CopiedLines, CopiedLines),
     registers: PrintedRegisters,
 ) -> (Vec<u8>, OutputRest)
     ensures front { result.0.items ≡ front.journal }
-    ensures rest { result.1 ≡ rest_text behind.journal registers counts.0.items front.refused behind.refused
-        counts.1.items }
+    ensures rest { result.1 ≡ rest_text (one_behind behind.0 behind.1).journal registers counts.0.items front.refused
+        (one_behind behind.0 behind.1).refused counts.1.items }
 {
     let (heading, sections) = counts;
+    let (middle, last) = behind;
     let rest = OutputRest {
-        journal: behind.journal,
+        middle,
+        last,
         registers,
         heading,
         refused_front: front.refused,
-        refused_behind: behind.refused,
         sections,
     };
     (front.journal, rest)
 }
 
-/// The whole output of a line, by its journal, where its registers are printed already: up to the lines of the
-/// journal's front half, with room for all of it, and the rest.
+/// The whole output of a line, by its journal, where its registers are printed already: up to the front lines of
+/// its journal, and the rest.
 pub(crate) fn print_whole<R: Threads + Sync>(
     rt: &R,
     alloc: Global,
@@ -387,8 +375,8 @@ pub(crate) fn print_whole<R: Threads + Sync>(
     }
 }
 
-/// The same of a line that was worked, its registers printed on threads.
-pub(crate) fn print_output<R: Threads + Sync>(
+// The same of a line that was worked, its registers printed on threads.
+fn print_line<R: Threads + Sync>(
     rt: &R,
     alloc: Global,
     plan: &Plan,
@@ -405,4 +393,27 @@ pub(crate) fn print_output<R: Threads + Sync>(
     };
     drop(merged);
     printed
+}
+
+/// The same, the lines of the journal's front half in room for the whole output, which is made on a thread meanwhile.
+pub(crate) fn print_output<R: Threads + Sync>(
+    rt: &R,
+    alloc: Global,
+    plan: &Plan,
+    line: &WorkedLine,
+) -> Result<(Vec<u8>, OutputRest), NoMemory>
+    requires { CanBePrinted plan.now line.now.journal.entries line.now.ended.registers }
+    ensures { IfOk result (λ r. r.0.items ++ r.1 ≡ output_text plan.now line.now.journal.entries) }
+{
+    let room = || -> Result<Vec<u8>, NoMemory> {
+        make_room(alloc, line.ended.registers.as_slice())
+    };
+    let printed = || -> Result<(Vec<u8>, OutputRest), NoMemory>
+        requires { CanBePrinted plan.now line.now.journal.entries line.now.ended.registers }
+        ensures { IfOk result
+            (λ r. r.0.items ++ r.1 ≡ output_text plan.entry.now line.entry.now.journal.entries) }
+    { print_line(rt, alloc, plan, line) };
+    let (room, printed) = join(rt, room, printed);
+    let (room, printed) = both_made(room, printed)?;
+    in_room(room, printed)
 }

@@ -6,8 +6,10 @@ ghost use Rattle.text_fetch.specs.Runs.{AreScriptsOf, run_told, run_told_before}
 ghost use Rattle.line_runs.specs.Outputs.{IsOutputOf, MakesText};
 ghost use Rattle.line_runs.specs.Worked.{AreWorked};
 
+use crate::both::both_made;
 use crate::printing::{merged_and_printed, print_whole};
-use crate::rest::{OutputRest, whole_text};
+use crate::rest::{OutputRest, in_room, whole_text};
+use crate::sizes::make_room;
 use crate::worked::work_scripts;
 use line_plan::Plan;
 use line_working::Gate;
@@ -15,7 +17,7 @@ use rail_text::{NoMemory, Shelf};
 use script_text::Script;
 use std::alloc::Global;
 use std::sync::Wait;
-use std::thread::Threads;
+use std::thread::{Threads, join};
 use text_fetch::{Inputs, Stop, fetch_inputs};
 use train_register::Ended;
 
@@ -41,6 +43,30 @@ fn print_ended<R: Threads + Sync>(
     printed
 }
 
+// The same, the lines of the journal's front half in room for the whole output, which is made on a thread meanwhile.
+fn print_in_room<R: Threads + Sync>(
+    rt: &R,
+    alloc: Global,
+    plan: &Plan,
+    scripts: Vec<Script>,
+    ended: &Ended,
+) -> Result<(Vec<u8>, OutputRest), NoMemory>
+    requires scripts { AreScriptsOf plan.now scripts.items }
+    requires worked { AreWorked plan.now scripts.items ended.now.registers }
+    ensures { IfOk result
+        (λ r. IsOutputOf (record { plan = plan.now; scripts = scripts.items }) (r.0.items ++ r.1)) }
+{
+    let room = || -> Result<Vec<u8>, NoMemory> { make_room(alloc, ended.registers.as_slice()) };
+    let printed = || -> Result<(Vec<u8>, OutputRest), NoMemory>
+        requires { AreScriptsOf plan.now scripts.items × AreWorked plan.now scripts.items ended.now.registers }
+        ensures { IfOk result (λ r. IsOutputOf (record { plan = plan.entry.now; scripts = scripts.items })
+            (r.0.items ++ r.1)) }
+    { print_ended(rt, alloc, plan, scripts, ended) };
+    let (room, printed) = join(rt, room, printed);
+    let (room, printed) = both_made(room, printed)?;
+    in_room(room, printed)
+}
+
 // What is printed of a plan and its scripts, in the same two.
 fn print_run<R: Threads + Wait + Sync, G: Gate>(
     rt: &R,
@@ -55,7 +81,7 @@ fn print_run<R: Threads + Wait + Sync, G: Gate>(
 {
     match work_scripts(rt, alloc, plan, &scripts, gate) {
         Ok(ended) => {
-            let printed = print_ended(rt, alloc, plan, scripts, &ended);
+            let printed = print_in_room(rt, alloc, plan, scripts, &ended);
             drop(ended);
             printed
         }

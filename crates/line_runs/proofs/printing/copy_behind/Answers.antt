@@ -1,15 +1,17 @@
-use Rattle.std.proofs.Common.{List, map, subst, sym}
-use Rattle.line_law.specs.declared.call.Entry.{Entry}
-use Rattle.line_runs.specs.Copying.{AreLinesLeft, behind_line}
-use Rattle.line_runs.proofs.Copied.{all_left}
+use Rattle.std.proofs.Common.{◌+◌, [], drop, take}
+use Rattle.std.proofs.lemmas.Result.{IfOk-weaker}
+use Rattle.line_runs.specs.Copying.{AreCopied}
+use Rattle.line_runs.proofs.BothHold.{both_hold}
+use Rattle.line_runs.proofs.Printed.{copied_on}
 use Rattle.line_runs.proofs.printing.copy_behind.Goals as goal
 
-pub copy_from-copied-requires-clause-left : goal.copy_from-copied-requires-clause-left
-copy_from-copied-requires-clause-left c =
+pub returns : goal.returns
+returns g c =
     let plan = c.args.plan.now in
-    let lines = map behind_line c.args.registers.now in
-    let left : AreLinesLeft plan c.args.merged.now lines =
-    rw c.requires.texts.same
-    (all_left plan c.args.merged.now c.requires.texts.registers c.meets_conditions.ensures
-    c.requires.texts.printed.few c.requires.texts.printed.parts) in
-    subst (λ (es : List Entry). AreLinesLeft plan es lines) (sym c.in_ok-walk.ensures) left
+    let es = c.args.merged.now in
+    let from = c.args.from in
+    let to = c.args.to in
+    IfOk-weaker c.both_made.result _ _
+    (λ r are. copied_on plan es from to r.0 r.1 are.0 are.1 c.requires.from c.requires.to)
+    (both_hold _ _ _ (AreCopied plan [] (from + 1) (drop from (take to es))) (AreCopied plan [] (to + 1) (drop to es))
+    c.both_made.ensures c.join-middle.ensures.first c.join-middle.ensures.second)
