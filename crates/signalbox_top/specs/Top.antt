@@ -1,6 +1,7 @@
 -- What `signalbox` puts.
-use Rattle.std.specs.Prelude.{◌≡◌, ◌⊎◌, ℕ, List, Option, Some, None, IfSome, if◌then◌else◌}
+use Rattle.std.specs.Prelude.{◌≡◌, ◌<◌, ◌⊎◌, ℕ, List, length, Option, Some, None, IfSome, if◌then◌else◌}
 use Rattle.rail_text.specs.Bytes.{appended, TakesPart}
+use Rattle.rail_text.specs.Causes.{Rose}
 use Rattle.clap.specs.Words.{Text, takes}
 use Rattle.signalbox_words.specs.Commands.{Command, command_of}
 use Rattle.signalbox_words.specs.Table.{program}
@@ -24,6 +25,10 @@ Headline held (Some (Command.Tidy file)) old new = IfSome (held file) (λ all. n
 -- nothing was taken, or the front part of a text
 abbrev pub TakesFront : Option (List ℕ) → Option (List ℕ) → Type 0
 TakesFront old new = (new ≡ old) ⊎ ((text : List ℕ) × TakesPart old new text)
+
+-- a line is told that isn't empty, or it couldn't be told, for a fault that was counted
+abbrev pub TellsWhy : Option (List ℕ) → Option (List ℕ) → ℕ → ℕ → Type 0
+TellsWhy old new before now = ((line : List ℕ) × (0 < length line) × (new ≡ appended old line)) ⊎ Rose before now
 
 -- the exit status of the program
 abbrev pub code_of : Status → ℕ

@@ -3,7 +3,7 @@
 ghost use Rattle.std.specs.Prelude.{◌≡◌, ◌≢◌};
 ghost use Rattle.rail_text.specs.Bytes.{appended};
 ghost use Rattle.rail_text.specs.Causes.{Rose};
-ghost use Rattle.signalbox_top.specs.Top.{TakesFront};
+ghost use Rattle.signalbox_top.specs.Top.{TakesFront, TellsWhy};
 
 use crate::status::Status;
 use rail_text::{Sink, SinkFault, put_all};
@@ -33,16 +33,24 @@ pub(crate) fn trouble_with(alloc: Global, file: &str, what: &str) -> Trouble {
 }
 
 /// Tells why a command could not be done. Where it can't be told, nobody hears of it.
-pub(crate) fn tell<L: Sink>(told: &mut L, what: &str) -> Status
-    ensures { result ≡ Status.Failed }
+pub(crate) fn tell<L: Sink>(told: &mut L, why: &str) -> Status
+    ensures failed { result ≡ Status.Failed }
+    ensures why { TellsWhy (L.taken told.old) (L.taken told.new) (L.faults told.old) (L.faults told.new) }
 {
-    let _ = put_all(told, what.as_bytes());
-    Status::Failed
+    let line = if why.is_empty() {
+        "signalbox: it could not be done\n"
+    } else {
+        why
+    };
+    match put_all(told, line.as_bytes()) {
+        Ok(()) | Err(SinkFault::Failed) => Status::Failed,
+    }
 }
 
 /// Tells of trouble.
 pub(crate) fn tell_trouble<L: Sink>(told: &mut L, trouble: &Trouble) -> Status
-    ensures { result ≡ Status.Failed }
+    ensures failed { result ≡ Status.Failed }
+    ensures why { TellsWhy (L.taken told.old) (L.taken told.new) (L.faults told.old) (L.faults told.new) }
 {
     match trouble {
         Trouble::Told(line) => tell(told, line.as_str()),
@@ -62,6 +70,8 @@ pub(crate) fn put_result<K: Sink, L: Sink>(
         → (result ≡ status) × (K.taken out.new ≡ appended (K.taken out.old) text.now) × (told.new ≡ told.old) }
     ensures part { result ≡ Status.Failed → TakesFront (K.taken out.old) (K.taken out.new) }
     ensures cause { result ≡ Status.Failed → Rose (K.faults out.old) (K.faults out.new) }
+    ensures why { result ≡ Status.Failed
+        → TellsWhy (L.taken told.old) (L.taken told.new) (L.faults told.old) (L.faults told.new) }
 {
     match put_all(out, text) {
         Ok(()) => status,

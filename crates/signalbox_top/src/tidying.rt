@@ -2,7 +2,7 @@
 
 ghost use Rattle.std.specs.Prelude.{◌≡◌, ◌≢◌, ◌≤◌, ℕ, List, IfOk, IfSome, length};
 ghost use Rattle.rail_text.specs.Bytes.{appended};
-ghost use Rattle.signalbox_top.specs.Top.{TakesFront};
+ghost use Rattle.signalbox_top.specs.Top.{TakesFront, TellsWhy};
 ghost use Rattle.tidy_text.specs.Tidy.{tidy_text};
 
 use crate::answering::{Trouble, put_result, tell_trouble, trouble_with};
@@ -63,6 +63,8 @@ pub(crate) fn serve_tidy<S: ReasonedShelf, K: Sink, L: Sink>(
         × IfSome (S.held shelf.old file.now) (λ all. K.taken out.new ≡ appended (K.taken out.old) (tidy_text all))
         × (told.new ≡ told.old) }
     ensures part { result ≡ Status.Failed → TakesFront (K.taken out.old) (K.taken out.new) }
+    ensures why { result ≡ Status.Failed
+        → TellsWhy (L.taken told.old) (L.taken told.new) (L.faults told.old) (L.faults told.new) }
     ensures same { (n : List ℕ) → S.held shelf.new n ≡ S.held shelf.old n }
 {
     match tidied(alloc, file, shelf) {

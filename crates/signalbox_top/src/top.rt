@@ -2,7 +2,7 @@
 
 ghost use Rattle.std.specs.Prelude.{◌≡◌, ◌≢◌, ℕ, List, Some};
 ghost use Rattle.signalbox_words.specs.Commands.{bytes_of, shown};
-ghost use Rattle.signalbox_top.specs.Top.{Headline, TakesFront, asked};
+ghost use Rattle.signalbox_top.specs.Top.{Headline, TakesFront, TellsWhy, asked};
 
 use crate::answering::{put_result, tell};
 use crate::shelf::ReasonedShelf;
@@ -23,6 +23,8 @@ fn serve<S: ReasonedShelf, K: Sink, L: Sink>(
     ensures headline { result ≢ Status.Failed
         → Headline (S.held shelf.old) (Some (shown command.entry)) (K.taken out.old) (K.taken out.new) }
     ensures part { result ≡ Status.Failed → TakesFront (K.taken out.old) (K.taken out.new) }
+    ensures why { result ≡ Status.Failed
+        → TellsWhy (L.taken told.old) (L.taken told.new) (L.faults told.old) (L.faults told.new) }
     ensures same { (n : List ℕ) → S.held shelf.new n ≡ S.held shelf.old n }
 {
     match command {
@@ -38,8 +40,8 @@ fn serve<S: ReasonedShelf, K: Sink, L: Sink>(
 ///
 /// - `Done`: it is done, and nothing was found.
 /// - `Found`: it is done, and something was found.
-/// - `Failed`: it could not be done. Of the results nothing was taken, or a front part where the sink failed; `told` has
-///   been told why.
+/// - `Failed`: it could not be done. Of the results nothing was taken, or a front part where the sink failed; a line
+///   tells why, unless that sink failed too.
 pub fn signalbox_top<S: ReasonedShelf, K: Sink, L: Sink>(
     alloc: Global,
     words: &[String],
@@ -50,6 +52,8 @@ pub fn signalbox_top<S: ReasonedShelf, K: Sink, L: Sink>(
     ensures headline { result ≢ Status.Failed
         → Headline (S.held shelf.old) (asked (bytes_of words.now)) (K.taken out.old) (K.taken out.new) }
     ensures part { result ≡ Status.Failed → TakesFront (K.taken out.old) (K.taken out.new) }
+    ensures why { result ≡ Status.Failed
+        → TellsWhy (L.taken told.old) (L.taken told.new) (L.faults told.old) (L.faults told.new) }
     ensures same { (n : List ℕ) → S.held shelf.new n ≡ S.held shelf.old n }
 {
     match read_words(alloc, words) {
