@@ -1,5 +1,5 @@
-//! Tests of what `signalbox` is to be made of: a rehearsal that stops, the sentence of a refused call, and what is told of
-//! a refused text.
+//! Tests of what `signalbox` is to be made of: a rehearsal that stops, the sentence of a refused call, and what is told
+//! of a refused text.
 #![tactic(auto)]
 
 #[cfg(test)]

@@ -16,8 +16,8 @@ use std::{fs, io};
 // The name of standard input.
 const INPUT: &str = "-";
 
-/// The files of a runtime by their paths, and its standard input under the name `-`, which is read once. It gives its one
-/// count of faults for every name; contracts see it as that count.
+/// The files of a runtime by their paths, and its standard input under the name `-`, which is read once. It gives its
+/// one count of faults for every name; contracts see it as that count.
 #[derive(Drop)]
 pub struct ReasonedFiles<'a, R> {
     rt: &'a R,

@@ -6,7 +6,8 @@ use Rattle.std.proofs.lemmas.Bool.{eqb-true}
 use Rattle.rail_text.proofs.PrintedLines.{both, lines_are, lines_of-printed, words_are, words_of-joined}
 use Rattle.rail_text.specs.Forms.{is_skipped}
 use Rattle.rail_text.specs.Lines.{Line, ended_line, is_empty_word, lacks, lines_of, words_of}
-use Rattle.tidy_text.specs.Tidy.{blank_words, is_comment, is_tidy_line, spaced, tidy_line, tidy_text, without_marks, without_return}
+use Rattle.tidy_text.specs.Tidy.{blank_words, is_comment, is_tidy_line, spaced, tidy_line, tidy_text}
+use Rattle.tidy_text.specs.Tidy.{without_marks, without_return}
 use Rattle.tidy_text.proofs.Bytes.{no_end, no_return, no_tab, pair}
 use Rattle.tidy_text.proofs.Words.{some_of}
 
@@ -34,7 +35,8 @@ joined : (words : List (List ℕ)) → list_all (lacks 32) words ≡ true → li
     → is_skipped (join_with_byte 32 words) || not (list_any is_empty_word (words_of (join_with_byte 32 words))) ≡ true
 joined [] single none = refl
 joined (word ∷ words) single none =
-    let is : words_of (join_with_byte 32 (word ∷ words)) ≡ word ∷ words = words_of-joined (word ∷ words) (omega arith) single in
+    let is : words_of (join_with_byte 32 (word ∷ words)) ≡ word ∷ words
+    = words_of-joined (word ∷ words) (omega arith) single in
     go (is_skipped (join_with_byte 32 (word ∷ words)))
     (ap (λ (ws : List (List ℕ)). not (list_any is_empty_word ws)) is ∙ ap not none) where
       go : (t : Bool) → not (list_any is_empty_word (words_of (join_with_byte 32 (word ∷ words)))) ≡ true

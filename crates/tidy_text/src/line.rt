@@ -3,7 +3,8 @@
 ghost use Rattle.std.specs.Prelude.{◌≡◌, ◌++◌, OnOk};
 ghost use Rattle.rail_text.specs.Lines.{printed_line};
 ghost use Rattle.std.specs.List.{join_with_byte};
-ghost use Rattle.tidy_text.specs.Tidy.{blank_words, is_blank, is_comment, spaced, spaced_byte, tidy_line, without_return};
+ghost use Rattle.tidy_text.specs.Tidy.{blank_words, is_blank, is_comment, spaced, spaced_byte, tidy_line};
+ghost use Rattle.tidy_text.specs.Tidy.{without_return};
 
 use std::alloc::AllocError;
 
