@@ -11,6 +11,8 @@ mod merging;
 mod order;
 mod rests;
 
+pub use fitting::is_on_word;
 pub use laws::{exchange_law, one_order_law, order_law, parts_law, reply_law};
+pub use lines::word_of;
 pub use merging::{merge, merged};
 pub use order::{Merged, Walk};
