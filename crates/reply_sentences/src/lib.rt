@@ -9,4 +9,6 @@ mod names;
 mod sentence;
 mod told;
 
+pub use names::position_word;
+pub use sentence::Sentence;
 pub use told::put_sentence;

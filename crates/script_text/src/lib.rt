@@ -19,13 +19,14 @@ mod script;
 mod spelled;
 mod whole;
 
+pub use act_texts::put_act;
 pub use acts::read_act;
 pub use answers::{read_reply, reply_in};
 pub use calls::{moment_in, print_call, put_call, read_call};
 pub use entries::{is_spelled, put_told};
 pub use laws::{calls_law, moments_law, replies_law, scripts_law};
 pub use moments::{put_moment, read_moment, read_ready};
-pub use names::way_word;
+pub use names::{put_code, way_word};
 pub use numbers::put_number;
 pub use printing::print_script;
 pub use reading::read_script;
