@@ -1,0 +1,12 @@
+pub mod Lasts
+pub mod KeyLaws
+pub mod Founds
+pub mod Crossing
+pub mod Knowing
+pub mod Waiting
+pub mod Nearests
+pub mod Listing
+pub mod Scanning
+pub mod WordBack
+pub mod Keeping
+pub mod Placing

@@ -1,0 +1,5 @@
+pub mod Marks
+pub mod Races
+pub mod Keys
+pub mod Nearest
+pub mod Scans
