@@ -14,10 +14,11 @@ demo:
 build:
 	cd crates/box_main && rt run -- $(example)
 
-# Works the worked cases and rows without proofs, in about two minutes, and tells each that differs. The largest texts
+# Works the worked cases and rows without proofs, in about three minutes, and tells each that differs. The largest texts
 # take minutes in a build that tests each step, so the files named *_limits are left to `make test`.
 cases:
-	cd crates/worked_cases && rt try $$(find data -type f ! -name '*_limits' -printf '--data %p=%p ') -- data
+	cd crates/worked_cases && find data -type f ! -name '*_limits' -printf '--data\0%p=%p\0' \
+		| xargs -0 -x -s 1000000 sh -c 'rt try "$$@" -- data' rt
 
 # What a newcomer runs first: the worked cases and rows and all tests, without proofs. It works as many at once as there
 # are processors, and takes three to seven minutes on four.

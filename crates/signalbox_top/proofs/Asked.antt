@@ -1,22 +1,55 @@
--- What is taken of words, by whether clap takes them.
-use Rattle.std.proofs.Common.{◌≡◌, ℕ, Bool, true, false, List, Option, Some, None, cond, refl}
+-- What is taken, and what is told, of words, by whether clap takes them.
+use Rattle.std.proofs.Common.{◌≡◌, ℕ, Bool, true, false, List, Option, Some, None, cond, refl, ◌⊎◌, inl, inr, codes}
 use Rattle.clap.specs.Words.{Text, takes}
 use Rattle.signalbox_words.specs.Commands.{Command, command_of}
 use Rattle.signalbox_words.specs.Table.{program}
-use Rattle.signalbox_top.specs.Top.{Headline, Held, asked}
+use Rattle.text_fetch.specs.FromTexts.{Held}
+use Rattle.signalbox_top.specs.Told.{FaultIsTold, IsTold}
+use Rattle.signalbox_top.specs.Top.{Headline, asked}
+use Rattle.signalbox_top.specs.declared.status.Status.{Status}
+
+-- ---- what is taken
 
 -- of the command that words are
-pub asked_command : (held : Held) (texts : List Text) (command : Command) (old new : Option (List ℕ))
-    → command_of texts ≡ Some command → Headline held (Some command) old new → Headline held (asked texts) old new
-asked_command held texts command old new is done = go (takes program texts) where
-  go : (t : Bool) → Headline held (cond t (command_of texts) None) old new
+pub asked_command : (held : Held) (texts : List Text) (command : Command) (status : Status) (old new : Option (List ℕ))
+    → command_of texts ≡ Some command → Headline held (Some command) status old new
+    → Headline held (asked texts) status old new
+asked_command held texts command status old new is done = go (takes program texts) where
+  go : (t : Bool) → Headline held (cond t (command_of texts) None) status old new
   go true = rw is done
   go false = tt
 
 -- of words that clap doesn't take
-pub asked_none : (held : Held) (texts : List Text) (old new : Option (List ℕ)) → ¬ (takes program texts ≡ true)
-    → Headline held (asked texts) old new
-asked_none held texts old new refused = go (takes program texts) refused where
-  go : (t : Bool) → ¬ (t ≡ true) → Headline held (cond t (command_of texts) None) old new
+pub asked_none : (held : Held) (texts : List Text) (status : Status) (old new : Option (List ℕ))
+    → ¬ (takes program texts ≡ true) → Headline held (asked texts) status old new
+asked_none held texts status old new refused = go (takes program texts) refused where
+  go : (t : Bool) → ¬ (t ≡ true) → Headline held (cond t (command_of texts) None) status old new
   go true other = absurd (other refl)
   go false other = tt
+
+-- ---- what is told
+
+pub fault_asked : (held : Held) (texts : List Text) (command : Command) (old new : Option (List ℕ)) (before now : ℕ)
+    → command_of texts ≡ Some command → FaultIsTold held (Some command) old new before now
+    → FaultIsTold held (asked texts) old new before now
+fault_asked held texts command old new before now is told = go (takes program texts) where
+  go : (t : Bool) → FaultIsTold held (cond t (command_of texts) None) old new before now
+  go true = rw is told
+  go false = tt
+
+pub fault_of_none : (held : Held) (texts : List Text) (old new : Option (List ℕ)) (before now : ℕ)
+    → ¬ (takes program texts ≡ true) ⊎ (command_of texts ≡ None) → FaultIsTold held (asked texts) old new before now
+fault_of_none held texts old new before now none = go (takes program texts) none where
+  go : (t : Bool) → ¬ (t ≡ true) ⊎ (command_of texts ≡ None)
+      → FaultIsTold held (cond t (command_of texts) None) old new before now
+  go true (inl other) = absurd (other refl)
+  go true (inr is) = rw is tt
+  go false none = tt
+
+-- where memory ran out, that is told
+pub fault_without_memory : (held : Held) (command : Option Command) (old new : Option (List ℕ)) (before now : ℕ)
+    → IsTold (codes "signalbox: out of memory\n") old new before now → FaultIsTold held command old new before now
+fault_without_memory held None old new before now told = tt
+fault_without_memory held (Some (Command.Tidy file)) old new before now told = tt
+fault_without_memory held (Some (Command.Rehearse wanted)) old new before now told =
+    λ n fault refused. (codes "signalbox: out of memory\n", (inr (codes "out of memory\n", refl), told))

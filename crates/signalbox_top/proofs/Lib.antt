@@ -1,2 +1,4 @@
 mod Asked
 mod Fetched
+mod NamedTexts
+mod Reported

@@ -1,1 +1,3 @@
 pub mod Top
+pub mod Told
+pub mod Rehearsing

@@ -1,37 +1,99 @@
 -- What `signalbox` puts.
-use Rattle.std.specs.Prelude.{◌≡◌, ◌<◌, ◌⊎◌, ℕ, List, length, Option, Some, None, IfSome, if◌then◌else◌}
+use Rattle.std.specs.Prelude.{◌≡◌, ◌⊎◌, ℕ, Bool, true, false, List, [], ◌∷◌, Option, Some, None, IfSome, if◌then◌else◌}
+use Rattle.std.specs.Global.{Vec}
 use Rattle.rail_text.specs.Bytes.{appended, TakesPart}
-use Rattle.rail_text.specs.Causes.{Rose}
 use Rattle.clap.specs.Words.{Text, takes}
-use Rattle.signalbox_words.specs.Commands.{Command, command_of}
+use Rattle.line_law.specs.History.{state_of}
+use Rattle.line_plan.specs.Plans.{PlanFields}
+use Rattle.line_races.specs.Races.{AreRaces}
+use Rattle.line_races.specs.declared.finding.Race.{Race}
+use Rattle.line_rehearsal.specs.Rehearsals.{IsRehearsal}
+use Rattle.line_rehearsal.specs.declared.rehearsal.Rehearsal.{Rehearsal}
+use Rattle.line_rehearsal.specs.declared.until.Until.{Until}
+use Rattle.line_rehearsal.specs.declared.until.Until.TheVariants as untils
+use Rattle.line_report.specs.Journals.{journal_text}
+use Rattle.rehearsal_report.specs.CallLines.{NamedText}
+use Rattle.rehearsal_report.specs.ReportLines.{has_found, report_lines}
+use Rattle.rehearsal_report.specs.Reports.{Reports}
+use Rattle.script_text.specs.declared.script.Script.{Script}
+use Rattle.serial_working.specs.Rosters.{calls_of_scripts}
+use Rattle.text_fetch.specs.FromTexts.{Held, IsGiven}
+use Rattle.text_fetch.specs.Runs.{Run, run_told}
+use Rattle.explained_texts.specs.Gathered.{AreTextsOf}
+use Rattle.signalbox_words.specs.Commands.{Command, Rehearsing, command_of}
 use Rattle.signalbox_words.specs.Table.{program}
 use Rattle.signalbox_top.specs.declared.status.Status.{Status}
 use Rattle.signalbox_top.specs.declared.status.Status.TheVariants as statuses
 use Rattle.tidy_text.specs.Tidy.{tidy_text}
 
--- what a shelf tells of the text under a name
-abbrev pub Held : Type 0
-Held = List ℕ → Option (List ℕ)
-
 -- the command that words are, where clap takes them
 abbrev pub asked : List Text → Option Command
 asked words = if takes program words then command_of words else None
-
--- what is taken where a command is done: of a tidying, the text under the name with its form mended
-abbrev pub Headline : Held → Option Command → Option (List ℕ) → Option (List ℕ) → Type 0
-Headline held None old new = Unit {0}
-Headline held (Some (Command.Tidy file)) old new = IfSome (held file) (λ all. new ≡ appended old (tidy_text all))
-
--- nothing was taken, or the front part of a text
-abbrev pub TakesFront : Option (List ℕ) → Option (List ℕ) → Type 0
-TakesFront old new = (new ≡ old) ⊎ ((text : List ℕ) × TakesPart old new text)
-
--- a line is told that isn't empty, or it couldn't be told, for a fault that was counted
-abbrev pub TellsWhy : Option (List ℕ) → Option (List ℕ) → ℕ → ℕ → Type 0
-TellsWhy old new before now = ((line : List ℕ) × (0 < length line) × (new ≡ appended old line)) ⊎ Rose before now
 
 -- the exit status of the program
 abbrev pub code_of : Status → ℕ
 code_of statuses.Done = 0
 code_of statuses.Found = 1
 code_of statuses.Failed = 2
+
+-- ---- a rehearsal
+
+-- how far scripts are rehearsed
+abbrev pub until_of : Bool → Until
+until_of true = untils.Refusal
+until_of false = untils.Stop
+
+-- the status where something was found, or not
+abbrev pub status_of : Bool → Status
+status_of true = statuses.Found
+status_of false = statuses.Done
+
+-- scripts by their names, with their texts
+abbrev pub named_texts : List (List ℕ) → List (Vec ℕ) → List NamedText
+named_texts [] texts = []
+named_texts (name ∷ names) [] = []
+named_texts (name ∷ names) (text ∷ texts) = record { name = name; bytes = text.items } ∷ named_texts names texts
+
+-- what is put of a rehearsal: its journal, as it is printed and judged, or its report
+abbrev pub IsText : Bool → PlanFields → List Script → List NamedText → Rehearsal → List Race → List ℕ → Type 0
+IsText true plan scripts texts rehearsal races text = text ≡ journal_text plan rehearsal.journal.entries
+IsText false plan scripts texts rehearsal races text =
+    Reports (report_lines plan scripts texts rehearsal races) [] text
+
+-- What comes of scripts that are rehearsed: the journal is legal, the beginning of the serial order, and ends at the
+-- first place where no box can go on, or with the first refused call; the races are those of that journal; and the
+-- status tells whether something was found.
+pub record IsAnswer (to_refusal as_journal : Bool) (plan : PlanFields) (scripts : List Script) (texts : List NamedText)
+    (text : List ℕ) (status : Status) : Type 0 where
+  pub rehearsal : Rehearsal
+  pub rehearsed : IsRehearsal plan (calls_of_scripts scripts) (until_of to_refusal) rehearsal.journal.entries
+      rehearsal.made.items
+  pub state : rehearsal.line.line ≡ state_of plan rehearsal.journal.entries
+  pub races : List Race
+  pub are_races : AreRaces plan rehearsal.journal.entries races
+  pub is_text : IsText as_journal plan scripts texts rehearsal races text
+  pub is_status : status ≡ status_of (has_found scripts rehearsal races)
+
+-- what comes of `rehearse`: of the scripts that the texts spell, as far as the shelf tells these
+pub record IsAnswered (held : Held) (wanted : Rehearsing) (text : List ℕ) (status : Status) : Type 0 where
+  pub run : Run
+  pub given : IsGiven run (run_told held wanted.plan wanted.scripts)
+  pub texts : List (Vec ℕ)
+  pub fetched : AreTextsOf held wanted.scripts texts
+  pub answer : IsAnswer wanted.to_refusal wanted.as_journal run.plan run.scripts (named_texts wanted.scripts texts) text
+      status
+
+-- ---- any command
+
+-- what is taken, and the status, where a command is done: of a tidying the text under the name with its form mended;
+-- of a rehearsal what comes of it
+abbrev pub Headline : Held → Option Command → Status → Option (List ℕ) → Option (List ℕ) → Type 0
+Headline held None status old new = Unit {0}
+Headline held (Some (Command.Tidy file)) status old new =
+    IfSome (held file) (λ all. new ≡ appended old (tidy_text all)) × (status ≡ statuses.Done)
+Headline held (Some (Command.Rehearse wanted)) status old new =
+    (text : List ℕ) × IsAnswered held wanted text status × (new ≡ appended old text)
+
+-- nothing was taken, or the front part of a text
+abbrev pub TakesFront : Option (List ℕ) → Option (List ℕ) → Type 0
+TakesFront old new = (new ≡ old) ⊎ ((text : List ℕ) × TakesPart old new text)

@@ -1,41 +1,21 @@
 //! What is put, and where: results to one sink, everything else to the other.
 
-ghost use Rattle.std.specs.Prelude.{◌≡◌, ◌≢◌};
+ghost use Rattle.std.specs.Prelude.{◌≡◌, ◌≢◌, ◌<◌, length};
 ghost use Rattle.rail_text.specs.Bytes.{appended};
 ghost use Rattle.rail_text.specs.Causes.{Rose};
-ghost use Rattle.signalbox_top.specs.Top.{TakesFront, TellsWhy};
+ghost use Rattle.signalbox_top.specs.Top.{TakesFront};
+ghost use Rattle.signalbox_top.specs.Told.{IsTold, TellsTrouble, TellsWhy};
 
 use crate::status::Status;
+use explained_texts::Trouble;
 use rail_text::{Sink, SinkFault, put_all};
-use std::alloc::{AllocError, Global};
-
-/// Why a command could not be done.
-#[derive(Drop)]
-pub(crate) enum Trouble {
-    /// What is told of it, in one line.
-    Told(String),
-    /// Memory ran out.
-    NoMemory,
-}
-
-impl From<AllocError> for Trouble {
-    fn from(_: AllocError) -> Trouble {
-        Trouble::NoMemory
-    }
-}
-
-/// What is told of a file, behind its name, in a line.
-pub(crate) fn trouble_with(alloc: Global, file: &str, what: &str) -> Trouble {
-    match format!(in alloc; "signalbox: {file}: {what}\n") {
-        Ok(line) => Trouble::Told(line),
-        Err(AllocError) => Trouble::NoMemory,
-    }
-}
 
 /// Tells why a command could not be done. Where it can't be told, nobody hears of it.
 pub(crate) fn tell<L: Sink>(told: &mut L, why: &str) -> Status
     ensures failed { result ≡ Status.Failed }
     ensures why { TellsWhy (L.taken told.old) (L.taken told.new) (L.faults told.old) (L.faults told.new) }
+    ensures line { 0 < length why.now
+        → IsTold why.now (L.taken told.old) (L.taken told.new) (L.faults told.old) (L.faults told.new) }
 {
     let line = if why.is_empty() {
         "signalbox: it could not be done\n"
@@ -51,9 +31,12 @@ pub(crate) fn tell<L: Sink>(told: &mut L, why: &str) -> Status
 pub(crate) fn tell_trouble<L: Sink>(told: &mut L, trouble: &Trouble) -> Status
     ensures failed { result ≡ Status.Failed }
     ensures why { TellsWhy (L.taken told.old) (L.taken told.new) (L.faults told.old) (L.faults told.new) }
+    ensures line { TellsTrouble trouble.now (L.taken told.old) (L.taken told.new) (L.faults told.old)
+        (L.faults told.new) }
 {
     match trouble {
-        Trouble::Told(line) => tell(told, line.as_str()),
+        Trouble::Untaken(line) => tell(told, line.as_str()),
+        Trouble::Refused { told: why, .. } => tell(told, why.as_str()),
         Trouble::NoMemory => tell(told, "signalbox: out of memory\n"),
     }
 }

@@ -5,7 +5,7 @@ ghost use Rattle.std.specs.Prelude.{◌≡◌, ℕ, ◌+◌, ◌^◌, ◌<◌, �
 ghost use Rattle.rail_text.specs.Causes.{Rose, raised};
 ghost use Rattle.rail_text.specs.Adapters.{after_fetch};
 
-use crate::shelf::ReasonedShelf;
+use explained_texts::ReasonedShelf;
 use rail_text::{FetchFault, Shelf};
 use std::alloc::Global;
 use std::io::{ErrorKind, Input, Read};

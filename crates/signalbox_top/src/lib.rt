@@ -3,12 +3,11 @@
 
 mod answering;
 mod files;
-mod shelf;
+mod rehearsing;
 mod status;
 mod tidying;
 mod top;
 
 pub use files::ReasonedFiles;
-pub use shelf::ReasonedShelf;
 pub use status::Status;
 pub use top::signalbox_top;

@@ -8,7 +8,7 @@ ghost use Rattle.signalbox_top.specs.Top.{code_of};
 pub enum Status {
     /// It is done, and nothing was found.
     Done = 0,
-    /// It is done, and something was found. No command of today finds anything.
+    /// It is done, and something was found.
     Found = 1,
     /// It couldn't be done: for its words, a text, the output or memory. Standard error says why.
     Failed = 2,

@@ -2,13 +2,14 @@
 
 ghost use Rattle.std.specs.Prelude.{◌≡◌, ◌≢◌, ◌≤◌, ℕ, List, IfOk, IfSome, length};
 ghost use Rattle.rail_text.specs.Bytes.{appended};
-ghost use Rattle.signalbox_top.specs.Top.{TakesFront, TellsWhy};
+ghost use Rattle.signalbox_top.specs.Top.{TakesFront};
+ghost use Rattle.signalbox_top.specs.Told.{TellsWhy};
 ghost use Rattle.tidy_text.specs.Tidy.{tidy_text};
 
-use crate::answering::{Trouble, put_result, tell_trouble, trouble_with};
-use crate::shelf::ReasonedShelf;
+use crate::answering::{put_result, tell_trouble};
 use crate::status::Status;
-use rail_text::{FetchFault, Sink};
+use explained_texts::{ReasonedShelf, Trouble, fetch_text, trouble_with};
+use rail_text::Sink;
 use std::alloc::Global;
 use tidy_text::tidy;
 
@@ -34,11 +35,8 @@ fn fetched<S: ReasonedShelf>(alloc: Global, file: &str, shelf: &mut S) -> Result
     ensures few { IfOk result (λ text. length text.items ≤ 4294967294) }
     ensures same { (n : List ℕ) → S.held shelf.new n ≡ S.held shelf.old n }
 {
-    match shelf.fetch(alloc, file, MOST_BYTES) {
-        Ok(bytes) => whole_text(alloc, file, bytes),
-        Err(FetchFault::Failed) => Err(trouble_with(alloc, file, shelf.reason())),
-        Err(FetchFault::NoMemory) => Err(Trouble::NoMemory),
-    }
+    let bytes = fetch_text(alloc, shelf, file, MOST_BYTES)?;
+    whole_text(alloc, file, bytes)
 }
 
 // The text under a name with its form mended.

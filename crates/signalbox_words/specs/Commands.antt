@@ -1,8 +1,8 @@
 -- What the words of a command line ask for.
-use Rattle.std.specs.Prelude.{◌≡◌, ◌≢◌, ◌⊎◌, ℕ, true, List, Option, Some, None, if◌then◌else◌}
+use Rattle.std.specs.Prelude.{◌≡◌, ◌≢◌, ◌⊎◌, ℕ, Bool, true, false, List, Option, Some, None, if◌then◌else◌}
 use Rattle.std.specs.Prelude.{String, bytes_eq, codes, map, option_and_then, option_map, string_bytes}
 use Rattle.std.specs.Global.{Global}
-use Rattle.clap.specs.Words.{Row, Text, first_of, subcommand_of, takes}
+use Rattle.clap.specs.Words.{Row, Text, all_of, first_of, subcommand_of, takes}
 use Rattle.clap.specs.declared.error.kind.ErrorKind.{ErrorKind}
 use Rattle.clap.specs.declared.error.kind.ErrorKind.TheVariants as kinds
 use Rattle.signalbox_words.specs.Table.{program}
@@ -11,22 +11,68 @@ use Rattle.signalbox_words.specs.declared.reading.SignalboxCommand.TheVariants a
 use Rattle.signalbox_words.specs.declared.reading.Words.{Words}
 use Rattle.signalbox_words.specs.declared.reading.Words.TheVariants as words
 
--- Tidy: a text is printed with its form mended.
+-- What is wanted of a rehearsal: whether it ends at the first refused call, whether its journal is printed in the place
+-- of its report, and the names of the plan and the scripts.
+pub record Rehearsing : Type 0 where
+  pub to_refusal : Bool
+  pub as_journal : Bool
+  pub plan : List ℕ
+  pub scripts : List (List ℕ)
+
+-- Tidy: a text is printed with its form mended; Rehearse: a plan's line is rehearsed by the scripts of its boxes.
 pub data Command : Type 0 where
   Tidy : List ℕ → Command
+  Rehearse : Rehearsing → Command
 
 -- the command with the names as their bytes
 abbrev pub shown : SignalboxCommand → Command
 shown (commands.Tidy file) = Command.Tidy file.now
+shown (commands.Rehearse to_refusal as_journal plan scripts) =
+    Command.Rehearse (record {
+      to_refusal = to_refusal;
+      as_journal = as_journal;
+      plan = plan.now;
+      scripts = map (λ name. name.now) scripts.items;
+    })
 
 -- words as their bytes
 abbrev pub bytes_of : List (String Global) → List Text
 bytes_of words = map (λ word. string_bytes word) words
 
+-- a flag is given
+abbrev pub is_given : Option Text → Bool
+is_given None = false
+is_given (Some value) = bytes_eq value (codes "true")
+
+-- the names of a plan and of scripts, where there are both
+abbrev pub both_names : Option Text → Option (List Text) → Option (Text × List Text)
+both_names None scripts = None
+both_names (Some plan) None = None
+both_names (Some plan) (Some scripts) = Some (plan, scripts)
+
+-- PLAN SCRIPT..
+abbrev pub names_read : List Row → Option (Text × List Text)
+names_read rows = both_names (first_of (codes "plan") rows) (all_of (codes "script") rows)
+
+-- a rehearsal of the texts of these names, with the flags that are given
+abbrev pub rehearsal_with : List Row → Text × List Text → Command
+rehearsal_with rows names =
+    Command.Rehearse (record {
+      to_refusal = is_given (first_of (codes "to-refusal") rows);
+      as_journal = is_given (first_of (codes "journal") rows);
+      plan = names.0;
+      scripts = names.1;
+    })
+
+-- `rehearse [--to-refusal] [--journal] PLAN SCRIPT..`
+abbrev pub rehearse_read : List Row → Option Command
+rehearse_read rows = option_map (rehearsal_with rows) (names_read rows)
+
 -- a command, by its name and the values that clap found
 abbrev pub command_read : Text → List Row → Option Command
 command_read name rows =
     if bytes_eq name (codes "tidy") then option_map Command.Tidy (first_of (codes "file") rows)
+    else if bytes_eq name (codes "rehearse") then rehearse_read rows
     else None
 
 -- the command of these words, as clap reads them by the table of commands

@@ -1,14 +1,42 @@
 -- The commands of `signalbox` as clap sees them.
-use Rattle.std.specs.Prelude.{true, codes}
+use Rattle.std.specs.Prelude.{true, codes, Some}
+use Rattle.clap.specs.Lexer.{usize_max}
 use Rattle.clap.specs.Words.{App, Rule, Text, new_app, new_rule, with_rule, with_subcommand}
+use Rattle.clap.specs.declared.builder.action.ArgAction.TheVariants.{SetTrue}
 
 -- an argument that is required, with a name in the help
 abbrev pub required_argument : Text → Rule
 required_argument id = record (new_rule id) { value_names = 1; required = true }
 
+-- the same, with one word or more
+abbrev pub repeated_argument : Text → Rule
+repeated_argument id = record (required_argument id) {
+  range = Some (record { start_inclusive = 1; end_inclusive = usize_max });
+}
+
+-- a flag: `--` and its name
+abbrev pub flag : Text → Rule
+flag id = record (new_rule id) { long = Some id; action = Some SetTrue }
+
 -- `tidy FILE`
 abbrev pub tidy_command : App
 tidy_command = with_rule (new_app (codes "tidy")) (required_argument (codes "file"))
+
+-- `rehearse --to-refusal`
+abbrev pub to_refusal_form : App
+to_refusal_form = with_rule (new_app (codes "rehearse")) (flag (codes "to-refusal"))
+
+-- the same with `--journal`
+abbrev pub flags_form : App
+flags_form = with_rule to_refusal_form (flag (codes "journal"))
+
+-- the same with `PLAN`
+abbrev pub plan_form : App
+plan_form = with_rule flags_form (required_argument (codes "plan"))
+
+-- `rehearse [--to-refusal] [--journal] PLAN SCRIPT..`
+abbrev pub rehearse_command : App
+rehearse_command = with_rule plan_form (repeated_argument (codes "script"))
 
 -- the program with no command; clap is given its words without its own name in front
 abbrev pub bare_program : App
@@ -23,4 +51,4 @@ bare_program = record (new_app (codes "signalbox")) {
 
 -- the program with all its commands
 abbrev pub program : App
-program = with_subcommand bare_program tidy_command.top
+program = with_subcommand (with_subcommand bare_program rehearse_command.top) tidy_command.top

@@ -1,10 +1,11 @@
 //! The words of a command line.
 
-ghost use Rattle.std.specs.Prelude.{◌≡◌, IfOk};
+ghost use Rattle.std.specs.Prelude.{◌≡◌, IfOk, codes, map};
 ghost use Rattle.std.specs.Option.{option_map};
-ghost use Rattle.clap.specs.Words.{found_of, rows_of};
+ghost use Rattle.clap.specs.Words.{first_of, found_of, rows_of};
 ghost use Rattle.clap.specs.Values.{kind_of};
-ghost use Rattle.signalbox_words.specs.Commands.{AreRead, TellsFault, bytes_of, command_read, shown};
+ghost use Rattle.signalbox_words.specs.Commands.{AreRead, Command, TellsFault, bytes_of, command_read, is_given};
+ghost use Rattle.signalbox_words.specs.Commands.{names_read, rehearsal_with, rehearse_read, shown};
 
 use crate::table::program;
 use clap::error::ErrorKind;
@@ -16,7 +17,18 @@ use std::alloc::Global;
 #[derive(Debug, Drop)]
 pub enum SignalboxCommand<'a> {
     /// `tidy FILE`: a text is printed with its form mended.
-    Tidy { file: &'a str },
+    Tidy {
+        file: &'a str,
+    },
+    /// `rehearse [--to-refusal] [--journal] PLAN SCRIPT..`: a plan's line is rehearsed by the scripts of its boxes.
+    Rehearse {
+        /// It ends at the first refused call.
+        to_refusal: bool,
+        /// Its journal is printed in the place of its report.
+        as_journal: bool,
+        plan: &'a str,
+        scripts: Vec<&'a str>,
+    },
 }
 
 /// What words come to.
@@ -30,17 +42,86 @@ pub enum Words<'a> {
     Wrong(String),
 }
 
-// A command, by its name and what clap found.
+// Whether a flag is given.
 #[tactic(auto, using(crate::proofs::MatchRules::match_rules))]
-fn read_command<'a>(name: &str, found: &ArgMatches<'a>) -> Option<SignalboxCommand<'a>>
-    ensures { option_map shown result ≡ command_read name.now (rows_of (found_of found.now)) }
+fn has_flag(found: &ArgMatches<'_>, flag: &str) -> bool
+    ensures { result ≡ is_given (first_of flag.now (rows_of (found_of found.now))) }
+{
+    match found.get_str(flag) {
+        Some(value) => value == "true",
+        None => false,
+    }
+}
+
+// The file of `tidy`.
+#[tactic(auto, using(crate::proofs::MatchRules::match_rules))]
+fn read_tidy<'a>(found: &ArgMatches<'a>) -> Option<SignalboxCommand<'a>>
+    ensures { option_map shown result
+        ≡ option_map Command.Tidy (first_of (codes "file") (rows_of (found_of found.now))) }
+{
+    let file = found.get_str("file")?;
+    Some(SignalboxCommand::Tidy { file })
+}
+
+// The names of the plan and of the scripts of `rehearse`.
+#[tactic(auto, using(crate::proofs::MatchRules::match_rules))]
+fn read_names<'a, 'm>(found: &'m ArgMatches<'a>) -> Option<(&'a str, &'m [&'a str])>
+    ensures { option_map (λ names. (names.0.now, map (λ name. name.now) names.1.now)) result
+        ≡ names_read (rows_of (found_of found.entry.now)) }
+{
+    let (Some(plan), Some(scripts)) = (found.get_str("plan"), found.get_strs("script")) else {
+        return None;
+    };
+    Some((plan, scripts))
+}
+
+// A rehearsal of the texts of these names, with the flags that are given.
+fn rehearsal_with<'a>(
+    alloc: Global,
+    found: &ArgMatches<'a>,
+    plan: &'a str,
+    scripts: &[&'a str],
+) -> Result<SignalboxCommand<'a>, NoMemory>
+    ensures { IfOk result (λ command. shown command
+        ≡ rehearsal_with (rows_of (found_of found.now)) (plan.entry.now, map (λ name. name.now) scripts.now)) }
+{
+    let to_refusal = has_flag(found, "to-refusal");
+    let as_journal = has_flag(found, "journal");
+    let scripts = Vec::from_slice(alloc, scripts)?;
+    Ok(SignalboxCommand::Rehearse {
+        to_refusal,
+        as_journal,
+        plan,
+        scripts,
+    })
+}
+
+// The flags, the plan and the scripts of `rehearse`.
+fn read_rehearse<'a>(
+    alloc: Global,
+    found: &ArgMatches<'a>,
+) -> Result<Option<SignalboxCommand<'a>>, NoMemory>
+    ensures { IfOk result (λ command. option_map shown command ≡ rehearse_read (rows_of (found_of found.now))) }
+{
+    match read_names(found) {
+        Some((plan, scripts)) => Ok(Some(rehearsal_with(alloc, found, plan, scripts)?)),
+        None => Ok(None),
+    }
+}
+
+// A command, by its name and what clap found.
+fn read_command<'a>(
+    alloc: Global,
+    name: &str,
+    found: &ArgMatches<'a>,
+) -> Result<Option<SignalboxCommand<'a>>, NoMemory>
+    ensures { IfOk result
+        (λ command. option_map shown command ≡ command_read name.now (rows_of (found_of found.now))) }
 {
     match name {
-        "tidy" => {
-            let file = found.get_str("file")?;
-            Some(SignalboxCommand::Tidy { file })
-        }
-        _ => None,
+        "tidy" => Ok(read_tidy(found)),
+        "rehearse" => read_rehearse(alloc, found),
+        _ => Ok(None),
     }
 }
 
@@ -70,7 +151,7 @@ pub fn read_words<'a>(alloc: Global, words: &'a [String]) -> Result<Words<'a>, N
             let Some((name, found)) = matches.subcommand() else {
                 return Ok(Words::Wrong(String::new(alloc)));
             };
-            match read_command(name, found) {
+            match read_command(alloc, name, found)? {
                 Some(command) => Ok(Words::Command(command)),
                 None => Ok(Words::Wrong(String::new(alloc))),
             }

@@ -139,6 +139,7 @@ impl<'a> CaseReader<'a> {
         Answer {
             status: status_of(&output),
             output,
+            told: Vec::new(self.alloc),
         }
     }
 

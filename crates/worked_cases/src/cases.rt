@@ -1,10 +1,11 @@
-//! The worked cases: each is worked by the program's own top call over a shelf and a sink in memory, and each that
+//! The worked cases: each is worked by a program's own top call over a shelf and a sink in memory, and each that
 //! differs from what is wanted is told.
 
+use crate::case_folder::read_folder;
 use crate::case_reader::CaseReader;
 use crate::files::{names_in, path_of};
+use crate::folder_kind::FolderKind;
 use crate::report::{Tally, refused, refused_at_end, tell_case};
-use crate::run_folder::read_run;
 use crate::worked_case::{Answer, Case};
 use crate::working::work;
 use anyhow::{Context, Result};
@@ -27,36 +28,42 @@ fn is_wanted<R: Print + AllocGlobal>(
     Ok(false)
 }
 
-// Works a case, and tells it where it differs. Whether it agrees.
-fn agrees<R: Print + AllocGlobal + Threads + Wait + Sync>(rt: &R, case: Case) -> Result<bool> {
+// Compares what came of a case with what is wanted. Whether it agrees.
+fn agrees<R: Print + AllocGlobal + Threads + Wait + Sync>(
+    rt: &R,
+    kind: FolderKind,
+    case: Case,
+) -> Result<bool> {
     let Case {
         name,
         words,
         texts,
         wanted,
     } = case;
-    let came = work(rt, rt.alloc(), &words, texts)?;
+    let came = work(rt, rt.alloc(), kind, &words, texts)?;
     is_wanted(rt, name.as_str(), &wanted, &came)
 }
 
-// Works the run that has this name in a folder of runs. Whether it agrees.
-fn run_agrees<R: Files + Print + AllocGlobal + Clone + Drop + Threads + Wait + Sync>(
+// Works the case of a kind that has this name, in the folder of all cases of the kind. Whether it agrees.
+fn folder_agrees<R: Files + Print + AllocGlobal + Clone + Drop + Threads + Wait + Sync>(
     rt: &R,
-    folder: &str,
+    cases: &str,
+    kind: FolderKind,
     name: &str,
 ) -> Result<bool> {
-    let case = read_run(rt, folder, name).context(format_args!("run {name}"))?;
-    agrees(rt, case)
+    let case = read_folder(rt, cases, kind, name).context(format_args!("{cases}/{name}"))?;
+    agrees(rt, kind, case)
 }
 
-/// Works the runs of a folder, each a folder of its own.
-pub fn work_runs<R: Files + Print + AllocGlobal + Clone + Drop + Threads + Wait + Sync>(
+/// Works the cases of a kind, each a folder of its own.
+pub fn work_folders<R: Files + Print + AllocGlobal + Clone + Drop + Threads + Wait + Sync>(
     rt: &R,
-    folder: &str,
+    cases: &str,
+    kind: FolderKind,
 ) -> Result<Tally> {
     let mut tally = Tally::new();
-    for name in names_in(rt, folder)? {
-        tally.count(run_agrees(rt, folder, name.as_str())?);
+    for name in names_in(rt, cases)? {
+        tally.count(folder_agrees(rt, cases, kind, name.as_str())?);
     }
     Ok(tally)
 }
@@ -68,7 +75,7 @@ fn count_case<R: Print + AllocGlobal + Threads + Wait + Sync>(
     tally: &mut Tally,
 ) -> Result<()> {
     if let Some(case) = ended {
-        tally.count(agrees(rt, case)?);
+        tally.count(agrees(rt, FolderKind::Run, case)?);
     }
     Ok(())
 }

@@ -4,6 +4,7 @@ use crate::worked_case::push_word;
 use anyhow::{Context, Result};
 use std::alloc::{AllocError, Global};
 use std::fs;
+use std::io::ErrorKind;
 use std::rt::Files;
 
 /// The path of what has this name in a folder.
@@ -29,6 +30,15 @@ pub fn names_in<R: Files + AllocGlobal + Clone + Drop>(
 pub fn bytes_of<R: Files + AllocGlobal>(rt: &R, folder: &str, name: &str) -> Result<Vec<u8>> {
     let path = path_of(rt.alloc(), folder, name)?;
     Ok(fs::read(rt, path.as_str()).context(format_args!("{name}"))?)
+}
+
+/// The bytes of the file that has this name in a folder; none where there is no such file.
+pub fn bytes_if_any<R: Files + AllocGlobal>(rt: &R, folder: &str, name: &str) -> Result<Vec<u8>> {
+    let path = path_of(rt.alloc(), folder, name)?;
+    match fs::read(rt, path.as_str()) {
+        Err(error) if error.kind() == ErrorKind::NotFound => Ok(Vec::new(rt.alloc())),
+        read => Ok(read.context(format_args!("{name}"))?),
+    }
 }
 
 /// The text of the file that has this name in a folder.

@@ -4,12 +4,17 @@
 
 mod answers;
 mod case_fault;
+mod case_folder;
 mod case_line;
 mod case_reader;
+mod case_shelf;
 mod cases;
 mod charts;
 mod codes;
+mod commands;
+mod explanations;
 mod files;
+mod folder_kind;
 mod frames;
 mod moments;
 mod plans;
@@ -18,7 +23,6 @@ mod report;
 mod row_line;
 mod row_work;
 mod rows;
-mod run_folder;
 mod spelling;
 mod tables;
 mod texts;
@@ -27,8 +31,9 @@ mod worked_case;
 mod working;
 
 use anyhow::{Result, bail};
-use cases::{work_runs, work_texts};
+use cases::{work_folders, work_texts};
 use files::path_of;
+use folder_kind::FolderKind;
 use report::Tally;
 use rows::work_rows;
 use std::env;
@@ -46,13 +51,14 @@ fn data_folder(rt: &HostRuntime) -> Result<String> {
     }
 }
 
-// The runs below the folder of the cases.
-fn work_runs_below<R: Files + Print + AllocGlobal + Clone + Drop + Threads + Wait + Sync>(
+// The cases of a kind below the folder of the cases.
+fn work_folders_below<R: Files + Print + AllocGlobal + Clone + Drop + Threads + Wait + Sync>(
     rt: &R,
     folder: &str,
+    kind: FolderKind,
 ) -> Result<Tally> {
-    let runs = path_of(rt.alloc(), folder, "runs")?;
-    work_runs(rt, runs.as_str())
+    let cases = path_of(rt.alloc(), folder, kind.folder())?;
+    work_folders(rt, cases.as_str(), kind)
 }
 
 // The short cases below the folder of the cases.
@@ -74,18 +80,40 @@ fn work_rows_below<R: Files + Print + AllocGlobal + Clone + Drop>(
     work_rows(rt, rows.as_str(), plans.as_str())
 }
 
-// Works the runs, the short cases and the rows below a folder, and tells how many agree. Whether all do.
-fn work_all<R: Files + Print + AllocGlobal + Clone + Drop + Threads + Wait + Sync>(
+// Works the cases of a kind, and tells how many agree. Whether all do.
+fn tell_folders<R: Files + Print + AllocGlobal + Clone + Drop + Threads + Wait + Sync>(
+    rt: &R,
+    folder: &str,
+    kind: FolderKind,
+) -> Result<bool> {
+    let tally = work_folders_below(rt, folder, kind)?;
+    let name = kind.folder();
+    println!(rt; "{name} {tally}")?;
+    Ok(tally.all_agree())
+}
+
+// Works the short cases and the rows, and tells how many agree. Whether all do.
+fn tell_files<R: Files + Print + AllocGlobal + Clone + Drop + Threads + Wait + Sync>(
     rt: &R,
     folder: &str,
 ) -> Result<bool> {
-    let runs = work_runs_below(rt, folder)?;
-    println!(rt; "runs {runs}")?;
     let texts = work_texts_below(rt, folder)?;
     println!(rt; "texts {texts}")?;
     let rows = work_rows_below(rt, folder)?;
     println!(rt; "rows {rows}")?;
-    Ok(runs.all_agree() && texts.all_agree() && rows.all_agree())
+    Ok(texts.all_agree() && rows.all_agree())
+}
+
+// Works all cases and rows below a folder, and tells how many agree. Whether all do.
+fn work_all<R: Files + Print + AllocGlobal + Clone + Drop + Threads + Wait + Sync>(
+    rt: &R,
+    folder: &str,
+) -> Result<bool> {
+    let runs = tell_folders(rt, folder, FolderKind::Run)?;
+    let explanations = tell_folders(rt, folder, FolderKind::Explanation)?;
+    let commands = tell_folders(rt, folder, FolderKind::Command)?;
+    let files = tell_files(rt, folder)?;
+    Ok(runs && explanations && commands && files)
 }
 
 fn main(rt: HostRuntime) -> Result<ExitCode> {

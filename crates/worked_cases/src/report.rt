@@ -73,7 +73,20 @@ fn shown(output: &[u8]) -> &str {
     std::str::from_utf8(output).unwrap_or("(no text)")
 }
 
-/// Tells a case that differs: its name, the status where it isn't the one wanted, and the first line that differs.
+// Tells the first line in which an output differs, where it does.
+fn tell_output<R: Print + Alloc>(rt: &R, what: &str, wanted: &[u8], came: &[u8]) -> io::Result<()> {
+    match first_difference(shown(wanted), shown(came)) {
+        Some((number, wanted, came)) => {
+            println!(rt; "  {what}line {number} wanted: {wanted}")?;
+            println!(rt; "  {what}line {number} came:   {came}")
+        }
+        None if wanted != came => println!(rt; "  {what}more lines came than are wanted"),
+        None => Ok(()),
+    }
+}
+
+/// Tells a case that differs: its name, the status where it isn't the one wanted, and the first line that differs of
+/// what is printed and of what is told.
 pub fn tell_case<R: Print + Alloc>(
     rt: &R,
     name: &str,
@@ -86,14 +99,8 @@ pub fn tell_case<R: Print + Alloc>(
         let came = came.status;
         println!(rt; "  status {wanted} is wanted, {came} came")?;
     }
-    match first_difference(shown(&wanted.output), shown(&came.output)) {
-        Some((number, wanted, came)) => {
-            println!(rt; "  line {number} wanted: {wanted}")?;
-            println!(rt; "  line {number} came:   {came}")
-        }
-        None if wanted.output != came.output => println!(rt; "  more lines came than are wanted"),
-        None => Ok(()),
-    }
+    tell_output(rt, "", &wanted.output, &came.output)?;
+    tell_output(rt, "told: ", &wanted.told, &came.told)
 }
 
 /// Tells a row that differs: its file and line, the answer that is wanted, and the one that came.

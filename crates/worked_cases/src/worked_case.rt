@@ -2,11 +2,12 @@
 
 use std::alloc::{AllocError, Global};
 
-/// What the program answers: its exit status, and what it prints.
+/// What a program answers: its exit status, what it prints, and what it tells on standard error.
 #[derive(PartialEq, Eq, Drop)]
 pub struct Answer {
     pub status: u8,
     pub output: Vec<u8>,
+    pub told: Vec<u8>,
 }
 
 /// Puts a word behind others.

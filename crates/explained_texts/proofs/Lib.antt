@@ -1,0 +1,3 @@
+mod Stopped
+mod Onward
+mod NextText

@@ -1,0 +1,29 @@
+//! A text that is fetched.
+
+ghost use Rattle.std.specs.Prelude.{◌≡◌, ℕ, ◌+◌, ◌≤◌, ◌<◌, ◌^◌, List, IfOk, IfErr, IfSome, length, take};
+ghost use Rattle.explained_texts.specs.Troubles.{IsNoRefusal};
+
+use crate::shelf::ReasonedShelf;
+use crate::trouble::{Trouble, trouble_with};
+use rail_text::FetchFault;
+use std::alloc::Global;
+
+/// The first bytes of a text: one more than the limit, if there are so many.
+pub fn fetch_text<S: ReasonedShelf>(
+    alloc: Global,
+    shelf: &mut S,
+    name: &str,
+    limit: usize,
+) -> Result<Vec<u8>, Trouble>
+    requires { limit < 2 ^ 32 }
+    ensures bytes { IfOk result (λ v. IfSome (S.held shelf.old name.now) (λ all. v.items ≡ take (limit + 1) all)) }
+    ensures few { IfOk result (λ v. length v.items ≤ limit + 1) }
+    ensures trouble { IfErr result IsNoRefusal }
+    ensures same { (n : List ℕ) → S.held shelf.new n ≡ S.held shelf.old n }
+{
+    match shelf.fetch(alloc, name, limit) {
+        Ok(bytes) => Ok(bytes),
+        Err(FetchFault::Failed) => Err(trouble_with(alloc, name, shelf.reason())),
+        Err(FetchFault::NoMemory) => Err(Trouble::NoMemory),
+    }
+}

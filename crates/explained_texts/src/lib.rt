@@ -1,0 +1,13 @@
+//! The texts that a command for people names, fetched and read: where one can't be had, or is refused, it is told why.
+#![tactic(auto)]
+
+mod fetching;
+mod gathering;
+mod reading;
+mod shelf;
+mod trouble;
+
+pub use fetching::fetch_text;
+pub use gathering::{RunTexts, fetch_run};
+pub use shelf::ReasonedShelf;
+pub use trouble::{Trouble, trouble_with};
