@@ -1,7 +1,7 @@
 # The crates whose tests try what no words reach.
 TESTS = $(patsubst crates/%/,%,$(wildcard crates/*_tests/))
 
-.PHONY: demo build cases quick $(TESTS) bench soak loaded faults edge sizes planted contracts test
+.PHONY: demo build cases quick $(TESTS) bench soak loaded races faults edge sizes planted contracts test
 
 example = run data/example.plan data/ash.script data/beech.script data/cedar.script
 
@@ -35,9 +35,9 @@ $(TESTS):
 bench:
 	python3 bench/times.py $(BESIDE) crates/box_main/out/box_main
 
-# Five that try the program that `make build` leaves: it works made lines for MINUTES, with bad signalmen; large lines
-# beside busy processes; each allocation is refused in turn; bad files, outputs and words; the greatest texts. Each
-# stops with status 0 where it found nothing.
+# Six that try the program that `make build` leaves: it works made lines for MINUTES, with bad signalmen; large lines
+# beside busy processes; lines that `signalbox` rehearsed; each allocation is refused in turn; bad files, outputs and words;
+# the greatest texts. Each stops with status 0 where it found nothing.
 MINUTES = 10
 
 soak:
@@ -45,6 +45,9 @@ soak:
 
 loaded:
 	python3 hostile/loaded.py crates/box_main/out/box_main
+
+races:
+	python3 hostile/races.py crates/box_main/out/box_main crates/signalbox/out/signalbox
 
 faults:
 	python3 hostile/faults.py crates/box_main/out/box_main $(wildcard crates/desk_tests/out/desk_tests_tests)
