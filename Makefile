@@ -36,8 +36,8 @@ bench:
 	python3 bench/times.py $(BESIDE) crates/box_main/out/box_main
 
 # Six that try the program that `make build` leaves: it works made lines for MINUTES, with bad signalmen; large lines
-# beside busy processes; lines that `signalbox` rehearsed; each allocation is refused in turn; bad files, outputs and words;
-# the greatest texts. Each stops with status 0 where it found nothing.
+# beside busy processes; lines that `signalbox` rehearsed; each allocation is refused in turn; bad files, outputs and
+# words; the greatest texts. Each stops with status 0 where it found nothing.
 MINUTES = 10
 
 soak:
