@@ -106,7 +106,12 @@ fn say_what_was_done(sentence: &mut Sentence, plan: &Plan, first: &Entry) -> Res
             say_man_and(sentence, plan, first.box_no, " had tried to ring")
         }
         Reply::HeldByInstrument { .. } => {
-            say_man_and(sentence, plan, first.box_no, " had tried to pull the starter")
+            say_man_and(
+                sentence,
+                plan,
+                first.box_no,
+                " had tried to pull the starter",
+            )
         }
         Reply::Entered { train, .. } => {
             say_train_and(sentence, plan, train, " had entered the section")
