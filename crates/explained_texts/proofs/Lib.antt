@@ -1,3 +1,4 @@
 mod Stopped
 mod Onward
 mod NextText
+mod Faults

@@ -24,7 +24,7 @@ front (Some all) most bytes h = (most, h)
 
 pub explained_at : (held : Held) (n : ℕ) (name bytes : List ℕ) (trouble : Trouble) → IsFront (held name) bytes
     → IsExplained n name bytes trouble → IsExplainedAt held n name trouble
-explained_at held n name bytes (troubles.Untaken line) front h = h
+explained_at held n name bytes (troubles.Untaken line) front h = absurd h
 explained_at held n name bytes (troubles.Refused text line cause told) front h =
     (h.0, record { bytes = bytes; front = front; explains = h.1 })
 explained_at held n name bytes troubles.NoMemory front h = tt

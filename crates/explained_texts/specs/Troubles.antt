@@ -31,6 +31,12 @@ told_of (troubles.Untaken line) = string_bytes line
 told_of (troubles.Refused text line cause told) = string_bytes told
 told_of troubles.NoMemory = codes "signalbox: out of memory\n"
 
+-- where a text can't be had, this holds
+abbrev pub IfUntaken : Trouble → Type 0 → Type 0
+IfUntaken (troubles.Untaken line) P = P
+IfUntaken (troubles.Refused text line cause told) P = Unit {0}
+IfUntaken troubles.NoMemory P = Unit {0}
+
 -- text n is refused for what is wrong with that line, unless memory ran out
 abbrev pub IsRefusalOf : ℕ → ℕ → Cause → Trouble → Type 0
 IsRefusalOf n l wrong (troubles.Untaken line) = ⊥
@@ -44,9 +50,9 @@ MakesOr view (Err trouble) told = StopsAt (stop_shown trouble) told
 
 -- ---- explanations
 
--- a refusal is of text n, and is explained under this name, with these bytes
+-- text n is refused, and that is explained under this name, with these bytes, unless memory ran out
 abbrev pub IsExplained : ℕ → List ℕ → List ℕ → Trouble → Type 0
-IsExplained n name bytes (troubles.Untaken line) = IsOwnLine (string_bytes line)
+IsExplained n name bytes (troubles.Untaken line) = ⊥
 IsExplained n name bytes (troubles.Refused text line cause told) =
     (text ≡ n) × Explains name bytes line cause (string_bytes told)
 IsExplained n name bytes troubles.NoMemory = Unit {0}

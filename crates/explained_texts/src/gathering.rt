@@ -1,15 +1,17 @@
 //! The plan and the scripts of a run, fetched and read in their order.
 
-ghost use Rattle.std.specs.Prelude.{◌≡◌, ℕ, ◌+◌, ◌≤◌, ◌<◌, List, [], IfErr, IfOk, IfSome, OnErr, OnOk, Option, All};
-ghost use Rattle.std.specs.Prelude.{length, take};
+ghost use Rattle.std.specs.Prelude.{◌≡◌, ℕ, ◌+◌, ◌≤◌, ◌<◌, List, [], ◌∷◌, IfErr, IfOk, IfSome, OnErr, OnOk, Option};
+ghost use Rattle.std.specs.Prelude.{All, length, take};
+ghost use Rattle.rail_text.specs.Causes.{Rose};
 ghost use Rattle.line_plan.specs.Limits.{most_bytes};
 ghost use Rattle.plan_draft.specs.Reading.{plan_of};
 ghost use Rattle.script_text.specs.Scripts.{IsScriptOf, most_script_bytes, script_of};
 ghost use Rattle.text_fetch.specs.Fetches.{AreFetched, IsFetched};
-ghost use Rattle.text_fetch.specs.FromTexts.{Gives, named, text_told, told_then};
-ghost use Rattle.text_fetch.specs.Runs.{AreScriptsOf, count_told, run_told, scripts_told};
+ghost use Rattle.text_fetch.specs.FromTexts.{Gives, HasShelfFault, named, text_told, told_then};
+ghost use Rattle.text_fetch.specs.Runs.{AreScriptsOf, HasScriptFault, count_told, run_told, run_told_before};
+ghost use Rattle.text_fetch.specs.Runs.{scripts_told};
 ghost use Rattle.explained_texts.specs.Gathered.{AreTextsOf};
-ghost use Rattle.explained_texts.specs.Troubles.{IsExplained, IsExplainedAt, IsExplainedOfRun, MakesOr};
+ghost use Rattle.explained_texts.specs.Troubles.{IfUntaken, IsExplained, IsExplainedAt, IsExplainedOfRun, MakesOr};
 
 use crate::fetching::fetch_text;
 use crate::reading::{read_plan_text, read_script_text, refused};
@@ -66,7 +68,10 @@ fn fetch_plan<S: ReasonedShelf>(
         (λ plan. told_then (count_told plan count) (λ counted. Gives plan))) }
     ensures count { IfOk result (λ plan. length plan.boxes ≡ count) }
     ensures explained { IfErr result (IsExplainedAt (S.held shelf.old) 1 name.now) }
+    ensures fault { IfErr result (λ trouble. IfUntaken trouble
+        (Rose (S.faults shelf.old name.now) (S.faults shelf.new name.now))) }
     ensures same { (n : List ℕ) → S.held shelf.new n ≡ S.held shelf.old n }
+    ensures later { (n : List ℕ) → S.faults shelf.old n ≤ S.faults shelf.new n }
 {
     let bytes = fetch_text(alloc, shelf, name, PLAN_LIMIT)?;
     let plan = plan_of_boxes(alloc, name, &bytes, count);
@@ -89,7 +94,10 @@ fn fetch_script<S: ReasonedShelf>(
     ensures fetched { IfOk result (λ had. IsFetched (S.held shelf.old name.now) had.bytes.items) }
     ensures few { IfOk result (λ had. length had.bytes.items ≤ most_script_bytes + 1) }
     ensures explained { IfErr result (IsExplainedAt (S.held shelf.old) (box_no + 2) name.now) }
+    ensures fault { IfErr result (λ trouble. IfUntaken trouble
+        (Rose (S.faults shelf.old name.now) (S.faults shelf.new name.now))) }
     ensures same { (n : List ℕ) → S.held shelf.new n ≡ S.held shelf.old n }
+    ensures later { (n : List ℕ) → S.faults shelf.old n ≤ S.faults shelf.new n }
 {
     let bytes = fetch_text(alloc, shelf, name, SCRIPT_LIMIT)?;
     match read_script_text(alloc, plan, box_no, name, &bytes) {
@@ -119,6 +127,8 @@ fn fetch_scripts<S: ReasonedShelf>(
     ensures texts { OnOk result (AreTextsOf (S.held shelf.old) (named names.now) texts.new.items) }
     ensures explained { (plan_name : List ℕ)
         → IfErr result (IsExplainedOfRun (S.held shelf.old) plan_name (named names.now)) }
+    ensures fault { IfErr result (λ trouble. IfUntaken trouble
+        (HasScriptFault (S.held shelf.old) (S.faults shelf.old) (S.faults shelf.new) plan.now (named names.now))) }
     ensures same { (n : List ℕ) → S.held shelf.new n ≡ S.held shelf.old n }
 {
     plan.meets_conditions();
@@ -144,6 +154,9 @@ pub fn fetch_run<S: ReasonedShelf>(
     ensures count { IfOk result (λ run. length run.scripts.items ≡ length script_names.now) }
     ensures texts { IfOk result (λ run. AreTextsOf (S.held shelf.old) (named script_names.now) run.texts.items) }
     ensures explained { IfErr result (IsExplainedOfRun (S.held shelf.old) plan_name.now (named script_names.now)) }
+    ensures fault { IfErr result (λ trouble. IfUntaken trouble
+        (HasShelfFault (S.faults shelf.old) (S.faults shelf.new) (plan_name.now ∷ named script_names.now)
+        (run_told_before (S.held shelf.old) plan_name.now (named script_names.now)))) }
     ensures same { (n : List ℕ) → S.held shelf.new n ≡ S.held shelf.old n }
 {
     let plan = fetch_plan(alloc, shelf, plan_name, script_names.len())?;

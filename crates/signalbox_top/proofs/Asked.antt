@@ -4,7 +4,7 @@ use Rattle.clap.specs.Words.{Text, takes}
 use Rattle.signalbox_words.specs.Commands.{Command, command_of}
 use Rattle.signalbox_words.specs.Table.{program}
 use Rattle.text_fetch.specs.FromTexts.{Held}
-use Rattle.signalbox_top.specs.Told.{FaultIsTold, IsTold}
+use Rattle.signalbox_top.specs.Told.{FaultCounts, FaultIsTold, IsTold}
 use Rattle.signalbox_top.specs.Top.{Headline, asked}
 use Rattle.signalbox_top.specs.declared.status.Status.{Status}
 
@@ -29,27 +29,30 @@ asked_none held texts status old new refused = go (takes program texts) refused 
 
 -- ---- what is told
 
-pub fault_asked : (held : Held) (texts : List Text) (command : Command) (old new : Option (List ℕ)) (before now : ℕ)
-    → command_of texts ≡ Some command → FaultIsTold held (Some command) old new before now
-    → FaultIsTold held (asked texts) old new before now
-fault_asked held texts command old new before now is told = go (takes program texts) where
-  go : (t : Bool) → FaultIsTold held (cond t (command_of texts) None) old new before now
+pub fault_asked : (held : Held) (counts : FaultCounts) (texts : List Text) (command : Command)
+    (old new : Option (List ℕ)) (before now : ℕ)
+    → command_of texts ≡ Some command → FaultIsTold held counts (Some command) old new before now
+    → FaultIsTold held counts (asked texts) old new before now
+fault_asked held counts texts command old new before now is told = go (takes program texts) where
+  go : (t : Bool) → FaultIsTold held counts (cond t (command_of texts) None) old new before now
   go true = rw is told
   go false = tt
 
-pub fault_of_none : (held : Held) (texts : List Text) (old new : Option (List ℕ)) (before now : ℕ)
-    → ¬ (takes program texts ≡ true) ⊎ (command_of texts ≡ None) → FaultIsTold held (asked texts) old new before now
-fault_of_none held texts old new before now none = go (takes program texts) none where
+pub fault_of_none : (held : Held) (counts : FaultCounts) (texts : List Text) (old new : Option (List ℕ))
+    (before now : ℕ) → ¬ (takes program texts ≡ true) ⊎ (command_of texts ≡ None)
+    → FaultIsTold held counts (asked texts) old new before now
+fault_of_none held counts texts old new before now none = go (takes program texts) none where
   go : (t : Bool) → ¬ (t ≡ true) ⊎ (command_of texts ≡ None)
-      → FaultIsTold held (cond t (command_of texts) None) old new before now
+      → FaultIsTold held counts (cond t (command_of texts) None) old new before now
   go true (inl other) = absurd (other refl)
   go true (inr is) = rw is tt
   go false none = tt
 
 -- where memory ran out, that is told
-pub fault_without_memory : (held : Held) (command : Option Command) (old new : Option (List ℕ)) (before now : ℕ)
-    → IsTold (codes "signalbox: out of memory\n") old new before now → FaultIsTold held command old new before now
-fault_without_memory held None old new before now told = tt
-fault_without_memory held (Some (Command.Tidy file)) old new before now told = tt
-fault_without_memory held (Some (Command.Rehearse wanted)) old new before now told =
-    λ n fault refused. (codes "signalbox: out of memory\n", (inr (codes "out of memory\n", refl), told))
+pub fault_without_memory : (held : Held) (counts : FaultCounts) (command : Option Command)
+    (old new : Option (List ℕ)) (before now : ℕ) → IsTold (codes "signalbox: out of memory\n") old new before now
+    → FaultIsTold held counts command old new before now
+fault_without_memory held counts None old new before now told = tt
+fault_without_memory held counts (Some (Command.Tidy file)) old new before now told = tt
+fault_without_memory held counts (Some (Command.Rehearse wanted)) old new before now told =
+    λ n fault refused. (codes "signalbox: out of memory\n", (inr (inr refl), told))

@@ -200,7 +200,8 @@ fn answered<S: ReasonedShelf>(
     ensures answer { IfOk result (λ answer. IsAnswered (S.held shelf.old) (wanted_shown wanted.now) answer.text.items
         answer.status) }
     ensures done { IfOk result (λ answer. answer.status ≢ Status.Failed) }
-    ensures trouble { IfErr result (IsTroubleOf (S.held shelf.old) (wanted_shown wanted.now)) }
+    ensures trouble { IfErr result (IsTroubleOf (S.held shelf.old)
+        (record { before = S.faults shelf.old; now = S.faults shelf.new }) (wanted_shown wanted.now)) }
     ensures same { (n : List ℕ) → S.held shelf.new n ≡ S.held shelf.old n }
 {
     let run = fetch_run(alloc, shelf, wanted.plan, wanted.scripts)?;
@@ -226,6 +227,7 @@ pub(crate) fn serve_rehearse<S: ReasonedShelf, K: Sink, L: Sink>(
     ensures why { result ≡ Status.Failed
         → TellsWhy (L.taken told.old) (L.taken told.new) (L.faults told.old) (L.faults told.new) }
     ensures fault { result ≡ Status.Failed → FaultIsTold (S.held shelf.old)
+        (record { before = S.faults shelf.old; now = S.faults shelf.new })
         (Some (Command.Rehearse (wanted_shown wanted.now))) (L.taken told.old) (L.taken told.new) (L.faults told.old)
         (L.faults told.new) }
     ensures same { (n : List ℕ) → S.held shelf.new n ≡ S.held shelf.old n }

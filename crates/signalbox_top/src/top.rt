@@ -27,7 +27,8 @@ fn serve<S: ReasonedShelf, K: Sink, L: Sink>(
     ensures part { result ≡ Status.Failed → TakesFront (K.taken out.old) (K.taken out.new) }
     ensures why { result ≡ Status.Failed
         → TellsWhy (L.taken told.old) (L.taken told.new) (L.faults told.old) (L.faults told.new) }
-    ensures fault { result ≡ Status.Failed → FaultIsTold (S.held shelf.old) (Some (shown command.entry))
+    ensures fault { result ≡ Status.Failed → FaultIsTold (S.held shelf.old)
+        (record { before = S.faults shelf.old; now = S.faults shelf.new }) (Some (shown command.entry))
         (L.taken told.old) (L.taken told.new) (L.faults told.old) (L.faults told.new) }
     ensures same { (n : List ℕ) → S.held shelf.new n ≡ S.held shelf.old n }
 {
@@ -76,7 +77,8 @@ pub fn signalbox_top<S: ReasonedShelf, K: Sink, L: Sink>(
     ensures part { result ≡ Status.Failed → TakesFront (K.taken out.old) (K.taken out.new) }
     ensures why { result ≡ Status.Failed
         → TellsWhy (L.taken told.old) (L.taken told.new) (L.faults told.old) (L.faults told.new) }
-    ensures fault { result ≡ Status.Failed → FaultIsTold (S.held shelf.old) (asked (bytes_of words.now))
+    ensures fault { result ≡ Status.Failed → FaultIsTold (S.held shelf.old)
+        (record { before = S.faults shelf.old; now = S.faults shelf.new }) (asked (bytes_of words.now))
         (L.taken told.old) (L.taken told.new) (L.faults told.old) (L.faults told.new) }
     ensures same { (n : List ℕ) → S.held shelf.new n ≡ S.held shelf.old n }
 {

@@ -1,6 +1,7 @@
 use Rattle.std.proofs.Common.{◌+◌}
 use Rattle.std.proofs.lemmas.Result.{IfErr-weaker}
 use Rattle.line_plan.specs.Limits.{most_bytes}
+use Rattle.explained_texts.proofs.Faults.{read_is_had}
 use Rattle.explained_texts.proofs.Stopped.{explained_at, front}
 use Rattle.explained_texts.proofs.gathering.fetch_plan.Goals as goal
 
@@ -11,4 +12,9 @@ returns-clause-explained g c =
     let here = front (held c.args.name.now) (most_bytes + 1) bytes c.in_ok-bytes.ensures.bytes in
     IfErr-weaker c.plan_of_boxes-plan.result _ _ (λ trouble h. explained_at held 1 c.args.name.now bytes trouble here
     (rw c.deref.ensures.value at h))
+    c.plan_of_boxes-plan.ensures.explained
+
+pub returns-clause-fault : goal.returns-clause-fault
+returns-clause-fault g c =
+    IfErr-weaker c.plan_of_boxes-plan.result _ _ (λ trouble h. read_is_had 1 _ _ trouble _ h)
     c.plan_of_boxes-plan.ensures.explained

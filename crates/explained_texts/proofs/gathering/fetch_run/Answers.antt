@@ -1,10 +1,12 @@
 use mathlib.Core.Path.{fun_ext}
-use Rattle.std.proofs.Common.{◌≡◌, ℕ, [], length, map, subst, sym, refl}
+use Rattle.std.proofs.Common.{◌≡◌, ℕ, ◌∙◌, [], length, map, subst, sym, refl}
 use Rattle.std.proofs.lemmas.List.{length-map}
+use Rattle.std.proofs.lemmas.Result.{err_from_is_err_and}
 use Rattle.text_fetch.specs.FromTexts.{Gives, Held, IsGiven, StopsAt, plan_told, told_then}
 use Rattle.text_fetch.specs.Runs.{scripts_told}
 use Rattle.text_fetch.proofs.Gathering.{given_then, stops_first}
 use Rattle.explained_texts.specs.Troubles.{IsExplainedOfRun, stop_shown}
+use Rattle.explained_texts.proofs.Faults.{plan_fault, run_fault}
 use Rattle.explained_texts.proofs.Onward.{counted, given_more, stops_more}
 use Rattle.explained_texts.proofs.gathering.fetch_run.Goals as goal
 
@@ -45,3 +47,20 @@ returns-in-Err-clause-explained g c =
     let names = map (λ name. name.now) c.args.script_names.now in
     subst (λ (s : Held). IsExplainedOfRun s c.args.plan_name.now names c.in-Err.trouble)
     (fun_ext c.fetch_plan.ensures.same) (c.in-Err.ensures.explained c.args.plan_name.now)
+
+pub returns-in_err-plan-clause-fault : goal.returns-in_err-plan-clause-fault
+returns-in_err-plan-clause-fault g c =
+    let p = err_from_is_err_and c.from_residual.result c.from_residual.ensures.1 in
+    rw (p.1, p.2)
+    (plan_fault (g.S.Shelf.held c.args.shelf.now) (g.S.Shelf.faults c.args.shelf.now)
+    (g.S.Shelf.faults c.fetch_plan.new.shelf) c.args.plan_name.now (map (λ name. name.now) c.args.script_names.now)
+    c.in_err-plan.field-0.0 c.in_err-plan.ensures.fault)
+
+pub returns-in-Err-clause-fault : goal.returns-in-Err-clause-fault
+returns-in-Err-clause-fault g c =
+    let names = map (λ name. name.now) c.args.script_names.now in
+    run_fault (g.S.Shelf.held c.args.shelf.now) (g.S.Shelf.held c.fetch_plan.new.shelf)
+    (g.S.Shelf.faults c.args.shelf.now) (g.S.Shelf.faults c.fetch_plan.new.shelf)
+    (g.S.Shelf.faults c.fetch_scripts.new.shelf) c.args.plan_name.now names c.in_ok-plan.plan _ c.in-Err.trouble
+    (fun_ext c.fetch_plan.ensures.same) c.fetch_plan.ensures.later c.in_ok-plan.ensures.told
+    (length-map c.args.script_names.now (λ name. name.now) ∙ sym c.in_ok-plan.ensures.count) c.in-Err.ensures.fault

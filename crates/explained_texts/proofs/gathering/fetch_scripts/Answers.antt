@@ -6,6 +6,7 @@ use Rattle.text_fetch.proofs.Gathering.{own_more, read_more, stops_here}
 use Rattle.explained_texts.specs.Troubles.{stop_shown}
 use Rattle.explained_texts.proofs.NextText.{explained_there, fetched_more, fetched_there, few_more}
 use Rattle.explained_texts.proofs.NextText.{given_there, stops_there}
+use Rattle.explained_texts.proofs.Faults.{script_fault}
 use Rattle.explained_texts.proofs.gathering.fetch_scripts.Goals as goal
 
 pub returns-in_err-had-clause-told : goal.returns-in_err-had-clause-told
@@ -30,6 +31,16 @@ returns-in_err-had-clause-explained g c plan_name =
     c.loop-box_no.box_no _ c.in_err-had.field-0.0 (fun_ext c.loop-box_no.invariant.same)
     (omega (arith, c.loop-box_no-test.true)) c.in_err-had.ensures.explained)
 
+pub returns-in_err-had-clause-fault : goal.returns-in_err-had-clause-fault
+returns-in_err-had-clause-fault g c =
+    let now = c.loop-box_no.invariant in
+    let p = err_from_is_err_and c.from_residual.result c.from_residual.ensures.1 in
+    rw (p.1, p.2)
+    (script_fault (g.S.Shelf.held c.args.shelf.now) (g.S.Shelf.faults c.args.shelf.now)
+    (g.S.Shelf.faults c.loop-box_no.shelf) (g.S.Shelf.faults c.fetch_script.new.shelf) c.args.plan.now
+    c.args.names.now c.loop-box_no.box_no _ c.loop-box_no.scripts.items c.in_err-had.field-0.0 now.later
+    (omega (arith, c.loop-box_no-test.true)) now.read c.in_err-had.ensures.fault)
+
 pub loop-box_no-preserved : goal.loop-box_no-preserved
 loop-box_no-preserved g c =
     let held = g.S.Shelf.held c.args.shelf.now in
@@ -45,6 +56,7 @@ loop-box_no-preserved g c =
     let given = given_there held other plan c.args.names.now i _ script now.same within c.in_ok-had.ensures.told in
     record {
       same = search rules;
+      later = search rules;
       read = rw more
           (read_more held plan names i c.loop-box_no.scripts.items (get_or names i []) script
           (omega (arith, within, length-map c.args.names.now (λ name. name.now))) refl now.read given);

@@ -11,6 +11,7 @@ invariant-loop-box_no g l =
     let names = map (λ name. name.now) l.names in
     record {
       same : (n : List ℕ) → g.S.Shelf.held l.shelf n ≡ held n;
+      later : (n : List ℕ) → g.S.Shelf.faults l.fn.shelf n ≤ g.S.Shelf.faults l.shelf n;
       read : AreRead held l.plan names l.box_no l.scripts.items;
       own : AreOwn l.plan l.scripts.items;
       counted : length l.texts.items ≡ l.box_no;

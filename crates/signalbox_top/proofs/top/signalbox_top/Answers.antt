@@ -14,18 +14,18 @@ returns-in-Ok-Shown-clause-headline g c = λ done. asked_none _ (bytes_of c.args
 
 pub returns-in-Ok-Command-clause-fault : goal.returns-in-Ok-Command-clause-fault
 returns-in-Ok-Command-clause-fault g c =
-    λ failed. fault_asked _ (bytes_of c.args.words.now) (shown c.in-Ok-Command.command) _ _ _ _ (search rules)
+    λ failed. fault_asked _ _ (bytes_of c.args.words.now) (shown c.in-Ok-Command.command) _ _ _ _ (search rules)
     (c.serve.ensures.fault failed)
 
 pub returns-in-Ok-Shown-clause-fault : goal.returns-in-Ok-Shown-clause-fault
 returns-in-Ok-Shown-clause-fault g c =
-    λ failed. fault_of_none _ (bytes_of c.args.words.now) _ _ _ _ (inl (search rules))
+    λ failed. fault_of_none _ _ (bytes_of c.args.words.now) _ _ _ _ (inl (search rules))
 
 pub returns-in-Ok-Wrong-clause-fault : goal.returns-in-Ok-Wrong-clause-fault
 returns-in-Ok-Wrong-clause-fault g c =
-    λ failed. fault_of_none _ (bytes_of c.args.words.now) _ _ _ _ (search rules)
+    λ failed. fault_of_none _ _ (bytes_of c.args.words.now) _ _ _ _ (search rules)
 
 pub returns-in-Err-clause-fault : goal.returns-in-Err-clause-fault
 returns-in-Err-clause-fault g c =
-    λ failed. fault_without_memory _ (asked (bytes_of c.args.words.now)) _ _ _ _
+    λ failed. fault_without_memory _ _ (asked (bytes_of c.args.words.now)) _ _ _ _
     (c.tell-in-Err.ensures.line (omega arith))
