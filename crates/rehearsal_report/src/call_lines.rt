@@ -6,8 +6,8 @@ ghost use Rattle.rail_text.specs.Lines.{lines_of};
 ghost use Rattle.rehearsal_report.specs.CallLines.{call_line, kept_numbers, place_text};
 
 use rail_text::Lines;
+use script_text::put_number;
 use std::alloc::{AllocError, Global};
-use std::fmt::Write;
 use std::marker::Model;
 
 /// A script by its name, and its text.
@@ -108,7 +108,8 @@ impl<'a> NumberedScript<'a> {
     {
         let line = self.call_line(number);
         out.push_str(self.name)?;
-        write!(out, ":{line}")?;
+        out.push(':')?;
+        put_number(out, u64::from(line))?;
         Ok(())
     }
 }

@@ -11,6 +11,9 @@ use line_plan::Plan;
 use script_text::put_call;
 use std::alloc::{AllocError, Global};
 
+/// The bytes that most columns have room in.
+pub const ROOM: usize = 48;
+
 /// Where a call of a script stands.
 pub fn place_of(
     alloc: Global,
@@ -19,7 +22,7 @@ pub fn place_of(
 ) -> Result<String, AllocError>
     ensures { IfOk result (λ text. string_bytes text ≡ place_text script.now number) }
 {
-    let mut text = String::new(alloc);
+    let mut text = String::with_capacity(alloc, ROOM)?;
     script.put_place(&mut text, number)?;
     Ok(text)
 }
@@ -29,7 +32,7 @@ pub fn call_of(alloc: Global, plan: &Plan, box_no: u32, call: &Call) -> Result<S
     requires { KnowsCall plan.now box_no call.now }
     ensures { IfOk result (λ text. string_bytes text ≡ call_text plan.now call.now) }
 {
-    let mut text = String::new(alloc);
+    let mut text = String::with_capacity(alloc, ROOM)?;
     put_call(&mut text, plan, box_no, call)?;
     Ok(text)
 }

@@ -26,11 +26,21 @@ impl Model for ReportRow {
     ghost invariant = { λ row. IfSome row.sentence (λ sentence. IsSentence (string_bytes sentence)) };
 }
 
-// How wide the columns of a block are.
+/// How wide the columns of a block are.
 #[derive(Clone, Copy)]
-struct Columns {
-    first: usize,
-    second: usize,
+pub struct Columns {
+    pub first: usize,
+    pub second: usize,
+}
+
+impl Columns {
+    /// As wide as the wider of both.
+    pub fn max(self, other: Columns) -> Columns {
+        Columns {
+            first: self.first.max(other.first),
+            second: self.second.max(other.second),
+        }
+    }
 }
 
 impl ReportRow {
@@ -81,8 +91,8 @@ impl ReportRow {
     }
 }
 
-// Puts so many blanks behind a text, and three more.
-fn put_blanks(out: &mut String, many: usize) -> Result<(), AllocError>
+/// Puts so many blanks behind a text, and three more.
+pub fn put_blanks(out: &mut String, many: usize) -> Result<(), AllocError>
     ensures { OnOk result (PutsBlanks (string_bytes out.old) (string_bytes out.new)) }
 {
     for _ in 0..many {

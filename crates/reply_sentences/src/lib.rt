@@ -11,4 +11,4 @@ mod told;
 
 pub use names::position_word;
 pub use sentence::Sentence;
-pub use told::put_sentence;
+pub use told::{put_sentence, sentence_of};

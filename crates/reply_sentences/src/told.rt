@@ -1,6 +1,6 @@
 //! The sentence of a refused call.
 
-ghost use Rattle.std.specs.Prelude.{◌<◌, IsTrue, OnOk, length, string_bytes};
+ghost use Rattle.std.specs.Prelude.{◌<◌, IfOk, IsTrue, OnOk, length, string_bytes};
 ghost use Rattle.reply_sentences.specs.Sentences.{Says};
 ghost use Rattle.script_text.specs.Replies.{is_spelled_reply};
 
@@ -8,6 +8,9 @@ use crate::sentence::Sentence;
 use line_law::{Act, Entry, Reply};
 use line_plan::Plan;
 use std::alloc::{AllocError, Global};
+
+// The bytes that most sentences have room in.
+const ROOM: usize = 96;
 
 // The lever that a call moves, or 0.
 fn lever_of(act: Act) -> u32 {
@@ -30,7 +33,8 @@ fn words_of(reply: &Reply) -> &'static str
         Reply::AlreadyNormal => "the lever is normal already",
         Reply::AlreadyBrought => "the train was brought before",
         Reply::NoTrain => "no train stands at the signal",
-        Reply::AtDanger => "the arm is at danger: its lever has to be pulled before a train passes",
+        Reply::AtDanger =>
+            "the arm is at danger: its lever has to be pulled first (put back and pulled again, if a train has passed)",
         Reply::ArmOff =>
             "the arm is off: a train that goes passes the signal, and overruns nothing",
         Reply::NoPortion => "no portion is left on the plain line",
@@ -90,15 +94,24 @@ fn say_reply(
     }
 }
 
-/// Puts the sentence of a refused call behind a text: what its reply tells, in one line of plain English. The entry is
-/// one that the line can spell. Where memory runs out the text stays.
+/// The sentence of a refused call: what its reply tells, in one line of plain English. The entry is one that the line
+/// can spell.
+pub fn sentence_of(alloc: Global, plan: &Plan, entry: &Entry) -> Result<Sentence, AllocError>
+    requires at { entry.now.box_no < length plan.now.boxes }
+    requires spelled { IsTrue (is_spelled_reply plan.now entry.now.box_no entry.now.reply) }
+    ensures { IfOk result (λ sentence. 0 < length sentence) }
+{
+    let mut sentence = Sentence::with_capacity(alloc, ROOM)?;
+    say_reply(&mut sentence, alloc, plan, entry)?;
+    Ok(sentence)
+}
+
+/// Puts that sentence behind a text. Where memory runs out the text stays.
 pub fn put_sentence(out: &mut String, plan: &Plan, entry: &Entry) -> Result<(), AllocError>
     requires at { entry.now.box_no < length plan.now.boxes }
     requires spelled { IsTrue (is_spelled_reply plan.now entry.now.box_no entry.now.reply) }
     ensures { OnOk result (Says (string_bytes out.old) (string_bytes out.new)) }
 {
-    let alloc = *out.allocator();
-    let mut sentence = Sentence::new(alloc);
-    say_reply(&mut sentence, alloc, plan, entry)?;
+    let sentence = sentence_of(*out.allocator(), plan, entry)?;
     out.push_str(sentence.as_str())
 }
