@@ -12,4 +12,4 @@ mod scan;
 mod shown;
 
 pub use finding::{Race, races};
-pub use laws::places_law;
+pub use laws::exchange_law;
