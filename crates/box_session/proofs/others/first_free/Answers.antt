@@ -1,0 +1,8 @@
+use Rattle.std.proofs.Common.{◌∙◌, sym, arith}
+use Rattle.line_rehearsal.proofs.Free.{none_free}
+use Rattle.box_session.proofs.others.first_free.Goals as goal
+
+pub returns : goal.returns
+returns c =
+    sym (none_free c.args.plan.now c.args.work.now.line.line c.args.work.now.roster c.loop-box_no.box_no (omega arith))
+    ∙ c.loop-box_no.invariant

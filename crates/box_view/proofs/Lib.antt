@@ -1,0 +1,2 @@
+pub mod Levers
+pub mod Lines

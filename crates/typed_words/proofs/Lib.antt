@@ -1,0 +1,5 @@
+pub mod Calls
+pub mod FullLines
+pub mod Spaces
+pub mod Understood
+pub mod WrittenOut
