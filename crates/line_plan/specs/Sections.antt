@@ -1,10 +1,10 @@
 -- The sections of a line: each from the starter of its rear box to the berth of its box in advance.
-use Rattle.std.specs.Prelude.{ℕ, ◌+◌, ◌-◌, zero, suc, List, [], ◌∷◌, Option, None, Some, length, IsTrue}
+use Rattle.std.specs.Prelude.{ℕ, ◌+◌, ◌-◌, zero, suc, List, [], ◌∷◌, ◌++◌, Option, None, Some, length, IsTrue}
 use Rattle.block_words.specs.declared.Way.{Way}
 use Rattle.block_words.specs.declared.Way.TheVariants.{Up, Down}
 use Rattle.line_plan.specs.Frames.{starter_of, berth_of}
-use Rattle.line_plan.specs.Plans.{PlanFields, box_at}
-use Rattle.line_plan.specs.Ways.{leaves}
+use Rattle.line_plan.specs.Plans.{PlanFields, box_at, box_name}
+use Rattle.line_plan.specs.Ways.{leaves, way_word}
 use Rattle.line_plan.specs.declared.berth.Berth.{Berth}
 use Rattle.line_plan.specs.declared.section.Section.{Section}
 use Rattle.line_plan.specs.declared.signal.Signal.{Signal}
@@ -21,6 +21,11 @@ next_box b Down = b + 1
 -- the box in advance of a section
 abbrev pub advance_of : Section → ℕ
 advance_of section = next_box section.rear section.way
+
+-- a section as it is named: its way, its rear box and its box in advance
+abbrev pub section_name : PlanFields → Section → List ℕ
+section_name plan section =
+    way_word section.way ++ 32 ∷ box_name plan section.rear ++ 32 ∷ box_name plan (advance_of section)
 
 -- the starter of a section, at its rear box
 abbrev pub section_starter : PlanFields → Section → Option Signal

@@ -1,13 +1,16 @@
 //! The sections of a line.
 
-ghost use Rattle.std.specs.Prelude.{◌≡◌, option_map};
+ghost use Rattle.std.specs.Prelude.{◌≡◌, ◌++◌, OnOk, option_map, string_bytes};
 ghost use Rattle.line_plan.specs.Plans.{box_at};
-ghost use Rattle.line_plan.specs.Sections.{IsSection, advance_of, limit_at, limit_of, section_berth, section_starter};
+ghost use Rattle.line_plan.specs.Sections.{IsSection, advance_of, limit_at, limit_of, section_berth, section_name};
+ghost use Rattle.line_plan.specs.Sections.{section_starter};
 
 use crate::berth::Berth;
 use crate::plan::Plan;
 use crate::signal::Signal;
+use crate::ways::way_word;
 use block_words::Way;
+use std::alloc::AllocError;
 
 /// A section: from the starter of its rear box to the berth of its box in advance.
 #[derive(Clone, Copy, Debug, PartialEq, Eq)]
@@ -66,5 +69,17 @@ impl Section {
         ensures { result ≡ limit_of plan.now self }
     {
         limit_at(self.berth(plan))
+    }
+
+    /// Puts the section as it is named: its way, its rear box and its box in advance.
+    pub fn put_name(self, out: &mut String, plan: &Plan) -> Result<(), AllocError>
+        requires { IsSection plan.now self }
+        ensures { OnOk result (string_bytes out.new ≡ string_bytes out.old ++ section_name plan.now self) }
+    {
+        out.push_str(way_word(self.way))?;
+        out.push_str(" ")?;
+        out.push_str(plan.box_name(self.rear))?;
+        out.push_str(" ")?;
+        out.push_str(plan.box_name(self.advance(plan)))
     }
 }
