@@ -1,13 +1,12 @@
 -- A session as far as it has come, by one entry after another.
 use Rattle.std.proofs.Common.{◌≡◌, ◌≢◌, ℕ, zero, suc, ◌+◌, ◌<◌, ◌≤◌, Bool, true, false, cond, eqb, ◌==◌, List, [], ◌∷◌}
 use Rattle.std.proofs.Common.{◌++◌}
-use Rattle.std.proofs.Common.{Some, None, length, map, drop, set, slice_index_or, refl, sym, ap, ◌∙◌}
+use Rattle.std.proofs.Common.{Some, None, length, map, drop, set, refl, sym, ap, ◌∙◌}
 use Rattle.std.proofs.Common.{arith, append_assoc}
 use Rattle.std.proofs.Common.{inl, inr}
 use Rattle.std.proofs.lemmas.Bool.Decides.{eqb_tells}
 use Rattle.std.proofs.lemmas.List.{append-nil, get_or-set_same, get_or-set_other, length_push, map-append, set-get_or}
 use Rattle.std.proofs.lemmas.List.Elements.{filter-append}
-use Rattle.line_plan.specs.Frames.{BoxFields}
 use Rattle.line_plan.specs.Plans.{PlanFields}
 use Rattle.line_law.specs.declared.call.Call.{Call}
 use Rattle.line_law.specs.declared.call.Entry.{Entry}
@@ -15,10 +14,11 @@ use Rattle.line_law.specs.History.{IsLegal, after_entry, calls_of, entry_of, par
 use Rattle.line_law.specs.Known.{KnowsCall}
 use Rattle.line_law.specs.Law.{MayCall, step}
 use Rattle.line_law.specs.Serial.{AreLeft, AreScripts, calls_left, count_left, first_free}
-use Rattle.line_law.specs.States.{LineState, box_at, no_state, opening_box, opening_state}
+use Rattle.line_law.specs.States.{LineState, box_at, opening_state}
 use Rattle.line_law.proofs.Histories.{history_grows, history_states, state_grows}
 use Rattle.line_law.proofs.Left.{count_next, has_box, left_next, may_call, moment_here, other_box}
 use Rattle.line_law.proofs.SerialLaws.{left_opens}
+use Rattle.line_law.proofs.Turns.{starts_at}
 use Rattle.line_rehearsal.specs.Rehearsals.{left_after, left_then}
 use Rattle.line_rehearsal.proofs.Free.{all_stopped}
 use Rattle.box_session.specs.Sessions.{AreInTurn, IsTurn, last_moment}
@@ -187,16 +187,6 @@ his_more plan scripts b calls es call h none within known later =
     }
 
 -- ---- as it begins
-
-opening_moment : (n : ℕ) (boxes : List BoxFields) (b : ℕ)
-    → (slice_index_or (map (λ box_plan. opening_box n box_plan) boxes) b no_state).moment ≡ 0
-opening_moment n [] b = refl
-opening_moment n (box_plan ∷ boxes) zero = refl
-opening_moment n (box_plan ∷ boxes) (suc b) = opening_moment n boxes b
-
-starts_at : (plan : PlanFields) (b : ℕ) → (box_at (opening_state plan) b).moment ≡ 0
-unfolding opening_state
-starts_at plan b = opening_moment (length plan.trains) plan.boxes b
 
 pub so_far_begins : (plan : PlanFields) (scripts : List (List Call)) (b : ℕ) → AreScripts plan scripts
     → calls_left scripts b ≡ [] → IsSoFar plan scripts b [] []

@@ -53,7 +53,8 @@ opening_moment n [] b = refl
 opening_moment n (box_plan ∷ boxes) zero = refl
 opening_moment n (box_plan ∷ boxes) (suc b) = opening_moment n boxes b
 
-starts_at : (plan : PlanFields) (b : ℕ) → (box_at (opening_state plan) b).moment ≡ 0
+-- every box of a line that opens has its last moment at 0
+pub starts_at : (plan : PlanFields) (b : ℕ) → (box_at (opening_state plan) b).moment ≡ 0
 unfolding opening_state
 starts_at plan b = opening_moment _ plan.boxes b
 

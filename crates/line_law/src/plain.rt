@@ -183,6 +183,20 @@ impl Plain {
         }
     }
 
+    /// The boxes as they stand, in their order.
+    pub fn boxes(&self) -> &[BoxState]
+        ensures { result.now ≡ self.now.line.boxes }
+    {
+        &self.boxes
+    }
+
+    /// What neighbours share, pair by pair.
+    pub fn pairs(&self) -> &[PairState]
+        ensures { result.now ≡ self.now.line.pairs }
+    {
+        &self.pairs
+    }
+
     /// How many calls were made since the line opened.
     pub fn calls(&self) -> u64
         ensures { result ≡ self.now.calls }
