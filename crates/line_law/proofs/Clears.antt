@@ -16,6 +16,7 @@ room_by None (Permissive out) few fits = absurd fits
 room_by (Some n) (Absolute state) few fits = absurd fits
 room_by (Some n) (Permissive out) few fits = omega (arith, few, fits)
 
+-- where a line's control fits its berth, a permissive line has room for one train more to be out
 pub room_out : (levers places : ℕ) (berth : Berth) (control : Control) → BerthFits levers places berth
     → IsControlOf (Some berth) control → HasRoomOut control
 room_out levers places berth control fits is = room_by berth.permissive control fits.few is

@@ -15,21 +15,25 @@ use Rattle.line_law.specs.History.{state_after, state_of}
 
 -- ---- two histories, one after the other
 
+-- two parts of a history that are legal in turn are legal together
 pub legal_both : (plan : PlanFields) (state : LineState) (es more : List Entry) → IsLegalFrom plan state es
     → IsLegalFrom plan (state_after plan state es) more → IsLegalFrom plan state (es ++ more)
 legal_both plan state [] more h k = k
 legal_both plan state (e ∷ es) more h k = (h.0, h.1, legal_both plan (after_entry plan state e) es more h.2 k)
 
+-- the first part of a legal history is legal
 pub legal_first : (plan : PlanFields) (state : LineState) (es more : List Entry) → IsLegalFrom plan state (es ++ more)
     → IsLegalFrom plan state es
 legal_first plan state [] more h = tt
 legal_first plan state (e ∷ es) more h = (h.0, h.1, legal_first plan (after_entry plan state e) es more h.2)
 
+-- the later part of a legal history is legal from where the first part ends
 pub legal_then : (plan : PlanFields) (state : LineState) (es more : List Entry) → IsLegalFrom plan state (es ++ more)
     → IsLegalFrom plan (state_after plan state es) more
 legal_then plan state [] more h = h
 legal_then plan state (e ∷ es) more h = legal_then plan (after_entry plan state e) es more h.2
 
+-- two parts of a history lead where the second leads from the end of the first
 pub state_both : (plan : PlanFields) (state : LineState) (es more : List Entry)
     → state_after plan state (es ++ more) ≡ state_after plan (state_after plan state es) more
 state_both plan state [] more = refl
@@ -64,24 +68,29 @@ same_rest plan state (d ∷ es) (f ∷ others) h k e =
 
 -- ---- the laws
 
+-- a legal history grows by any call that may be made
 pub history_grows : (plan : PlanFields) (es : List Entry) (b : ℕ) (call : Call) → IsLegal plan es
     → MayCall plan (state_of plan es) b call → IsLegal plan (es ++ entry_of plan (state_of plan es) b call ∷ [])
 history_grows plan es b call h may =
     legal_both plan (opening_state plan) es (entry_of plan (state_of plan es) b call ∷ []) h (may, refl, tt)
 
+-- one entry more leads one call further
 pub state_grows : (plan : PlanFields) (es : List Entry) (e : Entry)
     → state_of plan (es ++ e ∷ []) ≡ (step plan (state_of plan es) e.box_no e.call).after
 state_grows plan es e = state_both plan (opening_state plan) es (e ∷ [])
 
+-- each beginning of a legal history is legal
 pub prefix_legal : (plan : PlanFields) (es more : List Entry) → IsLegal plan (es ++ more) → IsLegal plan es
 prefix_legal plan es more h = legal_first plan (opening_state plan) es more h
 
+-- each entry of a legal history is a call that might be made there, with the reply of the law
 pub entry_determined : (plan : PlanFields) (es more : List Entry) (e : Entry) → IsLegal plan (es ++ e ∷ more)
     → MayCall plan (state_of plan es) e.box_no e.call × (e ≡ entry_of plan (state_of plan es) e.box_no e.call)
 entry_determined plan es more e h =
     let rest = legal_then plan (opening_state plan) es (e ∷ more) h in
     (rest.0, same_entry e.box_no e.box_no e.call e.call e.reply _ refl refl rest.1)
 
+-- legal histories of the same calls in the same order are one
 pub history_determined : (plan : PlanFields) (es others : List Entry) → IsLegal plan es → IsLegal plan others
     → map (λ e. asked e) es ≡ map (λ e. asked e) others → es ≡ others
 history_determined plan es others h k e = same_rest plan (opening_state plan) es others h k e
@@ -132,18 +141,22 @@ legal_from_run plan line n (e ∷ es) h =
       subst (λ (k : ℕ). IsRun plan (counted after (n + 1)) es (counted (state_after plan after es) k)) same rest,
     )
 
+-- what a line in one hand has done is a legal history
 pub run_legal : (plan : PlanFields) (es : List Entry) (new : PlainState) → IsRun plan (opened plan) es new
     → IsLegal plan es
 run_legal plan es new h = run_from_legal plan (opened plan) es new h
 
+-- a line in one hand stands where its history leads
 pub run_state : (plan : PlanFields) (es : List Entry) (new : PlainState) → IsRun plan (opened plan) es new
     → state_of plan es ≡ new.line
 run_state plan es new h = run_from_state plan (opened plan) es new h
 
+-- a line in one hand has made as many calls as its history has entries
 pub run_calls : (plan : PlanFields) (es : List Entry) (new : PlainState) → IsRun plan (opened plan) es new
     → new.calls ≡ length es
 run_calls plan es new h = let n = run_from_calls plan (opened plan) es new h in omega arith
 
+-- a line in one hand can do every legal history
 pub legal_run : (plan : PlanFields) (es : List Entry) → IsLegal plan es
     → IsRun plan (opened plan) es (record { line = state_of plan es; calls = length es })
 legal_run plan es h =
@@ -153,11 +166,13 @@ legal_run plan es h =
 
 -- ---- a state for each box and each two neighbours
 
+-- a history keeps the number of boxes and of pairs
 pub states_after : (plan : PlanFields) (state : LineState) (es : List Entry) → IsStateOf plan state
     → IsStateOf plan (state_after plan state es)
 states_after plan state [] h = h
 states_after plan state (e ∷ es) h =
     states_after plan (after_entry plan state e) es (shape_stays plan state e.box_no e.call h)
 
+-- a history leads to a state with the boxes and pairs of its plan
 pub history_states : (plan : PlanFields) (es : List Entry) → IsStateOf plan (state_of plan es)
 history_states plan es = states_after plan (opening_state plan) es (opening_shape plan)

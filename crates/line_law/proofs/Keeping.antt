@@ -46,11 +46,6 @@ train_place plan b train is one e =
 
 act_fits : (plan : PlanFields) (b : ℕ) (act : Act) → IsPlan plan → b < length plan.boxes → IsTrue (knows_act plan b act)
     → FitsHere plan (box_plan_of plan b) act
-act_fits plan b (acts.Ring side code) is within known = tt
-act_fits plan b (acts.Hear side) is within known = tt
-act_fits plan b (acts.AwaitBell side code) is within known = tt
-act_fits plan b (acts.Turn way position) is within known = tt
-act_fits plan b (acts.AwaitBlock way position) is within known = tt
 act_fits plan b (acts.Pull lever) is within known =
     known_lever (length plan.boxes) b (box_plan_of plan b) lever (is.each b within) known
 act_fits plan b (acts.Put lever) is within known =
@@ -58,15 +53,9 @@ act_fits plan b (acts.Put lever) is within known =
 act_fits plan b (acts.Bring train) is within known =
     let parts = both (is_train plan.trains train) ((train_at plan.trains train).box_no == b) known in
     (parts.0, train_place plan b train is parts.0 (eqb-true _ _ parts.1))
-act_fits plan b (acts.Pass lever) is within known = tt
-act_fits plan b (acts.Overrun lever) is within known = tt
-act_fits plan b (acts.AwaitTrain way) is within known = tt
-act_fits plan b (acts.Berth way) is within known = tt
-act_fits plan b (acts.BerthPart way) is within known = tt
-act_fits plan b (acts.ClearPortion way) is within known = tt
-act_fits plan b (acts.Wind way) is within known = tt
-act_fits plan b (acts.Release way) is within known = tt
+act_fits plan b act is within known = tt
 
+-- what a known call names is in its box
 pub known_fits : (plan : PlanFields) (b : ℕ) (call : Call) → IsPlan plan → KnowsCall plan b call
     → FitsHere plan (box_plan_of plan b) call.act
 known_fits plan b call is known = let parts =
@@ -159,6 +148,7 @@ pair_set P pairs p new other within here there = elim (eqb_tells other p) [
   | inr differ ↦ subst P (sym (get_or-set_other pairs p other new opening_pair differ.1)) there
 ]
 
+-- a call keeps the number of boxes and of pairs
 pub shape_stays : (plan : PlanFields) (state : LineState) (b : ℕ) (call : Call) → IsStateOf plan state
     → IsStateOf plan (step plan state b call).after
 unfolding step

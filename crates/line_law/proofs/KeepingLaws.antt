@@ -20,6 +20,7 @@ keeps_from plan state n (e ∷ es) is line legal =
     subst (λ (k : ℕ). IsLineOf plan (record { line = state_after plan (after_entry plan state e) es; calls = k })) same
     (keeps_from plan (after_entry plan state e) (n + 1) es is next legal.2)
 
+-- every legal history leads to a line of its plan
 pub history_keeps : (plan : PlanFields) (es : List Entry) → IsPlan plan → IsLegal plan es
     → IsLineOf plan (record { line = state_of plan es; calls = length es })
 history_keeps plan es is h =

@@ -40,6 +40,7 @@ may_call plan state left b call calls h e =
     let all = subst (λ (cs : List Call). AreCalls plan b (box_at state b).moment cs) e (h.calls b) in
     record { known = all.0; later = all.1 }
 
+-- a box that has a call left is one of the line
 pub has_box : (left : List (List Call)) (b : ℕ) (call : Call) (calls : List Call) → calls_left left b ≡ call ∷ calls
     → b < length left
 has_box left b call calls e = elim (cases_lt b (length left)) [
@@ -145,11 +146,13 @@ moment_here plan state b call lt =
     (pair_at state (pair_of plan b call)) (way_of (link_of (box_plan_of plan b) call.act)) call.act _
     (outcome_of plan (box_plan_of plan b) call.act (at_moment (box_at state b) call.moment))
 
+-- a call leaves every other box as it was
 pub other_box : (plan : PlanFields) (state : LineState) (b c : ℕ) (call : Call) → c ≢ b
     → box_at (step plan state b call).after c ≡ box_at state c
 unfolding step
 other_box plan state b c call differ = get_or-set_other state.boxes b c _ _ differ
 
+-- a call keeps the number of boxes
 pub same_boxes : (plan : PlanFields) (state : LineState) (b : ℕ) (call : Call)
     → length (step plan state b call).after.boxes ≡ length state.boxes
 unfolding step
@@ -157,6 +160,7 @@ same_boxes plan state b call = length-set state.boxes b _
 
 -- ---- what a call leaves to be made
 
+-- what is left after a call can be called in turn
 pub left_next : (plan : PlanFields) (state : LineState) (left : List (List Call)) (b : ℕ) (call : Call)
     (calls : List Call)
     → length state.boxes ≡ length plan.boxes → AreLeft plan state left → calls_left left b ≡ call ∷ calls
@@ -178,6 +182,7 @@ left_next plan state left b call calls boxes h e =
       ];
     }
 
+-- a call that is made leaves one call fewer
 pub count_next : (left : List (List Call)) (b : ℕ) (call : Call) (calls : List Call) → calls_left left b ≡ call ∷ calls
     → count_left left ≡ count_left (slice_set left b calls) + 1
 count_next left b call calls e =

@@ -21,16 +21,19 @@ pub record HasPlaces (plan : PlanFields) (b : ℕ) (call : Call) (state : LineSt
   pub box : b < length state.boxes
   pub pair : pair_of plan b call < length state.pairs
 
+-- a known call finds its box and its pair in the state
 pub has_places : (plan : PlanFields) (state : LineState) (b : ℕ) (call : Call) → IsPlan plan → IsStateOf plan state
     → KnowsCall plan b call → HasPlaces plan b call state
 has_places plan state b call is h known =
     let within = call_within plan b call is known in
     record { box = omega (arith, h.boxes, within.box); pair = omega (arith, h.pairs, within.pair) }
 
+-- the box of a known call is one of the line in one hand
 pub box_fits : (plan : PlanFields) (plain : PlainState) (b : ℕ) (call : Call) → IsLineOf plan plain
     → KnowsCall plan b call → b < length plain.line.boxes
 box_fits plan plain b call line known = omega (arith, line.shape.boxes, known_box plan b call known)
 
+-- the pair of a known call is one of the line in one hand
 pub pair_fits : (plan : PlanFields) (plain : PlainState) (b : ℕ) (call : Call) → IsPlan plan → IsLineOf plan plain
     → KnowsCall plan b call → pair_of plan b call < length plain.line.pairs
 pair_fits plan plain b call is line known = omega (arith, line.shape.pairs, (call_within plan b call is known).pair)

@@ -9,10 +9,12 @@ use Rattle.line_law.specs.Arrivals.{first_train}
 use Rattle.line_law.specs.Lines.{AreNumbered, HasRoom, IsFirst}
 use Rattle.line_law.specs.Trains.{holds}
 
+-- a plain line holds the trains that were sent and not yet taken
 pub length_numbered : (taken sent : ℕ) (line : List Passage) → AreNumbered taken sent line → taken + length line ≡ sent
 length_numbered taken sent [] n = omega (arith, n)
 length_numbered taken sent (p ∷ line) n = omega (arith, length_numbered (taken + 1) sent line n.1)
 
+-- a train that enters has the next number
 pub numbered_push : (taken sent train : ℕ) (line : List Passage) → AreNumbered taken sent line
     → AreNumbered taken (sent + 1) (line ++ record { number = sent + 1; train = train } ∷ [])
 numbered_push taken sent train [] n = (ap (λ k. k + 1) (sym n), ap (λ k. k + 1) n)
@@ -62,6 +64,7 @@ pub not_full : (taken sent : ℕ) (line : List Passage) → AreNumbered taken se
     → holds line (sent + 1) ≡ false → length line < 4
 not_full taken sent line n four e = few_by taken sent line n e (less_or_four (length line) four)
 
+-- a plain line with fewer than four trains has room for one more
 pub push_four : (line : List Passage) (p : Passage) → length line < 4 → length (line ++ p ∷ []) ≤ 4
 push_four line p few = simp length-append (omega (arith, few))
 
@@ -78,6 +81,7 @@ pub record Heads (j train taken sent : ℕ) (line : List Passage) : Type 0 where
   pub few : length (drop 1 line) ≤ length line
   pub first : IsFirst (Some train) line
 
+-- the train that is taken next is the first on the plain line
 pub heads : (j train taken sent : ℕ) (line : List Passage) → first_train j line ≡ Some train
     → AreNumbered taken sent line → Heads j train taken sent line
 heads j train taken sent [] e n = absurd cc

@@ -119,10 +119,12 @@ pub opening_at : (plan : PlanFields) (b : ℕ) → b < length plan.boxes
 unfolding opening_state
 opening_at plan b within = get_or-map (λ bp. opening_box (length plan.trains) bp) plan.boxes b no_box no_state within
 
+-- each pair of a line that opens is silent, at Normal and empty
 pub opening_pair_at : (plan : PlanFields) (p : ℕ) → pair_at (opening_state plan) p ≡ opening_pair
 unfolding opening_state
 opening_pair_at plan p = all_one (length plan.boxes - 1) p opening_pair
 
+-- a line opens with the boxes and pairs of its plan
 pub opening_shape : (plan : PlanFields) → IsStateOf plan (opening_state plan)
 unfolding opening_state
 opening_shape plan =

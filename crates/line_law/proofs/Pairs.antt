@@ -31,6 +31,7 @@ use Rattle.line_law.proofs.Boxes.{stands_is, ways_with}
 abbrev IsOn : List TrainPlan → Passage → Type 0
 IsOn trains p = IsTrue (is_train trains p.train)
 
+-- what a pair has after some calls it has after more
 pub more : (trains : List TrainPlan) (n : ℕ) (pair : PairState) → IsPairAfter trains n pair
     → IsPairAfter trains (n + 1) pair
 more trains n pair h =

@@ -68,6 +68,7 @@ lever_fits boxes b box_plan n lever is e =
     let same : lever.number ≡ n = eqb-true lever.number n (found_test (λ l. l.number == n) box_plan.levers lever e) in
     (omega (arith, within.0, same), omega (arith, within.1, same))
 
+-- a lever that the frame has is numbered within it
 pub known_lever : (boxes b : ℕ) (box_plan : BoxFields) (n : ℕ) → IsBox boxes b box_plan
     → IsTrue (is_some (lever_of box_plan n)) → IsLever (frame_size box_plan.levers) n
 known_lever boxes b box_plan n is h = go (lever_of box_plan n) refl h where
@@ -146,6 +147,7 @@ over_fit P [] back h = All-nil P
 over_fit P (x ∷ xs) back h =
     All-cons P x xs (All-head P x (xs ++ back) h) (over_fit P xs back (All-tail P x (xs ++ back) h))
 
+-- a signal's lever and places are of its box
 pub signal_fits : (boxes b : ℕ) (box_plan : BoxFields) (lever : ℕ) (signal : Signal) → IsBox boxes b box_plan
     → signal_of box_plan lever ≡ Some signal → SignalFits (frame_size box_plan.levers) (length box_plan.places) signal
 signal_fits boxes b box_plan lever signal is e =
@@ -212,6 +214,7 @@ berth_fits boxes b box_plan way berth is e =
 
 -- ---- a box
 
+-- a box of a plan is sound
 pub sound : (boxes b : ℕ) (box_plan : BoxFields) → IsBox boxes b box_plan → IsSound box_plan
 sound boxes b box_plan is = record {
   rows = rows_fit boxes b box_plan box_plan.rows is is.rows;
@@ -220,5 +223,6 @@ sound boxes b box_plan is = record {
   berth = λ way berth e. berth_fits boxes b box_plan way berth is e;
 }
 
+-- each box of a plan is sound
 pub plan_sound : (plan : PlanFields) (b : ℕ) → IsPlan plan → b < length plan.boxes → IsSound (box_at plan.boxes b)
 plan_sound plan b is within = sound (length plan.boxes) b (box_at plan.boxes b) (is.each b within)

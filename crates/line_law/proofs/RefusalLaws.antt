@@ -187,62 +187,47 @@ pull_leaves false bp act here after pair v w to is =
 pair_leaves : (plan : PlanFields) (bp : BoxFields) (here : BoxState) (pair : PairState) (v : Way) (act : Act)
     (d : Decision) → Outcome plan bp here act d → Leaves bp act here pair v (on_pair v d pair)
 pair_leaves plan bp here pair v act d (Refused a reply refused) =
-    no_instrument bp a here pair v _ (not_held reply refused, λ r. (refl, refl))
+    no_instrument bp _ here pair v _ (not_held reply refused, λ r. (refl, refl))
 pair_leaves plan bp here pair v act d (Rings side code) =
-    no_instrument bp (acts.Ring side code) here pair v _
+    no_instrument bp _ here pair v _
     (bell_in here pair v (ring here side code)
     (rung_stays here side code (of_way pair.bells v).count (of_way pair.bells v).unheard))
 pair_leaves plan bp here pair v act d (Hears side) =
-    no_instrument bp (acts.Hear side) here pair v _
+    no_instrument bp _ here pair v _
     (bell_in here pair v (hear here) (heard_stays here (of_way pair.bells v).count (of_way pair.bells v).unheard))
 pair_leaves plan bp here pair v act d (AwaitsBell side code) =
-    no_instrument bp (acts.AwaitBell side code) here pair v _
+    no_instrument bp _ here pair v _
     (bell_in here pair v (await_bell here code)
     (awaited_stays here code (of_way pair.bells v).count (of_way pair.bells v).unheard))
-pair_leaves plan bp here pair v act d (Turns way position berth e free) =
-    no_instrument bp (acts.Turn way position) here pair v _ (refl, λ r. absurd cc)
 pair_leaves plan bp here pair v act d (AwaitsBlock way position) =
-    no_instrument bp (acts.AwaitBlock way position) here pair v _
+    no_instrument bp _ here pair v _
     (block_in here pair v (await_block here position) (block_stays here position (of_way pair.blocks v)))
-pair_leaves plan bp here pair v act d (Pulls lever e free) =
-    no_instrument bp (acts.Pull lever) here pair v _ (refl, λ r. absurd cc)
 pair_leaves plan bp here pair v act d (PullsStarter lever way e free) =
-    pull_leaves (is_unspent_clear (of_way pair.blocks v)) bp (acts.Pull lever) here
+    pull_leaves (is_unspent_clear (of_way pair.blocks v)) bp _ here
     (pulled here lever (signal_of bp lever)) pair v way (ap starter_link e) refl
-pair_leaves plan bp here pair v act d (Puts lever free) =
-    no_instrument bp (acts.Put lever) here pair v _ (refl, λ r. absurd cc)
-pair_leaves plan bp here pair v act d (Brings train free) =
-    no_instrument bp (acts.Bring train) here pair v _ (refl, λ r. absurd cc)
-pair_leaves plan bp here pair v act d (GoesTo a lever signal train place e to there moves) =
-    no_instrument bp a here pair v _ (refl, λ r. absurd cc)
-pair_leaves plan bp here pair v act d (GoesAway a lever signal train e to there moves) =
-    no_instrument bp a here pair v _ (refl, λ r. absurd cc)
 pair_leaves plan bp here pair v act d (Enters a lever signal train way e to there moves) =
-    no_instrument bp a here pair v _
+    no_instrument bp _ here pair v _
     (line_in here pair v (enter here (left_by bp here signal) way train)
     (enter_stays here (left_by bp here signal) way train (of_way pair.lines v)))
 pair_leaves plan bp here pair v act d (AwaitsTrain way) =
-    no_instrument bp (acts.AwaitTrain way) here pair v _
+    no_instrument bp _ here pair v _
     (line_in here pair v (await_train here way)
     (awaits_stays (next_train here way (of_way pair.lines v)) here (next_number here way) (of_way pair.lines v)))
 pair_leaves plan bp here pair v act d (Berths way berth e free) =
-    no_instrument bp (acts.Berth way) here pair v _
+    no_instrument bp _ here pair v _
     (line_in here pair v (berthed here way berth.place)
     (berthed_stays (next_train here way (of_way pair.lines v)) here way berth.place
     (next_number here way) (of_way pair.lines v)))
 pair_leaves plan bp here pair v act d (Parts way berth e free) =
-    no_instrument bp (acts.BerthPart way) here pair v _
+    no_instrument bp _ here pair v _
     (line_in here pair v (parted here way berth.place)
     (parted_stays (next_train here way (of_way pair.lines v)) here way berth.place
     (next_number here way) (of_way pair.lines v)))
 pair_leaves plan bp here pair v act d (Clears way free) =
-    no_instrument bp (acts.ClearPortion way) here pair v _
+    no_instrument bp _ here pair v _
     (line_in here pair v (cleared here way)
     (cleared_stays (next_train here way (of_way pair.lines v)) here way (next_number here way) (of_way pair.lines v)))
-pair_leaves plan bp here pair v act d (Winds way free) =
-    no_instrument bp (acts.Wind way) here pair v _ (refl, λ r. absurd cc)
-pair_leaves plan bp here pair v act d (Releases way free) =
-    no_instrument bp (acts.Release way) here pair v _ (refl, λ r. absurd cc)
+pair_leaves plan bp here pair v act d out = no_instrument bp act here pair v _ (refl, λ r. absurd cc)
 
 -- ---- the line
 
@@ -258,6 +243,7 @@ placed state b p here next pair e f =
     ∙ ap (λ (x : PairState). line_with (slice_set state.boxes b next) (slice_set state.pairs p x)) f
     ∙ ap (λ (xs : List PairState). line_with (slice_set state.boxes b next) xs) (set-get_or state.pairs p opening_pair)
 
+-- a refused call that no instrument holds leaves all but the last moment of its box
 pub refusal_leaves : (plan : PlanFields) (state : LineState) (b : ℕ) (call : Call)
     → IsTrue (is_refused (step plan state b call).reply)
     → is_held_by_instrument (step plan state b call).reply ≡ false
@@ -283,6 +269,7 @@ spent_at state b p link here next pair way to at e f =
     ∙ ap (λ (l : Link). line_with (slice_set state.boxes b next)
     (slice_set state.pairs (pair_no b l) (pair_spent (pair_at state (pair_no b l)) (way_of l)))) to
 
+-- a pull that an instrument holds leaves that instrument spent
 pub held_spends : (plan : PlanFields) (state : LineState) (b : ℕ) (call : Call) (way : Way) (turns : ℕ)
     (shown : Position) (spent : Bool) → (step plan state b call).reply ≡ replies.HeldByInstrument way shown spent turns
     → (step plan state b call).after ≡ with_spent (with_moment state b call) b way

@@ -1,6 +1,6 @@
 -- What a box refuses a call with is a refusal.
 use Rattle.std.proofs.Common.{ℕ, Bool, true, false, cond, IsTrue, Option, Some, None, IfSome, refl}
-use Rattle.std.specs.Prelude.{◌==◌, ◌∷◌, nat_lt}
+use Rattle.std.specs.Prelude.{◌==◌, ◌∷◌, nat_lt, not}
 use Rattle.block_words.specs.declared.Position.{Position}
 use Rattle.block_words.specs.declared.Position.TheVariants as shows
 use Rattle.block_words.specs.declared.Way.{Way}
@@ -28,11 +28,12 @@ use Rattle.line_law.specs.Instruments.{clear_refusal, clearing_refusal, control_
 use Rattle.line_law.specs.Instruments.{position_refusal, same_position, turn_refusal, welwyn_refusal}
 use Rattle.line_law.specs.LeverEnds.{first_reversed, is_off, is_pulled}
 use Rattle.line_law.specs.Levers.{lock_refusal, pull_refusal, put_refusal, row_refusal, spare_refusal, track_refusal}
-use Rattle.line_law.specs.Refusals.{is_refused, is_refused_here}
+use Rattle.line_law.specs.Refusals.{is_refused, is_refused_here, is_refused_there}
 use Rattle.line_law.specs.Tracks.{first_standing, train_on}
 use Rattle.line_law.specs.Trains.{bring_refusal, danger_refusal, end_of, off_refusal, overrun_refusal, pass_refusal}
 use Rattle.line_law.specs.Trains.{place_refusal, standing_refusal, was_brought, way_refusal}
 use Rattle.line_law.specs.Ways.{of_way}
+use Rattle.line_law.proofs.Found.{both}
 
 -- a reason for a refusal, if there is one, is a refusal by the box alone
 abbrev pub Refuses : Option Reply → Type 0
@@ -40,23 +41,7 @@ Refuses r = IfSome r (λ reply. IsTrue (is_refused_here reply))
 
 -- a refusal by the box alone is a refusal
 pub here_refused : (reply : Reply) → IsTrue (is_refused_here reply) → IsTrue (is_refused reply)
-here_refused (replies.Rung k) h = h
-here_refused (replies.Heard code k) h = h
-here_refused (replies.Turned v) h = h
-here_refused (replies.Seen v) h = h
-here_refused replies.Pulled h = h
-here_refused (replies.PulledUnder v) h = h
-here_refused replies.Put h = h
-here_refused replies.Brought h = h
-here_refused (replies.Passed train) h = h
-here_refused (replies.Entered train k) h = h
-here_refused (replies.Approaching train j) h = h
-here_refused (replies.Berthed train j) h = h
-here_refused (replies.PartBerthed train j) h = h
-here_refused (replies.Cleared train j) h = h
-here_refused (replies.Winding ready_at) h = h
-here_refused replies.Released h = h
-here_refused reply h = refl
+here_refused reply h = (both (is_refused reply) (not (is_refused_there reply)) h).0
 
 later_refuses : (r s : Option Reply) → Refuses r → Refuses s → Refuses (or_later r s)
 later_refuses (Some reply) s h k = h
@@ -70,8 +55,7 @@ either_refuses false r s h k = k
 
 from_refuses : (position : Position) → Refuses (from_refusal position)
 from_refuses shows.Normal = tt
-from_refuses shows.LineClear = refl
-from_refuses shows.TrainOnLine = refl
+from_refuses position = refl
 
 home_refuses : (lever : Option ℕ) → Refuses (home_refusal lever)
 home_refuses None = tt
@@ -83,8 +67,7 @@ clearing_refuses (Some there) = refl
 
 welwyn_refuses : (state : WelwynState) → Refuses (welwyn_refusal state)
 welwyn_refuses welwyn.Ready = tt
-welwyn_refuses welwyn.Given = refl
-welwyn_refuses welwyn.Berthed = refl
+welwyn_refuses state = refl
 
 control_refuses : (control : Control) (here : BoxState) (berth : Berth) → Refuses (control_refusal control here berth)
 control_refuses (Absolute state) here berth =
@@ -101,10 +84,10 @@ clear_refuses here berth line =
 
 position_refuses : (position : Position) (here : BoxState) (berth : Berth) (line : Incoming)
     → Refuses (position_refusal position here berth line)
-position_refuses shows.Normal here berth line = tt
 position_refuses shows.LineClear here berth line = clear_refuses here berth line
-position_refuses shows.TrainOnLine here berth line = tt
+position_refuses position here berth line = tt
 
+-- what a turn is refused for is a refusal
 pub turn_refuses : (here : BoxState) (berth : Berth) (line : Incoming) (position : Position)
     → Refuses (turn_refusal here berth line position)
 turn_refuses here berth line position =
@@ -128,19 +111,17 @@ lock_refuses box_plan here lever =
     (track_refuses (first_standing here.places (track_of box_plan lever)))
 
 spare_refuses : (kind : Option Kind) → Refuses (spare_refusal kind)
-spare_refuses None = tt
-spare_refuses (Some kinds.Signal) = tt
-spare_refuses (Some kinds.Points) = tt
-spare_refuses (Some kinds.Lock) = tt
-spare_refuses (Some kinds.Distant) = tt
 spare_refuses (Some kinds.Spare) = refl
+spare_refuses kind = tt
 
+-- what a pull is refused for is a refusal
 pub pull_refuses : (box_plan : BoxFields) (here : BoxState) (lever : ℕ) → Refuses (pull_refusal box_plan here lever)
 pull_refuses box_plan here lever =
     either_refuses (is_pulled here.ends lever) (Some replies.AlreadyReversed) _ refl
     (later_refuses (spare_refusal (kind_of box_plan lever)) _ (spare_refuses (kind_of box_plan lever))
     (lock_refuses box_plan here lever))
 
+-- what putting a lever back is refused for is a refusal
 pub put_refuses : (box_plan : BoxFields) (here : BoxState) (lever : ℕ) → Refuses (put_refusal box_plan here lever)
 put_refuses box_plan here lever =
     either_refuses (is_pulled here.ends lever) _ (Some replies.AlreadyNormal) (lock_refuses box_plan here lever) refl
@@ -151,6 +132,7 @@ place_refuses : (place : ℕ) (there : Option ℕ) → Refuses (place_refusal pl
 place_refuses place None = tt
 place_refuses place (Some there) = refl
 
+-- what bringing a train is refused for is a refusal
 pub bring_refuses : (here : BoxState) (train place : ℕ) → Refuses (bring_refusal here train place)
 bring_refuses here train place =
     either_refuses (was_brought here.brought train) (Some replies.AlreadyBrought) _ refl
@@ -174,11 +156,13 @@ way_refuses here signal =
     (standing_refuses (first_standing here.places signal.over))
     (standing_refuses (first_standing here.places (end_of signal.to)))
 
+-- what passing a signal is refused for is a refusal
 pub pass_refuses : (here : BoxState) (signal : Signal) → Refuses (pass_refusal here signal)
 pass_refuses here signal =
     later_refuses (danger_refusal (is_off here.off signal.lever)) _
     (danger_refuses (is_off here.off signal.lever)) (way_refuses here signal)
 
+-- what overrunning a signal is refused for is a refusal
 pub overrun_refuses : (here : BoxState) (signal : Signal) → Refuses (overrun_refusal here signal)
 overrun_refuses here signal =
     later_refuses (off_refusal (is_off here.off signal.lever)) _
@@ -194,11 +178,13 @@ occupied_refuses : (there : Option ℕ) → Refuses (berth_occupied there)
 occupied_refuses None = tt
 occupied_refuses (Some train) = refl
 
+-- what coming into a berth is refused for is a refusal
 pub berth_refuses : (here : BoxState) (way : Way) (berth : Berth) → Refuses (berth_refusal here way berth)
 berth_refuses here way berth =
     later_refuses (portion_refusal (of_way here.incoming way).portion) _
     (portion_refuses (of_way here.incoming way).portion) (occupied_refuses (train_on here.places berth.place))
 
+-- what clearing a portion away is refused for is a refusal
 pub clear_portion_refuses : (portion : Option ℕ) → Refuses (clear_portion_refusal portion)
 clear_portion_refuses None = refl
 clear_portion_refuses (Some train) = tt
@@ -211,9 +197,9 @@ winding_refuses (Some ready_at) = refl
 
 normal_refuses : (position : Position) → Refuses (normal_refusal position)
 normal_refuses shows.Normal = tt
-normal_refuses shows.LineClear = refl
-normal_refuses shows.TrainOnLine = refl
+normal_refuses position = refl
 
+-- what winding is refused for is a refusal
 pub wind_refuses : (line : Incoming) → Refuses (wind_refusal line)
 wind_refuses line =
     later_refuses (winding_refusal line.ready_at) _ (winding_refuses line.ready_at) (normal_refuses line.position)
@@ -222,6 +208,7 @@ soon_refuses : (soon : Bool) (ready_at : ℕ) → Refuses (soon_refusal soon rea
 soon_refuses true ready_at = refl
 soon_refuses false ready_at = tt
 
+-- what a release is refused for is a refusal
 pub release_refuses : (moment : ℕ) (ready_at : Option ℕ) → Refuses (release_refusal moment ready_at)
 release_refuses moment None = refl
 release_refuses moment (Some ready_at) = soon_refuses (nat_lt moment ready_at) ready_at

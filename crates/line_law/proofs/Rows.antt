@@ -89,6 +89,7 @@ follow_pulled off xs lever within h l is = elim (eqb_tells (l - 1) (lever - 1)) 
       ∙ h l is
 ]
 
+-- an arm that goes off follows a lever that is reversed
 pub follow_off : (off : List Bool) (xs : List End) (lever : ℕ) → lever - 1 < length xs → Follow off xs
     → Follow (slice_set off (lever - 1) true) (slice_set xs (lever - 1) ends.Reversed)
 follow_off off xs lever within h l is = elim (eqb_tells (l - 1) (lever - 1)) [

@@ -1,9 +1,9 @@
--- A reply is found again from its number and the numbers that it tells; so replies with the same are one.
+-- A reply is found again from its numbers; so replies with the same numbers are one.
 use Rattle.std.proofs.Common.{ℕ, ◌+◌, ◌-◌, ◌≡◌, List, [], ◌∷◌, Bool, true, false, Option, Some, None, IsTrue, refl, sym}
 use Rattle.std.proofs.Common.{ap, subst, ◌∙◌, arith, eqb-true, slice_index_or}
-use Rattle.std.specs.Prelude.{◌==◌, ◌↔◌, nat_eq, if◌then◌else◌}
-use Rattle.std.specs.Cmp.Lexicographic.{pointwise, same_text, nat_list_eq_equiv}
-use Rattle.std.proofs.lemmas.Bool.{eq-eqb}
+use Rattle.std.specs.Prelude.{◌==◌, ◌↔◌, if◌then◌else◌}
+use Rattle.std.specs.Cmp.Lexicographic.{same_text, nat_list_eq_equiv}
+use Rattle.block_words.specs.Instruments.{position_code}
 use Rattle.block_words.specs.declared.Position.{Position}
 use Rattle.block_words.specs.declared.Position.TheVariants as shows
 use Rattle.block_words.specs.declared.Way.{Way}
@@ -21,8 +21,7 @@ use Rattle.line_law.specs.declared.call.Reply.TheVariants.{ArmOff, SectionFull, 
 use Rattle.line_law.specs.declared.call.Reply.TheVariants.{PartBerthed, NoTrainAt, BerthOccupied, PortionAhead, Cleared}
 use Rattle.line_law.specs.declared.call.Reply.TheVariants.{NoPortion, Winding, AlreadyWinding, NotAtNormal, Released}
 use Rattle.line_law.specs.declared.call.Reply.TheVariants.{NotWinding, TooSoon}
-use Rattle.line_law.specs.Replies.{numbers_told, reply_no, same_reply}
-use Rattle.line_law.proofs.Found.{both}
+use Rattle.line_law.specs.Replies.{mark_number, reply_numbers, same_reply, shown_code, way_number, welwyn_number}
 
 shown_of : ℕ → Option ℕ
 shown_of n = if n == 0 then None else Some (n - 1)
@@ -43,161 +42,117 @@ mark_of n = n == 1
 at : List ℕ → ℕ → ℕ
 at told n = slice_index_or told n 0
 
--- for each reply, how it is made of the numbers that it tells
+-- for each reply, how it is made of its numbers
 makers : List (List ℕ → Reply)
 makers =
-    (λ (told : List ℕ). Rung (at told 0))
-    ∷ (λ (told : List ℕ). BellBusy (at told 1) (at told 0))
-    ∷ (λ (told : List ℕ). Heard (at told 1) (at told 0))
-    ∷ (λ (told : List ℕ). Silent (at told 0))
-    ∷ (λ (told : List ℕ). BellNotYet (shown_of (at told 1)) (at told 0))
-    ∷ (λ (told : List ℕ). Turned (at told 0))
+    (λ (told : List ℕ). Rung (at told 1))
+    ∷ (λ (told : List ℕ). BellBusy (at told 2) (at told 1))
+    ∷ (λ (told : List ℕ). Heard (at told 2) (at told 1))
+    ∷ (λ (told : List ℕ). Silent (at told 1))
+    ∷ (λ (told : List ℕ). BellNotYet (shown_of (at told 2)) (at told 1))
+    ∷ (λ (told : List ℕ). Turned (at told 1))
     ∷ (λ (told : List ℕ). AlreadyThere)
     ∷ (λ (told : List ℕ). NotFromNormal)
-    ∷ (λ (told : List ℕ). HomeReversed (at told 0))
-    ∷ (λ (told : List ℕ). TrackOccupied (at told 0) (at told 1))
-    ∷ (λ (told : List ℕ). WelwynHolds (state_of (at told 0)))
-    ∷ (λ (told : List ℕ). CountFull (at told 0))
-    ∷ (λ (told : List ℕ). Seen (at told 0))
-    ∷ (λ (told : List ℕ). BlockNotYet (position_of (at told 1)) (at told 0))
+    ∷ (λ (told : List ℕ). HomeReversed (at told 1))
+    ∷ (λ (told : List ℕ). TrackOccupied (at told 1) (at told 2))
+    ∷ (λ (told : List ℕ). WelwynHolds (state_of (at told 1)))
+    ∷ (λ (told : List ℕ). CountFull (at told 1))
+    ∷ (λ (told : List ℕ). Seen (at told 1))
+    ∷ (λ (told : List ℕ). BlockNotYet (position_of (at told 2)) (at told 1))
     ∷ (λ (told : List ℕ). Pulled)
-    ∷ (λ (told : List ℕ). PulledUnder (at told 0))
+    ∷ (λ (told : List ℕ). PulledUnder (at told 1))
     ∷ (λ (told : List ℕ). AlreadyReversed)
     ∷ (λ (told : List ℕ). Spare)
-    ∷ (λ (told : List ℕ). HeldByLever (at told 0) (at told 1))
-    ∷ (λ (told : List ℕ). HeldByTrack (at told 0) (at told 1))
-    ∷ (λ (told : List ℕ). HeldByInstrument (way_of (at told 0)) (position_of (at told 2)) (mark_of (at told 3))
-    (at told 1))
+    ∷ (λ (told : List ℕ). HeldByLever (at told 1) (at told 2))
+    ∷ (λ (told : List ℕ). HeldByTrack (at told 1) (at told 2))
+    ∷ (λ (told : List ℕ). HeldByInstrument (way_of (at told 1)) (position_of (at told 3)) (mark_of (at told 4))
+    (at told 2))
     ∷ (λ (told : List ℕ). Put)
     ∷ (λ (told : List ℕ). AlreadyNormal)
     ∷ (λ (told : List ℕ). Brought)
     ∷ (λ (told : List ℕ). AlreadyBrought)
-    ∷ (λ (told : List ℕ). Occupied (at told 0) (at told 1))
-    ∷ (λ (told : List ℕ). Passed (at told 0))
-    ∷ (λ (told : List ℕ). Entered (at told 1) (at told 0))
+    ∷ (λ (told : List ℕ). Occupied (at told 1) (at told 2))
+    ∷ (λ (told : List ℕ). Passed (at told 1))
+    ∷ (λ (told : List ℕ). Entered (at told 2) (at told 1))
     ∷ (λ (told : List ℕ). NoTrain)
     ∷ (λ (told : List ℕ). AtDanger)
     ∷ (λ (told : List ℕ). ArmOff)
-    ∷ (λ (told : List ℕ). SectionFull (at told 0))
-    ∷ (λ (told : List ℕ). Approaching (at told 1) (at told 0))
-    ∷ (λ (told : List ℕ). TrainNotYet (at told 0))
-    ∷ (λ (told : List ℕ). Berthed (at told 1) (at told 0))
-    ∷ (λ (told : List ℕ). PartBerthed (at told 1) (at told 0))
-    ∷ (λ (told : List ℕ). NoTrainAt (at told 0))
-    ∷ (λ (told : List ℕ). BerthOccupied (at told 0))
-    ∷ (λ (told : List ℕ). PortionAhead (at told 0))
-    ∷ (λ (told : List ℕ). Cleared (at told 1) (at told 0))
+    ∷ (λ (told : List ℕ). SectionFull (at told 1))
+    ∷ (λ (told : List ℕ). Approaching (at told 2) (at told 1))
+    ∷ (λ (told : List ℕ). TrainNotYet (at told 1))
+    ∷ (λ (told : List ℕ). Berthed (at told 2) (at told 1))
+    ∷ (λ (told : List ℕ). PartBerthed (at told 2) (at told 1))
+    ∷ (λ (told : List ℕ). NoTrainAt (at told 1))
+    ∷ (λ (told : List ℕ). BerthOccupied (at told 1))
+    ∷ (λ (told : List ℕ). PortionAhead (at told 1))
+    ∷ (λ (told : List ℕ). Cleared (at told 2) (at told 1))
     ∷ (λ (told : List ℕ). NoPortion)
-    ∷ (λ (told : List ℕ). Winding (at told 0))
+    ∷ (λ (told : List ℕ). Winding (at told 1))
     ∷ (λ (told : List ℕ). AlreadyWinding)
     ∷ (λ (told : List ℕ). NotAtNormal)
     ∷ (λ (told : List ℕ). Released)
     ∷ (λ (told : List ℕ). NotWinding)
-    ∷ (λ (told : List ℕ). TooSoon (at told 0))
+    ∷ (λ (told : List ℕ). TooSoon (at told 1))
     ∷ []
 
--- the reply with this number that tells these
-reply_from : ℕ → List ℕ → Reply
-reply_from n told = slice_index_or makers n (λ (told : List ℕ). Put) told
+-- the reply with these numbers
+reply_from : List ℕ → Reply
+reply_from told = slice_index_or makers (at told 0) (λ (told : List ℕ). Put) told
 
-some_again : (k code : ℕ) → BellNotYet (shown_of (code + 1)) k ≡ BellNotYet (Some code) k
+shown_again : (shown : Option ℕ) → shown_of (shown_code shown) ≡ shown
 unfolding shown_of
-some_again k code = by ((code + 1) == 0) refl where
-  by : (b : Bool) → ((code + 1) == 0) ≡ b
-      → BellNotYet (if b then None else Some (code + 1 - 1)) k ≡ BellNotYet (Some code) k
+shown_again None = refl
+shown_again (Some code) = by ((code + 1) == 0) refl where
+  by : (b : Bool) → ((code + 1) == 0) ≡ b → (if b then None else Some (code + 1 - 1)) ≡ Some code
   by true e = absurd (let z : code + 1 ≡ 0 = eqb-true (code + 1) 0 e in omega arith)
   by false e = let c : code + 1 - 1 ≡ code = omega arith in rw c refl
 
--- every reply is found again
-found_again : (reply : Reply) → reply_from (reply_no reply) (numbers_told reply) ≡ reply
-unfolding at makers reply_from shown_of state_of position_of way_of mark_of
-found_again (Rung k) = refl
-found_again (BellBusy code k) = refl
-found_again (Heard code k) = refl
-found_again (Silent k) = refl
-found_again (BellNotYet None k) = refl
-found_again (BellNotYet (Some code) k) = some_again k code
-found_again (Turned v) = refl
-found_again AlreadyThere = refl
-found_again NotFromNormal = refl
-found_again (HomeReversed lever) = refl
-found_again (TrackOccupied place train) = refl
-found_again (WelwynHolds welwyn.Ready) = refl
-found_again (WelwynHolds welwyn.Given) = refl
-found_again (WelwynHolds welwyn.Berthed) = refl
-found_again (CountFull out) = refl
-found_again (Seen v) = refl
-found_again (BlockNotYet shows.Normal v) = refl
-found_again (BlockNotYet shows.LineClear v) = refl
-found_again (BlockNotYet shows.TrainOnLine v) = refl
-found_again Pulled = refl
-found_again (PulledUnder v) = refl
-found_again AlreadyReversed = refl
-found_again Spare = refl
-found_again (HeldByLever lever row) = refl
-found_again (HeldByTrack place train) = refl
-found_again (HeldByInstrument Up shows.Normal true v) = refl
-found_again (HeldByInstrument Up shows.Normal false v) = refl
-found_again (HeldByInstrument Up shows.LineClear true v) = refl
-found_again (HeldByInstrument Up shows.LineClear false v) = refl
-found_again (HeldByInstrument Up shows.TrainOnLine true v) = refl
-found_again (HeldByInstrument Up shows.TrainOnLine false v) = refl
-found_again (HeldByInstrument Down shows.Normal true v) = refl
-found_again (HeldByInstrument Down shows.Normal false v) = refl
-found_again (HeldByInstrument Down shows.LineClear true v) = refl
-found_again (HeldByInstrument Down shows.LineClear false v) = refl
-found_again (HeldByInstrument Down shows.TrainOnLine true v) = refl
-found_again (HeldByInstrument Down shows.TrainOnLine false v) = refl
-found_again Put = refl
-found_again AlreadyNormal = refl
-found_again Brought = refl
-found_again AlreadyBrought = refl
-found_again (Occupied place train) = refl
-found_again (Passed train) = refl
-found_again (Entered train k) = refl
-found_again NoTrain = refl
-found_again AtDanger = refl
-found_again ArmOff = refl
-found_again (SectionFull k) = refl
-found_again (Approaching train j) = refl
-found_again (TrainNotYet j) = refl
-found_again (Berthed train j) = refl
-found_again (PartBerthed train j) = refl
-found_again (NoTrainAt j) = refl
-found_again (BerthOccupied train) = refl
-found_again (PortionAhead train) = refl
-found_again (Cleared train j) = refl
-found_again NoPortion = refl
-found_again (Winding ready_at) = refl
-found_again AlreadyWinding = refl
-found_again NotAtNormal = refl
-found_again Released = refl
-found_again NotWinding = refl
-found_again (TooSoon ready_at) = refl
+state_again : (state : WelwynState) → state_of (welwyn_number state) ≡ state
+unfolding state_of
+state_again welwyn.Ready = refl
+state_again welwyn.Given = refl
+state_again welwyn.Berthed = refl
 
--- replies with the same number that tell the same numbers are one
-one_reply : (reply other : Reply) → reply_no reply ≡ reply_no other → numbers_told reply ≡ numbers_told other
-    → reply ≡ other
-one_reply reply other n told =
-    sym (found_again reply)
-    ∙ (ap (λ (k : ℕ). reply_from k (numbers_told reply)) n
-    ∙ (ap (λ (told : List ℕ). reply_from (reply_no other) told) told ∙ found_again other))
+position_again : (position : Position) → position_of (position_code position) ≡ position
+unfolding position_of
+position_again shows.Normal = refl
+position_again shows.LineClear = refl
+position_again shows.TrainOnLine = refl
+
+way_again : (way : Way) → way_of (way_number way) ≡ way
+unfolding way_of
+way_again Up = refl
+way_again Down = refl
+
+mark_again : (mark : Bool) → mark_of (mark_number mark) ≡ mark
+unfolding mark_of
+mark_again true = refl
+mark_again false = refl
+
+-- every reply is found again
+found_again : (reply : Reply) → reply_from (reply_numbers reply) ≡ reply
+unfolding at makers reply_from
+found_again (BellNotYet shown k) = ap (λ (s : Option ℕ). BellNotYet s k) (shown_again shown)
+found_again (WelwynHolds state) = ap WelwynHolds (state_again state)
+found_again (BlockNotYet shown v) = ap (λ (p : Position). BlockNotYet p v) (position_again shown)
+found_again (HeldByInstrument way shown spent v) =
+    ap (λ (w : Way). HeldByInstrument w _ _ v) (way_again way)
+    ∙ (ap (λ (p : Position). HeldByInstrument way p _ v) (position_again shown)
+    ∙ ap (λ (mark : Bool). HeldByInstrument way shown mark v) (mark_again spent))
+found_again reply = refl
+
+-- replies with the same numbers are one
+one_reply : (reply other : Reply) → reply_numbers reply ≡ reply_numbers other → reply ≡ other
+one_reply reply other same = sym (found_again reply) ∙ (ap reply_from same ∙ found_again other)
 
 -- the test of two replies tells that they are one
 pub same_reply-true : (reply other : Reply) → IsTrue (same_reply reply other) → reply ≡ other
 same_reply-true reply other same =
-    let parts =
-    both (reply_no reply == reply_no other) (pointwise nat_eq (numbers_told reply) (numbers_told other)) same in
-    one_reply reply other (eqb-true (reply_no reply) (reply_no other) parts.0)
-    (same_text (numbers_told reply) (numbers_told other) (sym parts.1))
+    one_reply reply other (same_text (reply_numbers reply) (reply_numbers other) (sym same))
 
 -- a reply is the same as itself
 pub same_reply-itself : (reply : Reply) → IsTrue (same_reply reply reply)
-same_reply-itself reply =
-    let n : (reply_no reply == reply_no reply) ≡ true = eq-eqb (reply_no reply) (reply_no reply) refl in
-    let told : pointwise nat_eq (numbers_told reply) (numbers_told reply) ≡ true =
-    nat_list_eq_equiv.refl (numbers_told reply) in
-    rw (n, told) refl
+same_reply-itself reply = nat_list_eq_equiv.refl (reply_numbers reply)
 
 -- the test of two replies holds exactly where they are one
 pub same_reply_is : (reply other : Reply) → IsTrue (same_reply reply other) ↔ (reply ≡ other)

@@ -32,6 +32,7 @@ pub record HasBoxes (n : ℕ) (x : Section) : Type 0 where
   pub pair : pair_of_section x + 1 < n
   pub same : pair_no (advance_of x) (In x.way) ≡ pair_of_section x
 
+-- a section has a rear box and a box in advance
 pub has_boxes : (n rear : ℕ) (way : Way) → IsTrue (leaves n rear way) → HasBoxes n (record { rear = rear; way = way })
 has_boxes n rear Up h =
     let p = both (nat_lt 0 rear) (nat_lt rear n) h in

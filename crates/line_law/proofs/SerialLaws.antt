@@ -121,6 +121,7 @@ opening_moment n [] b = refl
 opening_moment n (box_plan ∷ boxes) zero = refl
 opening_moment n (box_plan ∷ boxes) (suc b) = opening_moment n boxes b
 
+-- the scripts of a line can be called in turn as it opens
 pub left_opens : (plan : PlanFields) (scripts : List (List Call)) → AreScripts plan scripts
     → AreLeft plan (opening_state plan) scripts
 unfolding opening_state
@@ -130,12 +131,14 @@ left_opens plan scripts h =
 opening_boxes : (plan : PlanFields) → length (opening_state plan).boxes ≡ length plan.boxes
 opening_boxes plan = (opening_shape plan).boxes
 
+-- the journal on one thread is legal
 pub journal_legal : (plan : PlanFields) (scripts : List (List Call)) → IsPlan plan → AreScripts plan scripts
     → IsLegal plan (serial_journal plan scripts)
 unfolding serial_journal RestIsLegal
 journal_legal plan scripts is h =
     serial_legal plan (count_left scripts) (opening_state plan) scripts (opening_boxes plan) (left_opens plan scripts h)
 
+-- each box's part of the journal on one thread is its script
 pub journal_parts : (plan : PlanFields) (scripts : List (List Call)) (b : ℕ)
     → calls_of b (serial_journal plan scripts) ≡ calls_left scripts b
 unfolding serial_journal RestHasParts

@@ -36,6 +36,7 @@ pub record KnownParts (plan : PlanFields) (b : ℕ) (call : Call) : Type 0 where
   pub moment : call.moment < moments_of plan.version
   pub act : IsTrue (knows_act plan b call.act)
 
+-- a known call's box is one of the line, its moment is of a day, and its conditions hold
 pub known_parts : (plan : PlanFields) (b : ℕ) (call : Call) → KnowsCall plan b call → KnownParts plan b call
 unfolding knows_call
 known_parts plan b call known =
@@ -50,6 +51,7 @@ known_parts plan b call known =
       act = front.1;
     }
 
+-- the box of a known call is one of the line
 pub known_box : (plan : PlanFields) (b : ℕ) (call : Call) → KnowsCall plan b call → b < length plan.boxes
 known_box plan b call known = (known_parts plan b call known).box
 
@@ -97,7 +99,6 @@ enters_has plan b here act lever signal way is within e to (Overruns free) =
 link_by : (plan : PlanFields) (b : ℕ) (here : BoxState) (act : Act) (d : Decision) → IsPlan plan → b < length plan.boxes
     → IsTrue (knows_act plan b act) → Outcome plan (box_plan_of plan b) here act d
     → (HasLink (length plan.boxes) b (link_of (box_plan_of plan b) act)) ⊎ IsLocal d
-link_by plan b here act d is within known (Refused a reply refused) = inr tt
 link_by plan b here act d is within known (Rings side code) =
     inl (both (knows_side plan b side) (is_code_no plan code) known).0
 link_by plan b here act d is within known (Hears side) = inl (comes_from (length plan.boxes) b side known)
@@ -106,12 +107,7 @@ link_by plan b here act d is within known (AwaitsBell side code) =
 link_by plan b here act d is within known (Turns way position berth e free) =
     inl (both (comes_in (length plan.boxes) b way) (is_some (berth_of (box_plan_of plan b) way)) known).0
 link_by plan b here act d is within known (AwaitsBlock way position) = inl known
-link_by plan b here act d is within known (Pulls lever e free) = inr tt
 link_by plan b here act d is within known (PullsStarter lever way e free) = inl (link_has plan b lever way is within e)
-link_by plan b here act d is within known (Puts lever free) = inr tt
-link_by plan b here act d is within known (Brings train free) = inr tt
-link_by plan b here act d is within known (GoesTo a lever signal train place e to there moves) = inr tt
-link_by plan b here act d is within known (GoesAway a lever signal train e to there moves) = inr tt
 link_by plan b here act d is within known (Enters a lever signal train way e to there moves) =
     inl (enters_has plan b here a lever signal way is within e (ap way_to to) moves)
 link_by plan b here act d is within known (AwaitsTrain way) =
@@ -122,8 +118,7 @@ link_by plan b here act d is within known (Parts way berth e free) =
     inl (both (comes_in (length plan.boxes) b way) (is_some (berth_of (box_plan_of plan b) way)) known).0
 link_by plan b here act d is within known (Clears way free) =
     inl (both (comes_in (length plan.boxes) b way) (is_some (berth_of (box_plan_of plan b) way)) known).0
-link_by plan b here act d is within known (Winds way free) = inr tt
-link_by plan b here act d is within known (Releases way free) = inr tt
+link_by plan b here act d is within known out = inr tt
 
 -- the line of a known call leads to a neighbour, or the call is decided in its box alone
 pub known_link : (plan : PlanFields) (b : ℕ) (call : Call) (here : BoxState) → IsPlan plan → KnowsCall plan b call
@@ -161,42 +156,21 @@ act_pair plan b (acts.Hear side) is within known =
 act_pair plan b (acts.AwaitBell side code) is within known =
     link_pair (length plan.boxes) b (In (opposite side))
     (comes_from (length plan.boxes) b side (both (knows_side plan b side) (is_code_no plan code) known).0)
-act_pair plan b (acts.Turn way position) is within known =
-    link_pair (length plan.boxes) b (In way)
-    (both (comes_in (length plan.boxes) b way) (is_some (berth_of (box_plan_of plan b) way)) known).0
 act_pair plan b (acts.AwaitBlock way position) is within known = link_pair (length plan.boxes) b (Out way) known
-act_pair plan b (acts.Pull lever) is within known =
-    lever_pair plan b lever (starter_way (signal_of (box_plan_of plan b) lever)) is within refl
+act_pair plan b (acts.Pull lever) is within known = lever_pair plan b lever _ is within refl
 act_pair plan b (acts.Put lever) is within known = down_pair (length plan.boxes) b is.fewest within
 act_pair plan b (acts.Bring train) is within known = down_pair (length plan.boxes) b is.fewest within
-act_pair plan b (acts.Pass lever) is within known =
-    lever_pair plan b lever (starter_way (signal_of (box_plan_of plan b) lever)) is within refl
-act_pair plan b (acts.Overrun lever) is within known =
-    lever_pair plan b lever (starter_way (signal_of (box_plan_of plan b) lever)) is within refl
-act_pair plan b (acts.AwaitTrain way) is within known =
-    link_pair (length plan.boxes) b (In way)
-    (both (comes_in (length plan.boxes) b way) (is_some (berth_of (box_plan_of plan b) way)) known).0
-act_pair plan b (acts.Berth way) is within known =
-    link_pair (length plan.boxes) b (In way)
-    (both (comes_in (length plan.boxes) b way) (is_some (berth_of (box_plan_of plan b) way)) known).0
-act_pair plan b (acts.BerthPart way) is within known =
-    link_pair (length plan.boxes) b (In way)
-    (both (comes_in (length plan.boxes) b way) (is_some (berth_of (box_plan_of plan b) way)) known).0
-act_pair plan b (acts.ClearPortion way) is within known =
-    link_pair (length plan.boxes) b (In way)
-    (both (comes_in (length plan.boxes) b way) (is_some (berth_of (box_plan_of plan b) way)) known).0
-act_pair plan b (acts.Wind way) is within known =
-    link_pair (length plan.boxes) b (In way)
-    (both (comes_in (length plan.boxes) b way) (is_some (berth_of (box_plan_of plan b) way)) known).0
-act_pair plan b (acts.Release way) is within known =
-    link_pair (length plan.boxes) b (In way)
-    (both (comes_in (length plan.boxes) b way) (is_some (berth_of (box_plan_of plan b) way)) known).0
+act_pair plan b (acts.Pass lever) is within known = lever_pair plan b lever _ is within refl
+act_pair plan b (acts.Overrun lever) is within known = lever_pair plan b lever _ is within refl
+act_pair plan b act is within known =
+    link_pair (length plan.boxes) b (link_of (box_plan_of plan b) act) (both _ _ known).0
 
 -- box b and this pair are of a line of n boxes
 pub record IsWithin (n b p : ℕ) : Type 0 where
   pub box : b < n
   pub pair : p + 1 < n
 
+-- a known call reaches a box and a pair of the line
 pub call_within : (plan : PlanFields) (b : ℕ) (call : Call) → IsPlan plan → KnowsCall plan b call
     → IsWithin (length plan.boxes) b (pair_of plan b call)
 call_within plan b call is known =
@@ -221,22 +195,12 @@ pub out_leaves : (plan : PlanFields) (b : ℕ) (act : Act) (way : Way) → IsPla
 out_leaves plan b (acts.Ring side code) way is within known link = let same : side ≡ way =
     cc in subst (λ (u : Way). IsTrue (leaves (length plan.boxes) b u)) same
     (both (knows_side plan b side) (is_code_no plan code) known).0
-out_leaves plan b (acts.Hear side) way is within known link = absurd cc
-out_leaves plan b (acts.AwaitBell side code) way is within known link = absurd cc
-out_leaves plan b (acts.Turn v position) way is within known link = absurd cc
 out_leaves plan b (acts.AwaitBlock v position) way is within known link = let same : v ≡ way =
     cc in subst (λ (u : Way). IsTrue (leaves (length plan.boxes) b u)) same known
 out_leaves plan b (acts.Pull lever) way is within known link =
     out_of_starter plan b lever (starter_way (signal_of (box_plan_of plan b) lever)) way is within refl link
-out_leaves plan b (acts.Put lever) way is within known link = absurd cc
-out_leaves plan b (acts.Bring train) way is within known link = absurd cc
 out_leaves plan b (acts.Pass lever) way is within known link =
     out_of_starter plan b lever (starter_way (signal_of (box_plan_of plan b) lever)) way is within refl link
 out_leaves plan b (acts.Overrun lever) way is within known link =
     out_of_starter plan b lever (starter_way (signal_of (box_plan_of plan b) lever)) way is within refl link
-out_leaves plan b (acts.AwaitTrain v) way is within known link = absurd cc
-out_leaves plan b (acts.Berth v) way is within known link = absurd cc
-out_leaves plan b (acts.BerthPart v) way is within known link = absurd cc
-out_leaves plan b (acts.ClearPortion v) way is within known link = absurd cc
-out_leaves plan b (acts.Wind v) way is within known link = absurd cc
-out_leaves plan b (acts.Release v) way is within known link = absurd cc
+out_leaves plan b act way is within known link = absurd cc

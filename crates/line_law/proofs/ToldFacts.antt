@@ -78,16 +78,19 @@ pub record CanTell (plan : PlanFields) (b n m : ℕ) (here : BoxState) (pair : P
 abbrev pub MayTell : PlanFields → ℕ → ℕ → Option Reply → Type 0
 MayTell plan b m refusal = IfSome refusal (IsTold plan b m)
 
+-- a box that can tell is sound
 pub is_sound : (plan : PlanFields) (b n m : ℕ) (here : BoxState) (pair : PairState) → CanTell plan b n m here pair
     → IsSound (box_plan_of plan b)
 is_sound plan b n m here pair is = sound (length plan.boxes) b (box_plan_of plan b) is.of_plan
 
 -- ---- two refusals
 
+-- what holds of both reasons for a refusal holds of the first
 pub or_tells : (P : Reply → Type 0) (r s : Option Reply) → IfSome r P → IfSome s P → IfSome (or_later r s) P
 or_tells P (Some reply) s h g = h
 or_tells P None s h g = g
 
+-- what holds of both holds of the one that a test chooses
 pub one_tells : {A : Type 0} (P : A → Type 0) (t : Bool) (r s : Option A) → IfSome r P → IfSome s P
     → IfSome (cond t r s) P
 one_tells P true r s h g = h
@@ -267,13 +270,10 @@ lock_tells plan b n m here pair lever is =
 
 spare_tells : (plan : PlanFields) (b m : ℕ) (k : Option Kind) → MayTell plan b m (spare_refusal k)
 unfolding IsTold
-spare_tells plan b m None = tt
-spare_tells plan b m (Some kinds.Signal) = tt
-spare_tells plan b m (Some kinds.Points) = tt
-spare_tells plan b m (Some kinds.Lock) = tt
-spare_tells plan b m (Some kinds.Distant) = tt
 spare_tells plan b m (Some kinds.Spare) = tt
+spare_tells plan b m kind = tt
 
+-- what a pull is refused with tells what is there
 pub pull_tells : (plan : PlanFields) (b n m : ℕ) (here : BoxState) (pair : PairState) (lever : ℕ)
     → CanTell plan b n m here pair → MayTell plan b m (pull_refusal (box_plan_of plan b) here lever)
 unfolding IsTold
@@ -282,6 +282,7 @@ pull_tells plan b n m here pair lever is =
     (or_tells (IsTold plan b m) _ _ (spare_tells plan b m (kind_of (box_plan_of plan b) lever))
     (lock_tells plan b n m here pair lever is))
 
+-- what putting a lever back is refused with tells what is there
 pub put_tells : (plan : PlanFields) (b n m : ℕ) (here : BoxState) (pair : PairState) (lever : ℕ)
     → CanTell plan b n m here pair → MayTell plan b m (put_refusal (box_plan_of plan b) here lever)
 unfolding IsTold
@@ -297,14 +298,12 @@ few_out (Some n) out h few = omega (arith, h, few)
 welwyn_tells : (plan : PlanFields) (b m : ℕ) (state : WelwynState) → MayTell plan b m (welwyn_refusal state)
 unfolding IsTold
 welwyn_tells plan b m welwyn.Ready = tt
-welwyn_tells plan b m welwyn.Given = tt
-welwyn_tells plan b m welwyn.Berthed = tt
+welwyn_tells plan b m state = tt
 
 from_tells : (plan : PlanFields) (b m : ℕ) (position : Position) → MayTell plan b m (from_refusal position)
 unfolding IsTold
 from_tells plan b m shows.Normal = tt
-from_tells plan b m shows.LineClear = tt
-from_tells plan b m shows.TrainOnLine = tt
+from_tells plan b m position = tt
 
 control_tells : (plan : PlanFields) (b n m : ℕ) (here : BoxState) (pair : PairState) (way : Way) (berth : Berth)
     (c : Control) → CanTell plan b n m here pair → berth_of (box_plan_of plan b) way ≡ Some berth
@@ -339,10 +338,10 @@ clear_tells plan b n m here pair way berth is e =
 position_tells : (position : Position) (plan : PlanFields) (b n m : ℕ) (here : BoxState) (pair : PairState) (way : Way)
     (berth : Berth) → CanTell plan b n m here pair → berth_of (box_plan_of plan b) way ≡ Some berth
     → MayTell plan b m (position_refusal position here berth (of_way here.incoming way))
-position_tells shows.Normal plan b n m here pair way berth is e = tt
 position_tells shows.LineClear plan b n m here pair way berth is e = clear_tells plan b n m here pair way berth is e
-position_tells shows.TrainOnLine plan b n m here pair way berth is e = tt
+position_tells position plan b n m here pair way berth is e = tt
 
+-- what a turn is refused with tells what is there
 pub turn_tells : (plan : PlanFields) (b n m : ℕ) (here : BoxState) (pair : PairState) (way : Way) (berth : Berth)
     (position : Position) → CanTell plan b n m here pair → berth_of (box_plan_of plan b) way ≡ Some berth
     → MayTell plan b m (turn_refusal here berth (of_way here.incoming way) position)
@@ -353,6 +352,7 @@ turn_tells plan b n m here pair way berth position is e =
 
 -- ---- trains
 
+-- what bringing a train is refused with tells what is there
 pub bring_tells : (plan : PlanFields) (b n m : ℕ) (here : BoxState) (pair : PairState) (train place : ℕ)
     → CanTell plan b n m here pair → place < length (box_plan_of plan b).places
     → MayTell plan b m (bring_refusal here train place)
@@ -383,12 +383,14 @@ unfolding IsTold
 off_tells plan b m true = tt
 off_tells plan b m false = tt
 
+-- what passing a signal is refused with tells what is there
 pub pass_tells : (plan : PlanFields) (b n m : ℕ) (here : BoxState) (pair : PairState) (lever : ℕ) (signal : Signal)
     → CanTell plan b n m here pair → signal_of (box_plan_of plan b) lever ≡ Some signal
     → MayTell plan b m (pass_refusal here signal)
 pass_tells plan b n m here pair lever signal is e =
     or_tells (IsTold plan b m) _ _ (danger_tells plan b m _) (way_tells plan b n m here pair lever signal is e)
 
+-- what overrunning a signal is refused with tells what is there
 pub overrun_tells : (plan : PlanFields) (b n m : ℕ) (here : BoxState) (pair : PairState) (lever : ℕ) (signal : Signal)
     → CanTell plan b n m here pair → signal_of (box_plan_of plan b) lever ≡ Some signal
     → MayTell plan b m (overrun_refusal here signal)
@@ -409,6 +411,7 @@ unfolding IsTold
 occupied_tells plan b m None h = tt
 occupied_tells plan b m (Some train) h = h
 
+-- what coming into a berth is refused with tells what is there
 pub berth_tells : (plan : PlanFields) (b n m : ℕ) (here : BoxState) (pair : PairState) (way : Way) (berth : Berth)
     → CanTell plan b n m here pair → berth_of (box_plan_of plan b) way ≡ Some berth
     → MayTell plan b m (berth_refusal here way berth)
@@ -417,6 +420,7 @@ berth_tells plan b n m here pair way berth is e =
     (occupied_tells plan b m _
     (stands_one plan b n m here pair berth.place is ((is_sound plan b n m here pair is).berth way berth e).place))
 
+-- what clearing a portion away is refused with tells what is there
 pub clear_portion_tells : (plan : PlanFields) (b m : ℕ) (o : Option ℕ) → MayTell plan b m (clear_portion_refusal o)
 unfolding IsTold
 clear_portion_tells plan b m None = tt
@@ -432,9 +436,9 @@ winding_tells plan b m (Some ready_at) = tt
 normal_tells : (plan : PlanFields) (b m : ℕ) (position : Position) → MayTell plan b m (normal_refusal position)
 unfolding IsTold
 normal_tells plan b m shows.Normal = tt
-normal_tells plan b m shows.LineClear = tt
-normal_tells plan b m shows.TrainOnLine = tt
+normal_tells plan b m position = tt
 
+-- what winding is refused with tells what is there
 pub wind_tells : (plan : PlanFields) (b m : ℕ) (line : Incoming) → MayTell plan b m (wind_refusal line)
 wind_tells plan b m line =
     or_tells (IsTold plan b m) _ _ (winding_tells plan b m line.ready_at) (normal_tells plan b m line.position)
@@ -445,6 +449,7 @@ unfolding IsTold
 soon_tells plan b m true ready_at h = h
 soon_tells plan b m false ready_at h = tt
 
+-- what a release is refused with tells what is there
 pub release_tells : (plan : PlanFields) (b m moment : ℕ) (o : Option ℕ) → IfSome o (IsReadyMoment plan)
     → MayTell plan b m (release_refusal moment o)
 unfolding IsTold

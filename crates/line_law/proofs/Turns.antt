@@ -58,6 +58,7 @@ pub starts_at : (plan : PlanFields) (b : ℕ) → (box_at (opening_state plan) b
 unfolding opening_state
 starts_at plan b = opening_moment _ plan.boxes b
 
+-- the calls of a box in a legal history may be made in turn
 pub calls_in_turn : (plan : PlanFields) (es : List Entry) (b : ℕ) → IsPlan plan → IsLegal plan es
     → AreCalls plan b 0 (calls_of b es)
 calls_in_turn plan es b is h =

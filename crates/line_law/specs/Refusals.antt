@@ -1,5 +1,5 @@
 -- Which replies are refusals, and what a refused call leaves.
-use Rattle.std.specs.Prelude.{ℕ, Bool, true, false, not, slice_set}
+use Rattle.std.specs.Prelude.{ℕ, Bool, true, false, ◌&&◌, not, slice_set}
 use Rattle.block_words.specs.declared.Way.{Way}
 use Rattle.line_law.specs.declared.call.Call.{Call}
 use Rattle.line_law.specs.declared.call.Reply.{Reply}
@@ -35,32 +35,21 @@ is_success reply = false
 abbrev pub is_refused : Reply → Bool
 is_refused reply = not (is_success reply)
 
--- a refusal by the state of the box alone, whatever it shares with its neighbours
+-- a refusal by the bell, the instrument or the plain line that the call reaches
+abbrev pub is_refused_there : Reply → Bool
+is_refused_there (replies.BellBusy code k) = true
+is_refused_there (replies.Silent k) = true
+is_refused_there (replies.BellNotYet shown k) = true
+is_refused_there (replies.BlockNotYet shown v) = true
+is_refused_there (replies.HeldByInstrument way shown spent v) = true
+is_refused_there (replies.SectionFull k) = true
+is_refused_there (replies.TrainNotYet j) = true
+is_refused_there (replies.NoTrainAt j) = true
+is_refused_there reply = false
+
+-- every other refusal is one by the state of the box alone, whatever it shares with its neighbours
 abbrev pub is_refused_here : Reply → Bool
-is_refused_here replies.AlreadyThere = true
-is_refused_here replies.NotFromNormal = true
-is_refused_here (replies.HomeReversed lever) = true
-is_refused_here (replies.TrackOccupied place train) = true
-is_refused_here (replies.WelwynHolds state) = true
-is_refused_here (replies.CountFull out) = true
-is_refused_here replies.AlreadyReversed = true
-is_refused_here replies.Spare = true
-is_refused_here (replies.HeldByLever lever row) = true
-is_refused_here (replies.HeldByTrack place train) = true
-is_refused_here replies.AlreadyNormal = true
-is_refused_here replies.AlreadyBrought = true
-is_refused_here (replies.Occupied place train) = true
-is_refused_here replies.NoTrain = true
-is_refused_here replies.AtDanger = true
-is_refused_here replies.ArmOff = true
-is_refused_here (replies.BerthOccupied train) = true
-is_refused_here (replies.PortionAhead train) = true
-is_refused_here replies.NoPortion = true
-is_refused_here replies.AlreadyWinding = true
-is_refused_here replies.NotAtNormal = true
-is_refused_here replies.NotWinding = true
-is_refused_here (replies.TooSoon ready_at) = true
-is_refused_here reply = false
+is_refused_here reply = is_refused reply && not (is_refused_there reply)
 
 -- ---- a line after a refused call
 

@@ -1,5 +1,5 @@
 -- When two replies are the same: they are of one kind, and tell the same numbers.
-use Rattle.std.specs.Prelude.{ℕ, ◌+◌, List, [], ◌∷◌, Bool, true, false, ◌&&◌, ◌==◌, Option, Some, None, nat_eq}
+use Rattle.std.specs.Prelude.{ℕ, ◌+◌, List, [], ◌∷◌, Bool, true, false, Option, Some, None, nat_eq}
 use Rattle.std.specs.Cmp.Lexicographic.{pointwise}
 use Rattle.block_words.specs.Instruments.{position_code}
 use Rattle.block_words.specs.declared.Way.{Way}
@@ -39,107 +39,57 @@ abbrev pub shown_code : Option ℕ → ℕ
 shown_code None = 0
 shown_code (Some code) = code + 1
 
--- which of the replies it is, numbered in their order from 0
-abbrev pub reply_no : Reply → ℕ
-reply_no (Rung k) = 0
-reply_no (BellBusy code k) = 1
-reply_no (Heard code k) = 2
-reply_no (Silent k) = 3
-reply_no (BellNotYet shown k) = 4
-reply_no (Turned v) = 5
-reply_no AlreadyThere = 6
-reply_no NotFromNormal = 7
-reply_no (HomeReversed lever) = 8
-reply_no (TrackOccupied place train) = 9
-reply_no (WelwynHolds state) = 10
-reply_no (CountFull out) = 11
-reply_no (Seen v) = 12
-reply_no (BlockNotYet shown v) = 13
-reply_no Pulled = 14
-reply_no (PulledUnder v) = 15
-reply_no AlreadyReversed = 16
-reply_no Spare = 17
-reply_no (HeldByLever lever row) = 18
-reply_no (HeldByTrack place train) = 19
-reply_no (HeldByInstrument way shown spent v) = 20
-reply_no Put = 21
-reply_no AlreadyNormal = 22
-reply_no Brought = 23
-reply_no AlreadyBrought = 24
-reply_no (Occupied place train) = 25
-reply_no (Passed train) = 26
-reply_no (Entered train k) = 27
-reply_no NoTrain = 28
-reply_no AtDanger = 29
-reply_no ArmOff = 30
-reply_no (SectionFull k) = 31
-reply_no (Approaching train j) = 32
-reply_no (TrainNotYet j) = 33
-reply_no (Berthed train j) = 34
-reply_no (PartBerthed train j) = 35
-reply_no (NoTrainAt j) = 36
-reply_no (BerthOccupied train) = 37
-reply_no (PortionAhead train) = 38
-reply_no (Cleared train j) = 39
-reply_no NoPortion = 40
-reply_no (Winding ready_at) = 41
-reply_no AlreadyWinding = 42
-reply_no NotAtNormal = 43
-reply_no Released = 44
-reply_no NotWinding = 45
-reply_no (TooSoon ready_at) = 46
-
--- the numbers that a reply tells, in its order, with 0 for each that it tells less than four
-abbrev pub numbers_told : Reply → List ℕ
-numbers_told (Rung k) = k ∷ 0 ∷ 0 ∷ 0 ∷ []
-numbers_told (BellBusy code k) = k ∷ code ∷ 0 ∷ 0 ∷ []
-numbers_told (Heard code k) = k ∷ code ∷ 0 ∷ 0 ∷ []
-numbers_told (Silent k) = k ∷ 0 ∷ 0 ∷ 0 ∷ []
-numbers_told (BellNotYet shown k) = k ∷ shown_code shown ∷ 0 ∷ 0 ∷ []
-numbers_told (Turned v) = v ∷ 0 ∷ 0 ∷ 0 ∷ []
-numbers_told AlreadyThere = 0 ∷ 0 ∷ 0 ∷ 0 ∷ []
-numbers_told NotFromNormal = 0 ∷ 0 ∷ 0 ∷ 0 ∷ []
-numbers_told (HomeReversed lever) = lever ∷ 0 ∷ 0 ∷ 0 ∷ []
-numbers_told (TrackOccupied place train) = place ∷ train ∷ 0 ∷ 0 ∷ []
-numbers_told (WelwynHolds state) = welwyn_number state ∷ 0 ∷ 0 ∷ 0 ∷ []
-numbers_told (CountFull out) = out ∷ 0 ∷ 0 ∷ 0 ∷ []
-numbers_told (Seen v) = v ∷ 0 ∷ 0 ∷ 0 ∷ []
-numbers_told (BlockNotYet shown v) = v ∷ position_code shown ∷ 0 ∷ 0 ∷ []
-numbers_told Pulled = 0 ∷ 0 ∷ 0 ∷ 0 ∷ []
-numbers_told (PulledUnder v) = v ∷ 0 ∷ 0 ∷ 0 ∷ []
-numbers_told AlreadyReversed = 0 ∷ 0 ∷ 0 ∷ 0 ∷ []
-numbers_told Spare = 0 ∷ 0 ∷ 0 ∷ 0 ∷ []
-numbers_told (HeldByLever lever row) = lever ∷ row ∷ 0 ∷ 0 ∷ []
-numbers_told (HeldByTrack place train) = place ∷ train ∷ 0 ∷ 0 ∷ []
-numbers_told (HeldByInstrument way shown spent v) = way_number way ∷ v ∷ position_code shown ∷ mark_number spent ∷ []
-numbers_told Put = 0 ∷ 0 ∷ 0 ∷ 0 ∷ []
-numbers_told AlreadyNormal = 0 ∷ 0 ∷ 0 ∷ 0 ∷ []
-numbers_told Brought = 0 ∷ 0 ∷ 0 ∷ 0 ∷ []
-numbers_told AlreadyBrought = 0 ∷ 0 ∷ 0 ∷ 0 ∷ []
-numbers_told (Occupied place train) = place ∷ train ∷ 0 ∷ 0 ∷ []
-numbers_told (Passed train) = train ∷ 0 ∷ 0 ∷ 0 ∷ []
-numbers_told (Entered train k) = k ∷ train ∷ 0 ∷ 0 ∷ []
-numbers_told NoTrain = 0 ∷ 0 ∷ 0 ∷ 0 ∷ []
-numbers_told AtDanger = 0 ∷ 0 ∷ 0 ∷ 0 ∷ []
-numbers_told ArmOff = 0 ∷ 0 ∷ 0 ∷ 0 ∷ []
-numbers_told (SectionFull k) = k ∷ 0 ∷ 0 ∷ 0 ∷ []
-numbers_told (Approaching train j) = j ∷ train ∷ 0 ∷ 0 ∷ []
-numbers_told (TrainNotYet j) = j ∷ 0 ∷ 0 ∷ 0 ∷ []
-numbers_told (Berthed train j) = j ∷ train ∷ 0 ∷ 0 ∷ []
-numbers_told (PartBerthed train j) = j ∷ train ∷ 0 ∷ 0 ∷ []
-numbers_told (NoTrainAt j) = j ∷ 0 ∷ 0 ∷ 0 ∷ []
-numbers_told (BerthOccupied train) = train ∷ 0 ∷ 0 ∷ 0 ∷ []
-numbers_told (PortionAhead train) = train ∷ 0 ∷ 0 ∷ 0 ∷ []
-numbers_told (Cleared train j) = j ∷ train ∷ 0 ∷ 0 ∷ []
-numbers_told NoPortion = 0 ∷ 0 ∷ 0 ∷ 0 ∷ []
-numbers_told (Winding ready_at) = ready_at ∷ 0 ∷ 0 ∷ 0 ∷ []
-numbers_told AlreadyWinding = 0 ∷ 0 ∷ 0 ∷ 0 ∷ []
-numbers_told NotAtNormal = 0 ∷ 0 ∷ 0 ∷ 0 ∷ []
-numbers_told Released = 0 ∷ 0 ∷ 0 ∷ 0 ∷ []
-numbers_told NotWinding = 0 ∷ 0 ∷ 0 ∷ 0 ∷ []
-numbers_told (TooSoon ready_at) = ready_at ∷ 0 ∷ 0 ∷ 0 ∷ []
+-- which of the replies it is, numbered in their order from 0; then the numbers that it tells, in its order, with 0 for
+-- each that it tells less than four
+abbrev pub reply_numbers : Reply → List ℕ
+reply_numbers (Rung k) = 0 ∷ k ∷ 0 ∷ 0 ∷ 0 ∷ []
+reply_numbers (BellBusy code k) = 1 ∷ k ∷ code ∷ 0 ∷ 0 ∷ []
+reply_numbers (Heard code k) = 2 ∷ k ∷ code ∷ 0 ∷ 0 ∷ []
+reply_numbers (Silent k) = 3 ∷ k ∷ 0 ∷ 0 ∷ 0 ∷ []
+reply_numbers (BellNotYet shown k) = 4 ∷ k ∷ shown_code shown ∷ 0 ∷ 0 ∷ []
+reply_numbers (Turned v) = 5 ∷ v ∷ 0 ∷ 0 ∷ 0 ∷ []
+reply_numbers AlreadyThere = 6 ∷ 0 ∷ 0 ∷ 0 ∷ 0 ∷ []
+reply_numbers NotFromNormal = 7 ∷ 0 ∷ 0 ∷ 0 ∷ 0 ∷ []
+reply_numbers (HomeReversed lever) = 8 ∷ lever ∷ 0 ∷ 0 ∷ 0 ∷ []
+reply_numbers (TrackOccupied place train) = 9 ∷ place ∷ train ∷ 0 ∷ 0 ∷ []
+reply_numbers (WelwynHolds state) = 10 ∷ welwyn_number state ∷ 0 ∷ 0 ∷ 0 ∷ []
+reply_numbers (CountFull out) = 11 ∷ out ∷ 0 ∷ 0 ∷ 0 ∷ []
+reply_numbers (Seen v) = 12 ∷ v ∷ 0 ∷ 0 ∷ 0 ∷ []
+reply_numbers (BlockNotYet shown v) = 13 ∷ v ∷ position_code shown ∷ 0 ∷ 0 ∷ []
+reply_numbers Pulled = 14 ∷ 0 ∷ 0 ∷ 0 ∷ 0 ∷ []
+reply_numbers (PulledUnder v) = 15 ∷ v ∷ 0 ∷ 0 ∷ 0 ∷ []
+reply_numbers AlreadyReversed = 16 ∷ 0 ∷ 0 ∷ 0 ∷ 0 ∷ []
+reply_numbers Spare = 17 ∷ 0 ∷ 0 ∷ 0 ∷ 0 ∷ []
+reply_numbers (HeldByLever lever row) = 18 ∷ lever ∷ row ∷ 0 ∷ 0 ∷ []
+reply_numbers (HeldByTrack place train) = 19 ∷ place ∷ train ∷ 0 ∷ 0 ∷ []
+reply_numbers (HeldByInstrument way shown spent v) = 20 ∷ way_number way ∷ v ∷ position_code shown ∷ mark_number spent ∷ []
+reply_numbers Put = 21 ∷ 0 ∷ 0 ∷ 0 ∷ 0 ∷ []
+reply_numbers AlreadyNormal = 22 ∷ 0 ∷ 0 ∷ 0 ∷ 0 ∷ []
+reply_numbers Brought = 23 ∷ 0 ∷ 0 ∷ 0 ∷ 0 ∷ []
+reply_numbers AlreadyBrought = 24 ∷ 0 ∷ 0 ∷ 0 ∷ 0 ∷ []
+reply_numbers (Occupied place train) = 25 ∷ place ∷ train ∷ 0 ∷ 0 ∷ []
+reply_numbers (Passed train) = 26 ∷ train ∷ 0 ∷ 0 ∷ 0 ∷ []
+reply_numbers (Entered train k) = 27 ∷ k ∷ train ∷ 0 ∷ 0 ∷ []
+reply_numbers NoTrain = 28 ∷ 0 ∷ 0 ∷ 0 ∷ 0 ∷ []
+reply_numbers AtDanger = 29 ∷ 0 ∷ 0 ∷ 0 ∷ 0 ∷ []
+reply_numbers ArmOff = 30 ∷ 0 ∷ 0 ∷ 0 ∷ 0 ∷ []
+reply_numbers (SectionFull k) = 31 ∷ k ∷ 0 ∷ 0 ∷ 0 ∷ []
+reply_numbers (Approaching train j) = 32 ∷ j ∷ train ∷ 0 ∷ 0 ∷ []
+reply_numbers (TrainNotYet j) = 33 ∷ j ∷ 0 ∷ 0 ∷ 0 ∷ []
+reply_numbers (Berthed train j) = 34 ∷ j ∷ train ∷ 0 ∷ 0 ∷ []
+reply_numbers (PartBerthed train j) = 35 ∷ j ∷ train ∷ 0 ∷ 0 ∷ []
+reply_numbers (NoTrainAt j) = 36 ∷ j ∷ 0 ∷ 0 ∷ 0 ∷ []
+reply_numbers (BerthOccupied train) = 37 ∷ train ∷ 0 ∷ 0 ∷ 0 ∷ []
+reply_numbers (PortionAhead train) = 38 ∷ train ∷ 0 ∷ 0 ∷ 0 ∷ []
+reply_numbers (Cleared train j) = 39 ∷ j ∷ train ∷ 0 ∷ 0 ∷ []
+reply_numbers NoPortion = 40 ∷ 0 ∷ 0 ∷ 0 ∷ 0 ∷ []
+reply_numbers (Winding ready_at) = 41 ∷ ready_at ∷ 0 ∷ 0 ∷ 0 ∷ []
+reply_numbers AlreadyWinding = 42 ∷ 0 ∷ 0 ∷ 0 ∷ 0 ∷ []
+reply_numbers NotAtNormal = 43 ∷ 0 ∷ 0 ∷ 0 ∷ 0 ∷ []
+reply_numbers Released = 44 ∷ 0 ∷ 0 ∷ 0 ∷ 0 ∷ []
+reply_numbers NotWinding = 45 ∷ 0 ∷ 0 ∷ 0 ∷ 0 ∷ []
+reply_numbers (TooSoon ready_at) = 46 ∷ ready_at ∷ 0 ∷ 0 ∷ 0 ∷ []
 
 -- two replies are the same
 abbrev pub same_reply : Reply → Reply → Bool
-same_reply reply other =
-    (reply_no reply == reply_no other) && pointwise nat_eq (numbers_told reply) (numbers_told other)
+same_reply reply other = pointwise nat_eq (reply_numbers reply) (reply_numbers other)

@@ -32,14 +32,14 @@ HasRow plan b row = (1 ≤ row) × (row ≤ length (box_plan_of plan b).rows)
 -- a Welwyn state other than Ready holds the commutator
 abbrev pub HoldsBack : WelwynState → Type 0
 HoldsBack welwyn.Ready = ⊥
-HoldsBack welwyn.Given = Unit {0}
-HoldsBack welwyn.Berthed = Unit {0}
+HoldsBack state = Unit {0}
 
 -- a release may come by the plan's delay after the last moment of the day
 abbrev pub IsReadyMoment : PlanFields → ℕ → Type 0
 IsReadyMoment plan moment = moment < moments_of plan.version + plan.delay
 
--- what a reply tells at box b after so many calls on the line: no count is above the number of calls
+-- what a reply tells at box b after so many calls on the line: no count is above the number of calls; a reply that isn't
+-- listed tells nothing
 unfoldable pub IsTold : PlanFields → ℕ → ℕ → Reply → Type 0
 IsTold plan b calls (replies.Rung k) = k ≤ calls
 IsTold plan b calls (replies.BellBusy code k) = (k ≤ calls) × IsCode plan code
@@ -47,31 +47,19 @@ IsTold plan b calls (replies.Heard code k) = (k ≤ calls) × IsCode plan code
 IsTold plan b calls (replies.Silent k) = k ≤ calls
 IsTold plan b calls (replies.BellNotYet shown k) = (k ≤ calls) × IfSome shown (IsCode plan)
 IsTold plan b calls (replies.Turned v) = v ≤ calls
-IsTold plan b calls replies.AlreadyThere = Unit {0}
-IsTold plan b calls replies.NotFromNormal = Unit {0}
 IsTold plan b calls (replies.HomeReversed lever) = HasLever plan b lever
 IsTold plan b calls (replies.TrackOccupied place train) = IsStand plan b place train
 IsTold plan b calls (replies.WelwynHolds state) = HoldsBack state
 IsTold plan b calls (replies.CountFull out) = out ≤ 3
 IsTold plan b calls (replies.Seen v) = v ≤ calls
 IsTold plan b calls (replies.BlockNotYet shown v) = v ≤ calls
-IsTold plan b calls replies.Pulled = Unit {0}
 IsTold plan b calls (replies.PulledUnder v) = v ≤ calls
-IsTold plan b calls replies.AlreadyReversed = Unit {0}
-IsTold plan b calls replies.Spare = Unit {0}
 IsTold plan b calls (replies.HeldByLever lever row) = HasLever plan b lever × HasRow plan b row
 IsTold plan b calls (replies.HeldByTrack place train) = IsStand plan b place train
 IsTold plan b calls (replies.HeldByInstrument way shown spent v) = v ≤ calls
-IsTold plan b calls replies.Put = Unit {0}
-IsTold plan b calls replies.AlreadyNormal = Unit {0}
-IsTold plan b calls replies.Brought = Unit {0}
-IsTold plan b calls replies.AlreadyBrought = Unit {0}
 IsTold plan b calls (replies.Occupied place train) = IsStand plan b place train
 IsTold plan b calls (replies.Passed train) = IsOne plan train
 IsTold plan b calls (replies.Entered train k) = (k ≤ calls) × IsOne plan train
-IsTold plan b calls replies.NoTrain = Unit {0}
-IsTold plan b calls replies.AtDanger = Unit {0}
-IsTold plan b calls replies.ArmOff = Unit {0}
 IsTold plan b calls (replies.SectionFull k) = k ≤ calls
 IsTold plan b calls (replies.Approaching train j) = (j ≤ calls) × IsOne plan train
 IsTold plan b calls (replies.TrainNotYet j) = j ≤ calls
@@ -81,10 +69,6 @@ IsTold plan b calls (replies.NoTrainAt j) = j ≤ calls
 IsTold plan b calls (replies.BerthOccupied train) = IsOne plan train
 IsTold plan b calls (replies.PortionAhead train) = IsOne plan train
 IsTold plan b calls (replies.Cleared train j) = (j ≤ calls) × IsOne plan train
-IsTold plan b calls replies.NoPortion = Unit {0}
 IsTold plan b calls (replies.Winding ready_at) = IsReadyMoment plan ready_at
-IsTold plan b calls replies.AlreadyWinding = Unit {0}
-IsTold plan b calls replies.NotAtNormal = Unit {0}
-IsTold plan b calls replies.Released = Unit {0}
-IsTold plan b calls replies.NotWinding = Unit {0}
 IsTold plan b calls (replies.TooSoon ready_at) = IsReadyMoment plan ready_at
+IsTold plan b calls reply = Unit {0}
