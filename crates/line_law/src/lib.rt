@@ -34,7 +34,7 @@ pub use laws::{
 };
 pub use levers::{first_reversed, starter_way};
 pub use link::Link;
-pub use plain::Plain;
+pub use plain::{Plain, open_pairs};
 pub use plain_line::PlainLine;
 pub use refusals::{is_refused, refusal_law};
 pub use reply_laws::replies_law;

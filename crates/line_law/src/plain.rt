@@ -52,8 +52,8 @@ fn open_boxes(alloc: Global, boxes: &[BoxPlan], trains: usize) -> Result<Vec<Box
     Ok(opened)
 }
 
-// So many pairs of a line that opens.
-fn open_pairs(alloc: Global, count: usize) -> Result<Vec<PairState>, NoMemory>
+/// So many pairs of a line that opens. The error is want of memory.
+pub fn open_pairs(alloc: Global, count: usize) -> Result<Vec<PairState>, NoMemory>
     ensures { IfOk result (λ pairs. pairs.items ≡ replicate count opening_pair) }
 {
     let mut pairs = Vec::new(alloc);
