@@ -55,39 +55,6 @@ impl BoxState {
         }
     }
 
-    // What a pull is answered.
-    fn pull_reply(&self, pair: &PairState, plan: &BoxPlan, lever: u32) -> Reply
-        requires sound { IsSound plan.now }
-        requires frame { HasFrame plan.now self.now }
-        requires lever { IsLever (frame_size plan.now.levers) lever }
-        requires rows { RowsHold plan.now self.now }
-        ensures { (moment : ℕ) → (on_pair (way_of (lever_link plan.now lever))
-            (pull plan.now (at_moment self.now moment) lever) pair.now).reply ≡ result }
-    {
-        if let Some(reply) = self.steady_pull_refusal(plan, lever) {
-            return reply;
-        }
-        let Some(way) = starter_way(plan.signal(lever)) else {
-            return Reply::Pulled;
-        };
-        pair.blocks.get(way).pull_reply(way)
-    }
-
-    // What putting a lever back is answered.
-    fn put_reply(&self, plan: &BoxPlan, lever: u32) -> Reply
-        requires sound { IsSound plan.now }
-        requires frame { HasFrame plan.now self.now }
-        requires lever { IsLever (frame_size plan.now.levers) lever }
-        requires rows { RowsHold plan.now self.now }
-        ensures { (moment : ℕ) (way : Way) (pair : PairState)
-            → (on_pair way (put plan.now (at_moment self.now moment) lever) pair).reply ≡ result }
-    {
-        if let Some(reply) = self.steady_put_refusal(plan, lever) {
-            return reply;
-        }
-        Reply::Put
-    }
-
     // What a train is answered that enters a section.
     fn enter_reply(
         &self,
@@ -183,19 +150,6 @@ impl BoxState {
         }
     }
 
-    // What a look for the next train is answered.
-    fn train_reply(&self, pair: &PairState, way: Way) -> Reply
-        requires few { (way : Way) → (of_way self.now.incoming way).taken < 2 ^ 32 }
-        ensures { (moment : ℕ)
-            → (on_pair way (OnPlainLine (await_train (at_moment self.now moment) way)) pair.now).reply ≡ result }
-    {
-        let j = self.next_number(way);
-        match pair.plain_line(way).first_train(j) {
-            Some(train) => Reply::Approaching { j, train },
-            None => Reply::TrainNotYet { j },
-        }
-    }
-
     // What a train is answered that comes whole into the berth.
     fn berth_reply(&self, pair: &PairState, berth: &Berth, way: Way) -> Reply
         requires place { berth.now.place < length self.now.places }
@@ -267,8 +221,8 @@ fn answer_at(
             None => Reply::AlreadyThere,
         },
         Act::AwaitBlock { way, position } => pair.look_block(way, position),
-        Act::Pull { lever } => here.pull_reply(pair, box_plan, lever),
-        Act::Put { lever } => here.put_reply(box_plan, lever),
+        Act::Pull { lever } => here.pull_reply(pair, box_plan, lever, true),
+        Act::Put { lever } => here.put_reply(box_plan, lever, true),
         Act::Bring { train } => {
             match here.bring_refusal(train, plan.train(train).place) {
                 Some(reply) => reply,
@@ -277,7 +231,7 @@ fn answer_at(
         }
         Act::Pass { lever } => here.pass_lever_reply(pair, box_plan, lever),
         Act::Overrun { lever } => here.overrun_lever_reply(pair, box_plan, lever),
-        Act::AwaitTrain { way } => here.train_reply(pair, way),
+        Act::AwaitTrain { way } => here.look_plain_line(pair, way),
         Act::Berth { way } => match box_plan.berth(way) {
             Some(berth) => here.berth_reply(pair, berth, way),
             None => Reply::BerthOccupied { train: 0 },

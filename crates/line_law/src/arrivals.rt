@@ -38,27 +38,16 @@ impl BoxState {
         self.incoming.get(way).taken + 1
     }
 
-    /// What a look for the next train is answered; nothing changes.
-    pub fn await_train(&self, line: &PlainLine, way: Way) -> Reply
-        requires { (of_way self.now.incoming way).taken < 2 ^ 32 }
-        ensures { await_train self.now way line.now ≡ record { reply = result; here = self.now; word = line.now } }
-    {
-        let j = self.next_number(way);
-        match line.first_train(j) {
-            Some(train) => Reply::Approaching { j, train },
-            None => Reply::TrainNotYet { j },
-        }
-    }
-
     /// What a look for the next train on the plain line of a way is answered; nothing changes.
     pub fn look_plain_line(&self, pair: &PairState, way: Way) -> Reply
         requires { (way : Way) → (of_way self.now.incoming way).taken < 2 ^ 32 }
         ensures { on_pair way (OnPlainLine (await_train self.now way)) pair.now
             ≡ record { reply = result; here = self.now; word = pair.now } }
     {
-        match way {
-            Way::Up => self.await_train(&pair.lines.up, Way::Up),
-            Way::Down => self.await_train(&pair.lines.down, Way::Down),
+        let j = self.next_number(way);
+        match pair.plain_line(way).first_train(j) {
+            Some(train) => Reply::Approaching { j, train },
+            None => Reply::TrainNotYet { j },
         }
     }
 

@@ -60,33 +60,21 @@ impl Bell {
 }
 
 impl BoxState {
-    // Rings a code towards a side on this bell, where no code stands unheard.
-    fn ring_bell(&mut self, bell: &mut Bell, side: Way, code: CodeNo) -> Reply
-        requires { bell.old.count < 2 ^ 32 }
-        ensures { ring self.old side code bell.old ≡ record { reply = result; here = self.new; word = bell.new } }
-    {
-        if let Some(unheard) = bell.unheard {
-            return Reply::BellBusy {
-                k: bell.count,
-                code: unheard,
-            };
-        }
-        let k = bell.count + 1;
-        bell.count = k;
-        bell.unheard = Some(code);
-        self.rung.set(side, k);
-        Reply::Rung { k }
-    }
-
     /// Rings a code towards a side.
     pub fn ring(&mut self, pair: &mut PairState, side: Way, code: CodeNo) -> Reply
         requires { (way : Way) → (of_way pair.old.bells way).count < 2 ^ 32 }
         ensures { on_pair side (OnBell (ring self.old side code)) pair.old
             ≡ record { reply = result; here = self.new; word = pair.new } }
     {
-        let mut bell = pair.bells.get(side);
-        let reply = self.ring_bell(&mut bell, side, code);
-        pair.bells.set(side, bell);
+        let reply = pair.bells.get(side).ring_reply();
+        if let Reply::Rung { k } = reply {
+            let bell = Bell {
+                count: k,
+                unheard: Some(code),
+            };
+            pair.bells.set(side, bell);
+            self.rung.set(side, k);
+        }
         reply
     }
 }

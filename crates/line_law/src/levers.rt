@@ -1,11 +1,14 @@
 //! Where the levers stand; pulling a lever, and putting it back.
 
-ghost use Rattle.std.specs.Prelude.{◌≡◌, ◌<◌, All, length, option_map};
+ghost use Rattle.std.specs.Prelude.{◌≡◌, ◌<◌, ℕ, All, IsTrue, length, option_map};
+ghost use Rattle.block_words.specs.declared.Way.{Way};
 ghost use Rattle.locking_table.specs.Meaning.{holder_of};
 ghost use Rattle.locking_table.specs.Places.{IsLever};
 ghost use Rattle.line_plan.specs.Frames.{BoxFields, frame_size, leads_to};
 ghost use Rattle.line_law.specs.declared.state.BoxState.{BoxState};
+ghost use Rattle.line_law.specs.declared.state.PairState.{PairState};
 ghost use Rattle.line_law.specs.Decisions.{Here, on_pair, or_later};
+ghost use Rattle.line_law.specs.Law.{at_moment};
 ghost use Rattle.line_law.specs.LeverEnds.{first_reversed};
 ghost use Rattle.line_law.specs.Levers.{is_unspent_clear, lever_link, lock_refusal, pull, pull_refusal, pulled};
 ghost use Rattle.line_law.specs.Levers.{pulled_under, put, put_back, put_refusal, starter_way};
@@ -69,15 +72,31 @@ impl Block {
 }
 
 impl BoxState {
-    // What keeps a lever where it stands: the row that holds it, or a train on a place that locks it.
-    fn lock_refusal(&self, plan: &BoxPlan, lever: u32, holder: Option<Holder>) -> Option<Reply>
+    // The row that holds a lever. Where every row holds, only those that may hold the lever are read.
+    fn holder(&self, plan: &BoxPlan, lever: u32, steady: bool) -> Option<Holder>
         requires sound { IsSound plan.now }
         requires frame { HasFrame plan.now self.now }
         requires lever { IsLever (frame_size plan.now.levers) lever }
-        requires holder { holder ≡ holder_of self.now.ends lever plan.now.rows }
+        requires rows { IsTrue steady → RowsHold plan.now self.now }
+        ensures { result ≡ holder_of self.now.ends lever plan.now.rows }
+    {
+        if steady {
+            plan.table
+                .holder_among_its_rows(self.ends.as_slice(), lever)
+        } else {
+            plan.table.named_holder(self.ends.as_slice(), lever)
+        }
+    }
+
+    // What keeps a lever where it stands: the row that holds it, or a train on a place that locks it.
+    fn lock_refusal(&self, plan: &BoxPlan, lever: u32, steady: bool) -> Option<Reply>
+        requires sound { IsSound plan.now }
+        requires frame { HasFrame plan.now self.now }
+        requires lever { IsLever (frame_size plan.now.levers) lever }
+        requires rows { IsTrue steady → RowsHold plan.now self.now }
         ensures { result ≡ lock_refusal plan.now self.now lever }
     {
-        if let Some(holder) = holder {
+        if let Some(holder) = self.holder(plan, lever, steady) {
             return Some(Reply::HeldByLever {
                 lever: holder.lever,
                 row: holder.row,
@@ -116,66 +135,32 @@ impl BoxState {
         None
     }
 
-    /// What a pull is refused for in the box.
-    pub fn pull_refusal(&self, plan: &BoxPlan, lever: u32) -> Option<Reply>
+    // What a pull is refused for in the box; steady where every row holds.
+    fn pull_refusal(&self, plan: &BoxPlan, lever: u32, steady: bool) -> Option<Reply>
         requires sound { IsSound plan.now }
         requires frame { HasFrame plan.now self.now }
         requires lever { IsLever (frame_size plan.now.levers) lever }
+        requires rows { IsTrue steady → RowsHold plan.now self.now }
         ensures { result ≡ pull_refusal plan.now self.now lever }
     {
         if let Some(reply) = self.needless_pull(plan, lever) {
             return Some(reply);
         }
-        let holder = plan.table.named_holder(self.ends.as_slice(), lever);
-        self.lock_refusal(plan, lever, holder)
+        self.lock_refusal(plan, lever, steady)
     }
 
-    /// What putting a lever back is refused for.
-    pub fn put_refusal(&self, plan: &BoxPlan, lever: u32) -> Option<Reply>
+    // What putting a lever back is refused for; steady where every row holds.
+    fn put_refusal(&self, plan: &BoxPlan, lever: u32, steady: bool) -> Option<Reply>
         requires sound { IsSound plan.now }
         requires frame { HasFrame plan.now self.now }
         requires lever { IsLever (frame_size plan.now.levers) lever }
+        requires rows { IsTrue steady → RowsHold plan.now self.now }
         ensures { result ≡ put_refusal plan.now self.now lever }
     {
         if let Some(reply) = self.needless_put(lever) {
             return Some(reply);
         }
-        let holder = plan.table.named_holder(self.ends.as_slice(), lever);
-        self.lock_refusal(plan, lever, holder)
-    }
-
-    /// What a pull is refused for, where every row holds: only the rows that may hold the lever are read.
-    pub(crate) fn steady_pull_refusal(&self, plan: &BoxPlan, lever: u32) -> Option<Reply>
-        requires sound { IsSound plan.now }
-        requires frame { HasFrame plan.now self.now }
-        requires lever { IsLever (frame_size plan.now.levers) lever }
-        requires rows { RowsHold plan.now self.now }
-        ensures { result ≡ pull_refusal plan.now self.now lever }
-    {
-        if let Some(reply) = self.needless_pull(plan, lever) {
-            return Some(reply);
-        }
-        let holder = plan
-            .table
-            .holder_among_its_rows(self.ends.as_slice(), lever);
-        self.lock_refusal(plan, lever, holder)
-    }
-
-    /// What putting a lever back is refused for, where every row holds: only the rows that may hold the lever are read.
-    pub(crate) fn steady_put_refusal(&self, plan: &BoxPlan, lever: u32) -> Option<Reply>
-        requires sound { IsSound plan.now }
-        requires frame { HasFrame plan.now self.now }
-        requires lever { IsLever (frame_size plan.now.levers) lever }
-        requires rows { RowsHold plan.now self.now }
-        ensures { result ≡ put_refusal plan.now self.now lever }
-    {
-        if let Some(reply) = self.needless_put(lever) {
-            return Some(reply);
-        }
-        let holder = plan
-            .table
-            .holder_among_its_rows(self.ends.as_slice(), lever);
-        self.lock_refusal(plan, lever, holder)
+        self.lock_refusal(plan, lever, steady)
     }
 
     /// Reverses a lever, and lets its arm go off if it has one.
@@ -190,23 +175,46 @@ impl BoxState {
         }
     }
 
-    // Pulls a lever, unless that is refused in the box; the pull of a starter reaches its instrument, and leaves it
-    // spent.
-    fn pull_unless(
+    /// What a pull is answered; steady where every row holds.
+    pub(crate) fn pull_reply(
+        &self,
+        pair: &PairState,
+        plan: &BoxPlan,
+        lever: u32,
+        steady: bool,
+    ) -> Reply
+        requires sound { IsSound plan.now }
+        requires frame { HasFrame plan.now self.now }
+        requires lever { IsLever (frame_size plan.now.levers) lever }
+        requires rows { IsTrue steady → RowsHold plan.now self.now }
+        ensures { (moment : ℕ) → (on_pair (way_of (lever_link plan.now lever))
+            (pull plan.now (at_moment self.now moment) lever) pair.now).reply ≡ result }
+    {
+        if let Some(reply) = self.pull_refusal(plan, lever, steady) {
+            return reply;
+        }
+        let Some(way) = starter_way(plan.signal(lever)) else {
+            return Reply::Pulled;
+        };
+        pair.blocks.get(way).pull_reply(way)
+    }
+
+    /// Pulls a lever; the pull of a starter reaches its instrument, and leaves it spent. Steady where every row holds.
+    pub(crate) fn pull(
         &mut self,
-        refusal: Option<Reply>,
         pair: &mut PairState,
         plan: &BoxPlan,
         lever: u32,
+        steady: bool,
     ) -> Reply
         requires sound { IsSound plan.now }
         requires frame { HasFrame plan.now self.old }
         requires lever { IsLever (frame_size plan.now.levers) lever }
-        requires refusal { refusal ≡ pull_refusal plan.now self.old lever }
+        requires rows { IsTrue steady → RowsHold plan.now self.old }
         ensures { on_pair (way_of (lever_link plan.now lever)) (pull plan.now self.old lever) pair.old
             ≡ record { reply = result; here = self.new; word = pair.new } }
     {
-        if let Some(reply) = refusal {
+        if let Some(reply) = self.pull_refusal(plan, lever, steady) {
             return reply;
         }
         let signal = plan.signal(lever);
@@ -228,66 +236,34 @@ impl BoxState {
         block.pull_reply(way)
     }
 
-    // Puts a lever back with its arm at danger, unless that is refused.
-    fn put_unless(&mut self, refusal: Option<Reply>, plan: &BoxPlan, lever: u32) -> Reply
+    /// What putting a lever back is answered; steady where every row holds.
+    pub(crate) fn put_reply(&self, plan: &BoxPlan, lever: u32, steady: bool) -> Reply
+        requires sound { IsSound plan.now }
+        requires frame { HasFrame plan.now self.now }
+        requires lever { IsLever (frame_size plan.now.levers) lever }
+        requires rows { IsTrue steady → RowsHold plan.now self.now }
+        ensures { (moment : ℕ) (way : Way) (pair : PairState)
+            → (on_pair way (put plan.now (at_moment self.now moment) lever) pair).reply ≡ result }
+    {
+        if let Some(reply) = self.put_refusal(plan, lever, steady) {
+            return reply;
+        }
+        Reply::Put
+    }
+
+    /// Puts a lever back, with its arm at danger. Steady where every row holds.
+    pub(crate) fn put(&mut self, plan: &BoxPlan, lever: u32, steady: bool) -> Reply
+        requires sound { IsSound plan.now }
         requires frame { HasFrame plan.now self.old }
         requires lever { IsLever (frame_size plan.now.levers) lever }
-        requires refusal { refusal ≡ put_refusal plan.now self.old lever }
+        requires rows { IsTrue steady → RowsHold plan.now self.old }
         ensures { put plan.now self.old lever ≡ Here result self.new }
     {
-        if let Some(reply) = refusal {
+        if let Some(reply) = self.put_refusal(plan, lever, steady) {
             return reply;
         }
         self.ends.set(lever as usize - 1, End::Normal);
         self.off.set(lever as usize - 1, false);
         Reply::Put
-    }
-
-    /// Pulls a lever; the pull of a starter reaches its instrument, and leaves it spent.
-    pub fn pull(&mut self, pair: &mut PairState, plan: &BoxPlan, lever: u32) -> Reply
-        requires sound { IsSound plan.now }
-        requires frame { HasFrame plan.now self.old }
-        requires lever { IsLever (frame_size plan.now.levers) lever }
-        ensures { on_pair (way_of (lever_link plan.now lever)) (pull plan.now self.old lever) pair.old
-            ≡ record { reply = result; here = self.new; word = pair.new } }
-    {
-        let refusal = self.pull_refusal(plan, lever);
-        self.pull_unless(refusal, pair, plan, lever)
-    }
-
-    /// Puts a lever back, with its arm at danger.
-    pub fn put(&mut self, plan: &BoxPlan, lever: u32) -> Reply
-        requires sound { IsSound plan.now }
-        requires frame { HasFrame plan.now self.old }
-        requires lever { IsLever (frame_size plan.now.levers) lever }
-        ensures { put plan.now self.old lever ≡ Here result self.new }
-    {
-        let refusal = self.put_refusal(plan, lever);
-        self.put_unless(refusal, plan, lever)
-    }
-
-    /// The pull where every row holds: only the rows that may hold the lever are read.
-    pub(crate) fn steady_pull(&mut self, pair: &mut PairState, plan: &BoxPlan, lever: u32) -> Reply
-        requires sound { IsSound plan.now }
-        requires frame { HasFrame plan.now self.old }
-        requires lever { IsLever (frame_size plan.now.levers) lever }
-        requires rows { RowsHold plan.now self.old }
-        ensures { on_pair (way_of (lever_link plan.now lever)) (pull plan.now self.old lever) pair.old
-            ≡ record { reply = result; here = self.new; word = pair.new } }
-    {
-        let refusal = self.steady_pull_refusal(plan, lever);
-        self.pull_unless(refusal, pair, plan, lever)
-    }
-
-    /// The putting back where every row holds: only the rows that may hold the lever are read.
-    pub(crate) fn steady_put(&mut self, plan: &BoxPlan, lever: u32) -> Reply
-        requires sound { IsSound plan.now }
-        requires frame { HasFrame plan.now self.old }
-        requires lever { IsLever (frame_size plan.now.levers) lever }
-        requires rows { RowsHold plan.now self.old }
-        ensures { put plan.now self.old lever ≡ Here result self.new }
-    {
-        let refusal = self.steady_put_refusal(plan, lever);
-        self.put_unless(refusal, plan, lever)
     }
 }

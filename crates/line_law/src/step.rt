@@ -1,6 +1,6 @@
 //! One call, in the state of its box and of the pair of neighbours that it reaches.
 
-ghost use Rattle.std.specs.Prelude.{◌≡◌, ◌<◌, length};
+ghost use Rattle.std.specs.Prelude.{◌≡◌, ◌<◌, IsTrue, length};
 ghost use Rattle.line_law.specs.Law.{link_of, pair_of, box_plan_of, step, step_at};
 ghost use Rattle.line_law.specs.Levers.{lever_link};
 ghost use Rattle.line_law.specs.Lines.{RowsHold};
@@ -46,15 +46,17 @@ pub fn link_of(plan: &BoxPlan, act: Act) -> Link
     }
 }
 
-/// One call of a box, in its state and in the pair that the call reaches.
-pub fn perform_at(
+// One call of a box, in its state and in the pair that the call reaches; steady where every row of the box holds.
+fn perform_by(
     here: &mut BoxState,
     pair: &mut PairState,
     plan: &Plan,
     box_plan: &BoxPlan,
     call: &Call,
+    steady: bool,
 ) -> Reply
-    requires { IsReady plan.now box_plan.now call.now here.old pair.old }
+    requires ready { IsReady plan.now box_plan.now call.now here.old pair.old }
+    requires rows { IsTrue steady → RowsHold box_plan.now here.old }
     ensures { step_at plan.now box_plan.now call.now here.old pair.old
         ≡ record { reply = result; here = here.new; word = pair.new } }
 {
@@ -68,8 +70,8 @@ pub fn perform_at(
             None => Reply::AlreadyThere,
         },
         Act::AwaitBlock { way, position } => pair.look_block(way, position),
-        Act::Pull { lever } => here.pull(pair, box_plan, lever),
-        Act::Put { lever } => here.put(box_plan, lever),
+        Act::Pull { lever } => here.pull(pair, box_plan, lever, steady),
+        Act::Put { lever } => here.put(box_plan, lever, steady),
         Act::Bring { train } => here.bring(train, plan.train(train).place),
         Act::Pass { lever } => here.pass(pair, box_plan, lever),
         Act::Overrun { lever } => here.overrun(pair, box_plan, lever),
@@ -88,30 +90,19 @@ pub fn perform_at(
     }
 }
 
-// One call of a box in which every row holds: what holds a lever is sought among the rows that may hold it.
-fn perform_steadily(
+/// One call of a box, in its state and in the pair that the call reaches.
+pub fn perform_at(
     here: &mut BoxState,
     pair: &mut PairState,
     plan: &Plan,
     box_plan: &BoxPlan,
     call: &Call,
 ) -> Reply
-    requires ready { IsReady plan.now box_plan.now call.now here.old pair.old }
-    requires rows { RowsHold box_plan.now here.old }
+    requires { IsReady plan.now box_plan.now call.now here.old pair.old }
     ensures { step_at plan.now box_plan.now call.now here.old pair.old
         ≡ record { reply = result; here = here.new; word = pair.new } }
 {
-    match call.act {
-        Act::Pull { lever } => {
-            here.moment = call.moment;
-            here.steady_pull(pair, box_plan, lever)
-        }
-        Act::Put { lever } => {
-            here.moment = call.moment;
-            here.steady_put(box_plan, lever)
-        }
-        _ => perform_at(here, pair, plan, box_plan, call),
-    }
+    perform_by(here, pair, plan, box_plan, call, false)
 }
 
 /// One call of box `box_no`, in the states of all boxes and pairs, where every row of the box holds.
@@ -138,5 +129,5 @@ pub fn perform_on(
     let box_plan = &plan.boxes.as_slice()[at];
     let here = &mut boxes[at];
     let pair = &mut pairs[link_of(box_plan, call.act).pair_no(at)];
-    perform_steadily(here, pair, plan, box_plan, call)
+    perform_by(here, pair, plan, box_plan, call, true)
 }

@@ -1,4 +1,11 @@
-use Rattle.std.proofs.Common.{sym}
+use Rattle.std.proofs.Common.{◌≡◌, ℕ, List, Option, Some, None, refl, sym, ap, ◌∙◌}
+use Rattle.line_law.specs.declared.state.BoxState.{BoxState}
+use Rattle.line_law.specs.declared.state.PairState.{PairState}
+use Rattle.line_law.specs.declared.state.Passage.{Passage}
+use Rattle.line_law.specs.Arrivals.{next_number, next_train, train_awaited}
+use Rattle.line_law.specs.Decisions.{Told}
+use Rattle.line_law.specs.Law.{at_moment}
+use Rattle.line_law.specs.Ways.{of_way}
 use Rattle.line_law.proofs.Clears.{berth_here}
 use Rattle.line_law.proofs.answer.answer_at.Goals as goal
 
@@ -25,8 +32,20 @@ returns-in-Pass c = rw c.in-Pass.is (c.pass_lever_reply.ensures _)
 pub returns-in-Overrun : goal.returns-in-Overrun
 returns-in-Overrun c = rw c.in-Overrun.is (c.overrun_lever_reply.ensures _)
 
+-- what is answered to a look for a train doesn't hang on the box
+awaited_alike : (o : Option ℕ) (here there : BoxState) (j : ℕ) (line : List Passage)
+    → (train_awaited o here j line).reply ≡ (train_awaited o there j line).reply
+awaited_alike None here there j line = refl
+awaited_alike (Some train) here there j line = refl
+
 pub returns-in-AwaitTrain : goal.returns-in-AwaitTrain
-returns-in-AwaitTrain c = rw c.in-AwaitTrain.is (c.train_reply.ensures _)
+returns-in-AwaitTrain c =
+    let here : BoxState = c.args.here.now in
+    let line : List Passage = of_way c.args.pair.now.lines c.in-AwaitTrain.way in
+    rw c.in-AwaitTrain.is
+    (awaited_alike (next_train here c.in-AwaitTrain.way line) (at_moment here c.args.call.now.moment) here
+    (next_number here c.in-AwaitTrain.way) line
+    ∙ ap (λ (told : Told PairState). told.reply) c.look_plain_line.ensures)
 
 pub returns-in-ClearPortion : goal.returns-in-ClearPortion
 returns-in-ClearPortion c = rw c.in-ClearPortion.is (c.clear_reply.ensures _)
