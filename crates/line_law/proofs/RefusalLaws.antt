@@ -8,7 +8,6 @@ use Rattle.block_words.specs.declared.Way.TheVariants.{Up, Down}
 use Rattle.line_plan.specs.Frames.{BoxFields, signal_of}
 use Rattle.line_plan.specs.Plans.{PlanFields}
 use Rattle.line_law.specs.declared.call.Act.{Act}
-use Rattle.line_law.specs.declared.call.Act.TheVariants as acts
 use Rattle.line_law.specs.declared.call.Call.{Call}
 use Rattle.line_law.specs.declared.call.Reply.{Reply}
 use Rattle.line_law.specs.declared.call.Reply.TheVariants as replies
@@ -28,9 +27,8 @@ use Rattle.line_law.specs.Instruments.{await_block, same_position}
 use Rattle.line_law.specs.Law.{at_moment, link_of, pair_of, box_plan_of, step}
 use Rattle.line_law.specs.Levers.{is_unspent_clear, pulled, pulled_under, starter_link}
 use Rattle.line_law.specs.Links.{pair_no, way_of}
-use Rattle.line_law.specs.Outcomes.{Outcome, Refused, Rings, Hears, AwaitsBell, Turns, AwaitsBlock, Pulls, PullsStarter}
-use Rattle.line_law.specs.Outcomes.{Puts, Brings, GoesTo, GoesAway, Enters, AwaitsTrain, Berths, Parts, Clears, Winds}
-use Rattle.line_law.specs.Outcomes.{Releases}
+use Rattle.line_law.specs.Outcomes.{Outcome, Refused, Rings, Hears, AwaitsBell, AwaitsBlock, PullsStarter}
+use Rattle.line_law.specs.Outcomes.{Enters, AwaitsTrain, Berths, Parts, Clears}
 use Rattle.line_law.specs.Refusals.{is_held_by_instrument, is_refused, is_refused_here, pair_spent, with_moment}
 use Rattle.line_law.specs.Refusals.{with_spent}
 use Rattle.line_law.specs.States.{LineState, box_at, opening_pair, pair_at}

@@ -22,9 +22,9 @@ use Rattle.line_law.specs.Known.{KnowsCall, is_code_no, knows_act, knows_call, k
 use Rattle.line_law.specs.Law.{at_moment, link_of, pair_of, box_plan_of}
 use Rattle.line_law.specs.Levers.{lever_link, starter_link, starter_way}
 use Rattle.line_law.specs.Links.{pair_no}
-use Rattle.line_law.specs.Outcomes.{Moves, Passes, Overruns, Outcome, Refused, Rings, Hears, AwaitsBell, Turns}
-use Rattle.line_law.specs.Outcomes.{AwaitsBlock, Pulls, PullsStarter, Puts, Brings, GoesTo, GoesAway, Enters}
-use Rattle.line_law.specs.Outcomes.{AwaitsTrain, Berths, Parts, Clears, Winds, Releases}
+use Rattle.line_law.specs.Outcomes.{Moves, Passes, Overruns, Outcome, Rings, Hears, AwaitsBell, Turns}
+use Rattle.line_law.specs.Outcomes.{AwaitsBlock, PullsStarter, Enters}
+use Rattle.line_law.specs.Outcomes.{AwaitsTrain, Berths, Parts, Clears}
 use Rattle.line_law.specs.SectionFacts.{HasLink, IsLocal, decided}
 use Rattle.line_law.proofs.Found.{both}
 use Rattle.line_law.proofs.Outcomes.{outcome_of}

@@ -269,18 +269,16 @@ call_works : (plan : PlanFields) (bp : BoxFields) (here : BoxState) (pair : Pair
 call_works plan bp here pair v lever act d low fits (Refused a reply refused) =
     idle lever here a (on_pair v (Here reply here) pair) refl refl (λ e r. not_pulled reply refused r)
 call_works plan bp here pair v lever act d low fits (Rings side code) =
-    still lever here (acts.Ring side code) _
+    still lever here _ _
     (rung_same here side code (of_way pair.bells v).count (of_way pair.bells v).unheard) (λ e. cc)
 call_works plan bp here pair v lever act d low fits (Hears side) =
-    still lever here (acts.Hear side) _ (heard_same here (of_way pair.bells v).count (of_way pair.bells v).unheard)
+    still lever here _ _ (heard_same here (of_way pair.bells v).count (of_way pair.bells v).unheard)
     (λ e. cc)
 call_works plan bp here pair v lever act d low fits (AwaitsBell side code) =
-    still lever here (acts.AwaitBell side code) _
+    still lever here _ _
     (awaited_same here code (of_way pair.bells v).count (of_way pair.bells v).unheard) (λ e. cc)
-call_works plan bp here pair v lever act d low fits (Turns way position berth e free) =
-    still lever here (acts.Turn way position) _ (refl, refl) (λ e. cc)
 call_works plan bp here pair v lever act d low fits (AwaitsBlock way position) =
-    still lever here (acts.AwaitBlock way position) _
+    still lever here _ _
     (told_one (Same here) (same_position (of_way pair.blocks v).position position) _ _ (refl, refl) (refl, refl))
     (λ e. cc)
 call_works plan bp here pair v lever act d low fits (Pulls n e free) =
@@ -289,8 +287,6 @@ call_works plan bp here pair v lever act d low fits (PullsStarter n way e free) 
     starter_works (is_unspent_clear (of_way pair.blocks v)) bp here lever n way v pair low fits.0 free refl
 call_works plan bp here pair v lever act d low fits (Puts n free) =
     put_works here lever n _ low fits.0 refl refl refl
-call_works plan bp here pair v lever act d low fits (Brings train free) =
-    still lever here (acts.Bring train) _ (refl, refl) (λ e. cc)
 call_works plan bp here pair v lever act d low fits (GoesTo a n signal train place e to there moves) =
     lowers lever (signal.lever - 1) here a _ refl refl (λ f r. no_pull bp here n lever signal a moves f)
 call_works plan bp here pair v lever act d low fits (GoesAway a n signal train e to there moves) =
@@ -300,27 +296,24 @@ call_works plan bp here pair v lever act d low fits (Enters a n signal train way
     (of_way here.sent way + 1)) bp here lever n signal a v pair _ _ moves refl refl
     refl (enter here (left_by bp here signal) way train (of_way pair.lines v)) refl _ refl
 call_works plan bp here pair v lever act d low fits (AwaitsTrain way) =
-    still lever here (acts.AwaitTrain way) _
+    still lever here _ _
     (awaits_same (next_train here way (of_way pair.lines v)) here (next_number here way) (of_way pair.lines v))
     (λ e. cc)
 call_works plan bp here pair v lever act d low fits (Berths way berth e free) =
-    still lever here (acts.Berth way) _
+    still lever here _ _
     (berthed_same (next_train here way (of_way pair.lines v)) here way berth.place (next_number here way)
     (of_way pair.lines v))
     (λ e. cc)
 call_works plan bp here pair v lever act d low fits (Parts way berth e free) =
-    still lever here (acts.BerthPart way) _
+    still lever here _ _
     (parted_same (next_train here way (of_way pair.lines v)) here way berth.place (next_number here way)
     (of_way pair.lines v))
     (λ e. cc)
 call_works plan bp here pair v lever act d low fits (Clears way free) =
-    still lever here (acts.ClearPortion way) _
+    still lever here _ _
     (cleared_same (next_train here way (of_way pair.lines v)) here way (next_number here way) (of_way pair.lines v))
     (λ e. cc)
-call_works plan bp here pair v lever act d low fits (Winds way free) =
-    still lever here (acts.Wind way) _ (refl, refl) (λ e. cc)
-call_works plan bp here pair v lever act d low fits (Releases way free) =
-    still lever here (acts.Release way) _ (refl, refl) (λ e. cc)
+call_works plan bp here pair v lever act d low fits out = still lever here act _ (refl, refl) (λ e. cc)
 
 -- ---- a train that goes past
 
@@ -331,7 +324,6 @@ Lowers lever act told =
 
 not_moved : (reply : Reply) → IsTrue (is_refused_here reply) → IsTrue (tells_moved reply) → ⊥
 not_moved (replies.Passed train) h k = absurd cc
-not_moved (replies.Entered train k) h m = absurd cc
 not_moved reply h k = absurd cc
 
 moves_of : (here : BoxState) (n lever : ℕ) (signal : Signal) (act : Act) → Moves here n signal act
@@ -363,15 +355,6 @@ call_lowers : (plan : PlanFields) (bp : BoxFields) (here : BoxState) (pair : Pai
     (act : Act)
     (d : Decision) → Outcome plan bp here act d → Lowers lever act (on_pair v d pair)
 call_lowers plan bp here pair v lever act d (Refused a reply refused) h r = absurd (not_moved reply refused r)
-call_lowers plan bp here pair v lever act d (Rings side code) h r = absurd cc
-call_lowers plan bp here pair v lever act d (Hears side) h r = absurd cc
-call_lowers plan bp here pair v lever act d (AwaitsBell side code) h r = absurd cc
-call_lowers plan bp here pair v lever act d (Turns way position berth e free) h r = absurd cc
-call_lowers plan bp here pair v lever act d (AwaitsBlock way position) h r = absurd cc
-call_lowers plan bp here pair v lever act d (Pulls n e free) h r = absurd cc
-call_lowers plan bp here pair v lever act d (PullsStarter n way e free) h r = absurd cc
-call_lowers plan bp here pair v lever act d (Puts n free) h r = absurd cc
-call_lowers plan bp here pair v lever act d (Brings train free) h r = absurd cc
 call_lowers plan bp here pair v lever act d (GoesTo a n signal train place e to there moves) h r =
     arm_here bp here here.off n lever signal a e moves h
 call_lowers plan bp here pair v lever act d (GoesAway a n signal train e to there moves) h r =
@@ -379,12 +362,7 @@ call_lowers plan bp here pair v lever act d (GoesAway a n signal train e to ther
 call_lowers plan bp here pair v lever act d (Enters a n signal train way e to there moves) h r =
     entered_lowers (holds (of_way pair.lines v) (of_way here.sent way + 1)) bp here lever n signal a _ _ e moves
     (λ f. absurd cc) refl (on_pair v (OnPlainLine (enter here (left_by bp here signal) way train)) pair) refl refl h r
-call_lowers plan bp here pair v lever act d (AwaitsTrain way) h r = absurd cc
-call_lowers plan bp here pair v lever act d (Berths way berth e free) h r = absurd cc
-call_lowers plan bp here pair v lever act d (Parts way berth e free) h r = absurd cc
-call_lowers plan bp here pair v lever act d (Clears way free) h r = absurd cc
-call_lowers plan bp here pair v lever act d (Winds way free) h r = absurd cc
-call_lowers plan bp here pair v lever act d (Releases way free) h r = absurd cc
+call_lowers plan bp here pair v lever act d out h r = absurd cc
 
 -- a signal that was passed was off
 off_before : (off : Bool) (later : Option Reply) → or_later (danger_refusal off) later ≡ None → off ≡ true
@@ -590,30 +568,17 @@ pass_reversed : (plan : PlanFields) (bp : BoxFields) (here : BoxState) (pair : P
     (d : Decision) → Outcome plan bp here act d → act ≡ acts.Pass lever → IsTrue (tells_moved (on_pair v d pair).reply)
     → ArmsFollow here → is_pulled here.ends lever ≡ true
 pass_reversed plan bp here pair v lever act d (Refused a reply refused) e r arms = absurd (not_moved reply refused r)
-pass_reversed plan bp here pair v lever act d (Rings side code) e r arms = absurd cc
-pass_reversed plan bp here pair v lever act d (Hears side) e r arms = absurd cc
-pass_reversed plan bp here pair v lever act d (AwaitsBell side code) e r arms = absurd cc
-pass_reversed plan bp here pair v lever act d (Turns way position berth is free) e r arms = absurd cc
-pass_reversed plan bp here pair v lever act d (AwaitsBlock way position) e r arms = absurd cc
-pass_reversed plan bp here pair v lever act d (Pulls n is free) e r arms = absurd cc
-pass_reversed plan bp here pair v lever act d (PullsStarter n way is free) e r arms = absurd cc
-pass_reversed plan bp here pair v lever act d (Puts n free) e r arms = absurd cc
-pass_reversed plan bp here pair v lever act d (Brings train free) e r arms = absurd cc
 pass_reversed plan bp here pair v lever act d (GoesTo a n signal train place is to there moves) e r arms =
     by_arm bp here n lever signal a is moves e arms
 pass_reversed plan bp here pair v lever act d (GoesAway a n signal train is to there moves) e r arms =
     by_arm bp here n lever signal a is moves e arms
 pass_reversed plan bp here pair v lever act d (Enters a n signal train way is to there moves) e r arms =
     by_arm bp here n lever signal a is moves e arms
-pass_reversed plan bp here pair v lever act d (AwaitsTrain way) e r arms = absurd cc
-pass_reversed plan bp here pair v lever act d (Berths way berth is free) e r arms = absurd cc
-pass_reversed plan bp here pair v lever act d (Parts way berth is free) e r arms = absurd cc
-pass_reversed plan bp here pair v lever act d (Clears way free) e r arms = absurd cc
-pass_reversed plan bp here pair v lever act d (Winds way free) e r arms = absurd cc
-pass_reversed plan bp here pair v lever act d (Releases way free) e r arms = absurd cc
+pass_reversed plan bp here pair v lever act d out e r arms = absurd cc
 
 -- ---- the laws
 
+-- a train that goes past a signal leaves its arm at danger
 pub at_danger : (plan : PlanFields) (es : List Entry) (e : Entry) (b lever : ℕ) → IsPlan plan
     → IsLegal plan (es ++ e ∷ [])
     → GoesPast b lever e → arm_off (state_of plan (es ++ e ∷ [])) b lever ≡ false
@@ -622,6 +587,7 @@ at_danger plan es e b lever is legal past =
     ∙ lowered plan (state_of plan es) b lever e [] is (history_states plan es)
     (legal_then plan (opening_state plan) es (e ∷ []) legal) past
 
+-- an arm that is off again was pulled since the train went past
 pub stays_at_danger : (plan : PlanFields) (es between : List Entry) (e : Entry) (b lever : ℕ) → IsPlan plan
     → IsLegal plan (es ++ e ∷ between) → GoesPast b lever e
     → arm_off (state_of plan (es ++ e ∷ between)) b lever ≡ true → WasPulled b lever between
@@ -635,6 +601,7 @@ stays_at_danger plan es between e b lever is legal past off =
     (counts_lever plan b lever e is rest.0.known past) rest.2
     (lowered plan state b lever e between is shape rest past) last
 
+-- where its lever was reversed, the lever was put back and pulled again since
 pub put_back_first : (plan : PlanFields) (es between : List Entry) (e : Entry) (b lever : ℕ) → IsPlan plan
     → IsLegal plan (es ++ e ∷ between) → GoesPast b lever e → lever_reversed (state_of plan es) b lever ≡ true
     → arm_off (state_of plan (es ++ e ∷ between)) b lever ≡ true → WasPulledAgain b lever between
@@ -666,6 +633,7 @@ passed_reversed plan es more e b lever is legal past act =
     (pass_reversed plan bp here pair (way_of (link_of bp e.call.act)) lever e.call.act _
     (outcome_of plan bp e.call.act here) act (subst (λ (r : Reply). IsTrue (tells_moved r)) rest.1 past.reply) arms)
 
+-- where the train passed the signal, the lever was put back and pulled again since
 pub passed_again : (plan : PlanFields) (es between : List Entry) (e : Entry) (b lever : ℕ) → IsPlan plan
     → IsLegal plan (es ++ e ∷ between) → GoesPast b lever e → e.call.act ≡ acts.Pass lever
     → arm_off (state_of plan (es ++ e ∷ between)) b lever ≡ true → WasPulledAgain b lever between

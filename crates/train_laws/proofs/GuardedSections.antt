@@ -44,6 +44,7 @@ pub record IsGuarded (starter : Option Signal) (berth : Option Berth) (w : Way) 
 
 -- ---- the moment of a call is no part of it
 
+-- a section stays guarded at another moment of its rear box
 pub rear_at_moment : (starter : Option Signal) (berth : Option Berth) (w : Way) (rear advance : BoxState)
     (block : Block) (line : List Passage) (moment : ℕ)
     → IsGuarded starter berth w rear advance block line
@@ -51,6 +52,7 @@ pub rear_at_moment : (starter : Option Signal) (berth : Option Berth) (w : Way) 
 rear_at_moment (Some s) berth w rear advance block line moment g = record { allowed = g.allowed; kind = g.kind }
 rear_at_moment None berth w rear advance block line moment g = record { allowed = g.allowed; kind = g.kind }
 
+-- a section stays guarded at another moment of its box in advance
 pub advance_at_moment : (starter : Option Signal) (berth : Option Berth) (w : Way) (rear advance : BoxState)
     (block : Block) (line : List Passage) (moment : ℕ)
     → IsGuarded starter berth w rear advance block line
@@ -60,10 +62,12 @@ advance_at_moment starter None w rear advance block line moment g = record { all
 
 -- ---- by cases
 
+-- what holds of both outcomes holds of the one that a test chooses
 pub told_either : {W : Type 0} (c : Bool) (x y : Told W) (P : Told W → Type 0) → P x → P y → P (cond c x y)
 told_either true x y P px py = px
 told_either false x y P px py = py
 
+-- what is weaker holds of a decision elsewhere too
 pub elsewhere_weaker : (d : Decision) (P Q : Reply → BoxState → Type 0)
     → ((reply : Reply) (h : BoxState) → P reply h → Q reply h) → ThenElsewhere d P → ThenElsewhere d Q
 elsewhere_weaker (Here reply h) P Q f p = f reply h p
@@ -85,11 +89,13 @@ danger (x ∷ off) zero (suc j) = omega arith
 danger (x ∷ off) (suc i) zero = omega arith
 danger (x ∷ off) (suc i) (suc j) = danger off i j
 
+-- an arm that goes to danger is at danger
 pub at_danger : (off : List Bool) (i : ℕ) → slice_index_or (slice_set off i false) i false ≡ false
 at_danger [] i = refl
 at_danger (x ∷ off) zero = refl
 at_danger (x ∷ off) (suc i) = at_danger off i
 
+-- a box with the same arms is quiet for the section
 pub arm_same : (starter : Option Signal) (here after : BoxState) → after.off ≡ here.off → IsQuiet starter here after
 arm_same None here after e = omega arith
 arm_same (Some s) here after e = rw e (omega arith)
@@ -111,10 +117,12 @@ count_if-le : (b : Bool) → count_if b ≤ 1
 count_if-le true = omega arith
 count_if-le false = omega arith
 
+-- a starter's arm counts for at most one train
 pub arm_count-le : (starter : Option Signal) (here : BoxState) → arm_count starter here ≤ 1
 arm_count-le None here = omega arith
 arm_count-le (Some s) here = count_if-le (is_off here.off s.lever)
 
+-- a section stays guarded where its rear box is quiet
 pub quiet_guarded : (starter : Option Signal) (berth : Option Berth) (w : Way) (rear after advance : BoxState)
     (block : Block) (line : List Passage)
     → IsQuiet starter rear after → IsGuarded starter berth w rear advance block line
@@ -130,6 +138,7 @@ pub record IsEased (berth : Option Berth) (w : Way) (here after : BoxState) : Ty
       (of_way after.incoming w).control
   pub kind : IsControlOf berth (of_way here.incoming w).control → IsControlOf berth (of_way after.incoming w).control
 
+-- a section stays guarded where its box in advance eases its control
 pub eased_guarded : (starter : Option Signal) (berth : Option Berth) (w : Way) (rear advance after : BoxState)
     (block : Block) (line : List Passage)
     → IsEased berth w advance after → IsGuarded starter berth w rear advance block line
@@ -138,6 +147,7 @@ eased_guarded starter berth w rear advance after block line eased g =
     let allowed = g.allowed in let room =
     eased.room in record { allowed = omega (arith, allowed, room); kind = eased.kind g.kind }
 
+-- a box that eases twice has eased
 pub then_eased : (berth : Option Berth) (w : Way) (here middle after : BoxState) → IsEased berth w here middle
     → IsEased berth w middle after → IsEased berth w here after
 then_eased berth w here middle after f g = let one = f.room in let two =
@@ -157,6 +167,7 @@ pub ease_same : (berth : Option Berth) (w : Way) (here after : BoxState) → aft
     → (of_way after.incoming w).control ≡ (of_way here.incoming w).control → IsEased berth w here after
 ease_same berth w here after e f = ease berth w here after (same_berth berth here after e) f
 
+-- a box that stays as it was has eased
 pub ease_here : (berth : Option Berth) (w : Way) (here after : BoxState) → after ≡ here → IsEased berth w here after
 ease_here berth w here after e =
     ease_same berth w here after (ap (λ (h : BoxState). h.places) e)
@@ -177,6 +188,7 @@ pub ease_place : (berth : Option Berth) (w : Way) (here after : BoxState) (place
 ease_place berth w here after place there e apart f =
     ease berth w here after (other_place berth here after place there e apart) f
 
+-- what is written for one way leaves the other
 pub of_with_other : {A : Type 0} → (both : ByWay A) (v w : Way) (x : A) → (v ≡ w → ⊥)
     → of_way (with_way both v x) w ≡ of_way both w
 of_with_other both Up Up x ne = absurd (ne refl)

@@ -19,7 +19,6 @@ use Rattle.line_plan.specs.declared.signal.Signal.{Signal}
 use Rattle.line_plan.specs.declared.signal.To.{To}
 use Rattle.line_plan.specs.declared.signal.To.TheVariants as leads
 use Rattle.locking_table.specs.Meaning.{holder_of}
-use Rattle.locking_table.specs.declared.row.Holder.{Holder}
 use Rattle.line_law.specs.declared.call.Act.{Act}
 use Rattle.line_law.specs.declared.call.Act.TheVariants as acts
 use Rattle.line_law.specs.declared.call.Reply.{Reply}
@@ -32,7 +31,6 @@ use Rattle.line_law.specs.declared.state.Control.TheVariants.{Absolute, Permissi
 use Rattle.line_law.specs.declared.state.Incoming.{Incoming}
 use Rattle.line_law.specs.declared.state.PairState.{PairState}
 use Rattle.line_law.specs.declared.state.Passage.{Passage}
-use Rattle.line_law.specs.declared.tracks.Standing.{Standing}
 use Rattle.line_law.specs.Arrivals.{await_train, berth, berth_occupied, berth_part, berth_refusal, berthed}
 use Rattle.line_law.specs.Arrivals.{clear_portion, clear_portion_refusal, cleared, next_number, next_train, parted}
 use Rattle.line_law.specs.Arrivals.{portion_refusal, train_awaited, train_berthed, train_cleared, train_parted}
@@ -89,34 +87,31 @@ unless_alike (Some reply) other here d e same alike =
     rw same (Heres reply (reply_in_seconds reply) here (box_in_seconds here) refl refl)
 unless_alike None other here d e same alike = rw same alike
 
+-- a refusal by what is found, if anything is
+same_by : {A : Type 0} (refusal : Option A → Option Reply) → IsSame (refusal None)
+    → ((x : A) → IsSame (refusal (Some x))) → (found : Option A) → IsSame (refusal found)
+same_by refusal none some None = none
+same_by refusal none some (Some x) = some x
+
 either_told : {W : Type 0} (test : Bool) (x y x' y' : Told W) → x' ≡ told_in_seconds x → y' ≡ told_in_seconds y
     → cond test x' y' ≡ told_in_seconds (cond test x y)
 either_told true x y x' y' f g = f
 either_told false x y x' y' f g = g
 
-same_home : (lever : Option ℕ) → IsSame (home_refusal lever)
-same_home None = refl
-same_home (Some lever) = refl
-
 same_from : (position : Position) → IsSame (from_refusal position)
 same_from shows.Normal = refl
-same_from shows.LineClear = refl
-same_from shows.TrainOnLine = refl
-
-same_clearing : (there : Option Standing) → IsSame (clearing_refusal there)
-same_clearing None = refl
-same_clearing (Some there) = refl
+same_from position = refl
 
 same_welwyn : (state : WelwynState) → IsSame (welwyn_refusal state)
 same_welwyn welwyn.Ready = refl
-same_welwyn welwyn.Given = refl
-same_welwyn welwyn.Berthed = refl
+same_welwyn state = refl
 
 same_control : (control : Control) (here : BoxState) (b : Berth)
     → control_refusal control (box_in_seconds here) b ≡ option_map reply_in_seconds (control_refusal control here b)
 same_control (Absolute state) here b =
     same_later (clearing_refusal (first_standing here.places (b.place ∷ b.clearing))) (welwyn_refusal state)
-    (same_clearing (first_standing here.places (b.place ∷ b.clearing))) (same_welwyn state)
+    (same_by clearing_refusal refl (λ there. refl) (first_standing here.places (b.place ∷ b.clearing)))
+    (same_welwyn state)
 same_control (Permissive out) here b =
     same_if (out == most_of b.permissive) (Some (replies.CountFull out)) None refl refl
 
@@ -133,14 +128,13 @@ if_same false first later other f g = g
 same_position_refusal : (position : Position) (here : BoxState) (b : Berth) (line : Incoming)
     → position_refusal position (box_in_seconds here) b (line_in_seconds line)
     ≡ option_map reply_in_seconds (position_refusal position here b line)
-same_position_refusal shows.Normal here b line = refl
 same_position_refusal shows.LineClear here b line =
     later_same (from_refusal line.position)
     (or_later (home_refusal (first_reversed here.ends b.homes)) (control_refusal line.control here b)) _
     (same_from line.position)
     (later_same (home_refusal (first_reversed here.ends b.homes)) (control_refusal line.control here b) _
-    (same_home (first_reversed here.ends b.homes)) (same_control line.control here b))
-same_position_refusal shows.TrainOnLine here b line = refl
+    (same_by home_refusal refl (λ lever. refl) (first_reversed here.ends b.homes)) (same_control line.control here b))
+same_position_refusal position here b line = refl
 
 same_turn : (here : BoxState) (b : Berth) (line : Incoming) (position : Position)
     → turn_refusal (box_in_seconds here) b (line_in_seconds line) position
@@ -150,26 +144,14 @@ same_turn here b line position =
     refl (same_position_refusal position here b line)
 
 same_spare : (kind : Option Kind) → IsSame (spare_refusal kind)
-same_spare None = refl
-same_spare (Some kinds.Signal) = refl
-same_spare (Some kinds.Points) = refl
-same_spare (Some kinds.Lock) = refl
-same_spare (Some kinds.Distant) = refl
 same_spare (Some kinds.Spare) = refl
-
-same_row : (holder : Option Holder) → IsSame (row_refusal holder)
-same_row None = refl
-same_row (Some holder) = refl
-
-same_track : (there : Option Standing) → IsSame (track_refusal there)
-same_track None = refl
-same_track (Some there) = refl
+same_spare kind = refl
 
 same_lock : (box_plan : BoxFields) (here : BoxState) (lever : ℕ) → IsSame (lock_refusal box_plan here lever)
 same_lock box_plan here lever =
     same_later (row_refusal (holder_of here.ends lever box_plan.rows)) _
-    (same_row (holder_of here.ends lever box_plan.rows))
-    (same_track (first_standing here.places (track_of box_plan lever)))
+    (same_by row_refusal refl (λ holder. refl) (holder_of here.ends lever box_plan.rows))
+    (same_by track_refusal refl (λ there. refl) (first_standing here.places (track_of box_plan lever)))
 
 same_pull : (box_plan : BoxFields) (here : BoxState) (lever : ℕ) → IsSame (pull_refusal box_plan here lever)
 same_pull box_plan here lever =
@@ -183,25 +165,18 @@ same_put box_plan here lever =
     same_if (is_pulled here.ends lever) (lock_refusal box_plan here lever) (Some replies.AlreadyNormal)
     (same_lock box_plan here lever) refl
 
-same_place : (place : ℕ) (there : Option ℕ) → IsSame (place_refusal place there)
-same_place place None = refl
-same_place place (Some train) = refl
-
 same_bring : (here : BoxState) (train place : ℕ) → IsSame (bring_refusal here train place)
 same_bring here train place =
     same_if (was_brought here.brought train) (Some replies.AlreadyBrought)
-    (place_refusal place (train_on here.places place)) refl (same_place place (train_on here.places place))
-
-same_standing : (there : Option Standing) → IsSame (standing_refusal there)
-same_standing None = refl
-same_standing (Some there) = refl
+    (place_refusal place (train_on here.places place)) refl
+    (same_by (place_refusal place) refl (λ train. refl) (train_on here.places place))
 
 same_way : (here : BoxState) (signal : Signal) → IsSame (way_refusal here signal)
 same_way here signal =
     same_later (standing_refusal (first_standing here.places signal.over))
     (standing_refusal (first_standing here.places (end_of signal.to)))
-    (same_standing (first_standing here.places signal.over))
-    (same_standing (first_standing here.places (end_of signal.to)))
+    (same_by standing_refusal refl (λ there. refl) (first_standing here.places signal.over))
+    (same_by standing_refusal refl (λ there. refl) (first_standing here.places (end_of signal.to)))
 
 same_danger : (off : Bool) → IsSame (danger_refusal off)
 same_danger true = refl
@@ -221,26 +196,16 @@ same_overrun here signal =
     same_later (off_refusal (is_off here.off signal.lever)) (way_refusal here signal)
     (same_off (is_off here.off signal.lever)) (same_way here signal)
 
-same_portion : (portion : Option ℕ) → IsSame (portion_refusal portion)
-same_portion None = refl
-same_portion (Some train) = refl
-
-same_occupied : (there : Option ℕ) → IsSame (berth_occupied there)
-same_occupied None = refl
-same_occupied (Some train) = refl
-
 same_berth : (here : BoxState) (way : Way) (b : Berth)
     → berth_refusal (box_in_seconds here) way b ≡ option_map reply_in_seconds (berth_refusal here way b)
 same_berth here Up b =
     same_later (portion_refusal here.incoming.up.portion) (berth_occupied (train_on here.places b.place))
-    (same_portion here.incoming.up.portion) (same_occupied (train_on here.places b.place))
+    (same_by portion_refusal refl (λ train. refl) here.incoming.up.portion)
+    (same_by berth_occupied refl (λ train. refl) (train_on here.places b.place))
 same_berth here Down b =
     same_later (portion_refusal here.incoming.down.portion) (berth_occupied (train_on here.places b.place))
-    (same_portion here.incoming.down.portion) (same_occupied (train_on here.places b.place))
-
-same_clear : (portion : Option ℕ) → IsSame (clear_portion_refusal portion)
-same_clear None = refl
-same_clear (Some train) = refl
+    (same_by portion_refusal refl (λ train. refl) here.incoming.down.portion)
+    (same_by berth_occupied refl (λ train. refl) (train_on here.places b.place))
 
 same_winding : (ready_at : Option ℕ)
     → winding_refusal (option_map (λ m. m * 60) ready_at) ≡ option_map reply_in_seconds (winding_refusal ready_at)
@@ -249,8 +214,7 @@ same_winding (Some m) = refl
 
 same_normal : (position : Position) → IsSame (normal_refusal position)
 same_normal shows.Normal = refl
-same_normal shows.LineClear = refl
-same_normal shows.TrainOnLine = refl
+same_normal position = refl
 
 both_later : (first first' later later' : Option Reply) → first' ≡ option_map reply_in_seconds first
     → later' ≡ option_map reply_in_seconds later
@@ -263,6 +227,7 @@ same_wind line =
     both_later (winding_refusal line.ready_at) _ (normal_refusal line.position) _ (same_winding line.ready_at)
     (same_normal line.position)
 
+-- moments are compared in seconds as in minutes
 pub less_in_seconds : (a b : ℕ) → nat_lt (a * 60) (b * 60) ≡ nat_lt a b
 less_in_seconds a b = grind (arith, nat_tests)
 
@@ -476,10 +441,12 @@ cleared_alike here Down line = train_cleared_alike (next_train here Down line) h
 clear_portion_alike : (here : BoxState) (way : Way)
     → Alike (clear_portion here way) (clear_portion (box_in_seconds here) way)
 clear_portion_alike here Up =
-    unless_alike (clear_portion_refusal here.incoming.up.portion) _ here _ _ (same_clear here.incoming.up.portion)
+    unless_alike (clear_portion_refusal here.incoming.up.portion) _ here _ _
+    (same_by clear_portion_refusal refl (λ train. refl) here.incoming.up.portion)
     (Lines _ _ (λ line. cleared_alike here Up line))
 clear_portion_alike here Down =
-    unless_alike (clear_portion_refusal here.incoming.down.portion) _ here _ _ (same_clear here.incoming.down.portion)
+    unless_alike (clear_portion_refusal here.incoming.down.portion) _ here _ _
+    (same_by clear_portion_refusal refl (λ train. refl) here.incoming.down.portion)
     (Lines _ _ (λ line. cleared_alike here Down line))
 
 -- ---- winding and release

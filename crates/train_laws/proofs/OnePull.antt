@@ -69,28 +69,13 @@ turned_past v block (inr same) = let e = same.0 in omega (arith, e)
 own_past : (v : ℕ) (plan : PlanFields) (box_plan : BoxFields) (here : BoxState) (act : Act) (d : Decision) (l : Bell)
     (k : Block) (t : List Passage) → Outcome plan box_plan here act d → IsPast v k
     → ThenOwn d (λ reply h l k t. IsPast v k) l k t
-own_past v plan box_plan here a d l k t (Refused act reply refused) past = past
-own_past v plan box_plan here a d l k t (Rings side code) past = past
-own_past v plan box_plan here a d l k t (Hears side) past = past
-own_past v plan box_plan here a d l k t (AwaitsBell side code) past = past
 own_past v plan box_plan here a d l k t (Turns way position berth at free) past = inl (turned_past v k past)
 own_past v plan box_plan here a d l k t (AwaitsBlock way position) past =
     told_either (same_position k.position position) _ _ (λ (told : Told Block). IsPast v told.word) past past
-own_past v plan box_plan here a d l k t (Pulls lever none free) past = past
 own_past v plan box_plan here a d l k t (PullsStarter lever way starts free) past =
     told_either (is_unspent_clear k) _ _ (λ (told : Told Block). IsPast v told.word) (spent_past v k past)
     (spent_past v k past)
-own_past v plan box_plan here a d l k t (Puts lever free) past = past
-own_past v plan box_plan here a d l k t (Brings train free) past = past
-own_past v plan box_plan here a d l k t (GoesTo act lever signal train place found to there moves) past = past
-own_past v plan box_plan here a d l k t (GoesAway act lever signal train found to there moves) past = past
-own_past v plan box_plan here a d l k t (Enters act lever signal train way found to there moves) past = past
-own_past v plan box_plan here a d l k t (AwaitsTrain way) past = past
-own_past v plan box_plan here a d l k t (Berths way berth at free) past = past
-own_past v plan box_plan here a d l k t (Parts way berth at free) past = past
-own_past v plan box_plan here a d l k t (Clears way free) past = past
-own_past v plan box_plan here a d l k t (Winds way free) past = past
-own_past v plan box_plan here a d l k t (Releases way free) past = past
+own_past v plan box_plan here a d l k t out past = past
 
 -- ---- a pull under Line Clear
 

@@ -283,12 +283,14 @@ legal_before : (plan : PlanFields) (s : LineState) (es more : List Entry) → Is
 legal_before plan s [] more legal = tt
 legal_before plan s (e ∷ es) more legal = (legal.0, legal.1, legal_before plan (after_entry plan s e) es more legal.2)
 
+-- a section that was clean so far holds no more trains than its limit, whatever comes later
 pub held_few_before : (plan : PlanFields) (es more : List Entry) (section : Section) → IsPlan plan
     → IsSection plan section → IsLegal plan (es ++ more) → IsClean plan section es
     → held_by plan (state_of plan es) section ≤ limit_of plan section
 held_few_before plan es more section sound is legal clean =
     held_few plan es section sound is (legal_before plan (opening_state plan) es more legal) clean
 
+-- at most one authority to enter an absolute section is out
 pub one_authority : (plan : PlanFields) (es : List Entry) (section : Section) → IsPlan plan → IsSection plan section
     → IsLegal plan es → IsClean plan section es → permit_of plan section ≡ None
     → authorities plan (state_of plan es) section ≤ 1
@@ -298,6 +300,7 @@ one_authority plan es section sound is legal clean absolute =
     let few = absolute_one (section_berth plan section) (control_in (state_of plan es) section) absolute g.kind in
     omega (arith, allowed, few)
 
+-- while Welwyn control is ready no authority to enter the section is out
 pub none_ready : (plan : PlanFields) (es : List Entry) (section : Section) → IsPlan plan → IsSection plan section
     → IsLegal plan es → IsClean plan section es → control_in (state_of plan es) section ≡ Absolute Ready
     → authorities plan (state_of plan es) section ≡ 0
@@ -307,6 +310,7 @@ none_ready plan es section sound is legal clean ready =
     let none : allowed_by (control_in (state_of plan es) section) ≡ 0 = ap allowed_by ready in
     omega (arith, allowed, none)
 
+-- no more authorities to enter a permissive section are out than it counts
 pub few_out : (plan : PlanFields) (es : List Entry) (section : Section) (n : ℕ) → IsPlan plan → IsSection plan section
     → IsLegal plan es → IsClean plan section es → permit_of plan section ≡ Some n
     → (out : ℕ) × (control_in (state_of plan es) section ≡ Permissive out)

@@ -123,6 +123,7 @@ IsOther w (acts.Wind way) = way ≡ w → ⊥
 IsOther w (acts.Release way) = way ≡ w → ⊥
 IsOther w act = Unit {0}
 
+-- a call that is not on the incoming line of a way is on another
 pub other_line_of : (box_plan : BoxFields) (w : Way) (act : Act) → (link_of box_plan act ≡ Link.In w → ⊥)
     → IsOther w act
 other_line_of box_plan w (acts.Turn way position) off = λ e. off (ap (λ (x : Way). Link.In x) e)

@@ -45,15 +45,18 @@ pub rung_off : (here : BoxState) (side : Way) (code count : ℕ) (unheard : Opti
 rung_off here side code count (Some u) = refl
 rung_off here side code count None = refl
 
+-- hearing leaves the box
 pub heard_here : (here : BoxState) (count : ℕ) (unheard : Option ℕ) → (heard here count unheard).here ≡ here
 heard_here here count (Some u) = refl
 heard_here here count None = refl
 
+-- an await of a bell leaves the box
 pub awaited_here : (here : BoxState) (code count : ℕ) (unheard : Option ℕ)
     → (awaited here code count unheard).here ≡ here
 awaited_here here code count (Some u) = told_either (u == code) _ _ (λ (told : Told Bell). told.here ≡ here) refl refl
 awaited_here here code count None = refl
 
+-- an await of a train leaves the box
 pub train_awaited_here : (train : Option ℕ) (here : BoxState) (j : ℕ) (line : List Passage)
     → (train_awaited train here j line).here ≡ here
 train_awaited_here None here j line = refl
@@ -220,6 +223,7 @@ enters_guarded act N boxes b box_plan w way berth here advance k t lever train s
     (clean lever (of_way here.sent way + 1) train
     (starter_line box_plan lever signal way found to ∙ ap (λ (x : Way). Some x) same)) g
 
+-- a train that moves past a signal is on the line of the signal's lever
 pub moves_line : (box_plan : BoxFields) (here : BoxState) (lever : ℕ) (signal : Signal) (act : Act)
     → Moves here lever signal act → link_of box_plan act ≡ starter_link (starter_way (signal_of box_plan lever))
 moves_line box_plan here lever signal act (Passes free) = refl

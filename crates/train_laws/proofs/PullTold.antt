@@ -310,6 +310,7 @@ reply_at plan state b moment act =
     (box_at state b) moment))
     (pair_at state (pair_no b (link_of (box_plan_of plan b) act)))).reply
 
+-- the reply of a pull tells why it succeeds or what holds the lever
 pub pull_told : (plan : PlanFields) (state : LineState) (b : ℕ) (call : Call) (lever : ℕ) → call.act ≡ acts.Pull lever
     → IsPullTold plan state b lever (step plan state b call).reply
 unfolding step
@@ -322,6 +323,7 @@ pull_told plan state b call lever e =
     (first_standing (box_at state b).places (track_of (box_plan_of plan b) lever)) (starter_at plan b lever)
     (record { reversed = refl; kind = refl; holder = refl; there = refl; starter = refl }))
 
+-- each pull of a legal history is told so
 pub each_pull_told : (plan : PlanFields) (es more : List Entry) (e : Entry) (lever : ℕ) → IsLegal plan (es ++ e ∷ more)
     → e.call.act ≡ acts.Pull lever → IsPullTold plan (state_of plan es) e.box_no lever e.reply
 each_pull_told plan es more e lever legal act =

@@ -21,25 +21,30 @@ use Rattle.line_law.proofs.PlanFacts.{berth_is, signal_fits, signal_lever}
 
 -- ---- ways
 
+-- ways that are found the same are one
 pub same_way_is : (v w : Way) → same_way v w ≡ true → v ≡ w
 same_way_is Up Up e = refl
 same_way_is Up Down e = cc
 same_way_is Down Up e = cc
 same_way_is Down Down e = refl
 
+-- a way is found the same as itself
 pub same_way_refl : (w : Way) → same_way w w ≡ true
 same_way_refl Up = refl
 same_way_refl Down = refl
 
+-- a way that is found is there
 pub way_is : (w : Way) (o : Option Way) → is_way w o ≡ true → o ≡ Some w
 way_is w None e = cc
 way_is w (Some v) e = ap (λ (x : Way). Some x) (sym (same_way_is w v e))
 
+-- a way that is there is found
 pub is_way_of : (w : Way) (o : Option Way) → o ≡ Some w → is_way w o ≡ true
 is_way_of w o e = rw e (same_way_refl w)
 
 -- ---- tests
 
+-- a number is found equal to itself
 pub eqb_refl : (n : ℕ) → (n == n) ≡ true
 eqb_refl n = grind (arith, nat_tests)
 

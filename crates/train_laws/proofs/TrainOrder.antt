@@ -179,9 +179,6 @@ rear_grows plan x here act d l k t (Refused a reply refused) to =
     stays x.way here.sent here.sent t _ (none_of (is_entering plan x a) _ (refused_none reply refused)) refl
 rear_grows plan x here act d l k t (Rings side code) to =
     stays x.way here.sent _ t _ refl (rung_sent here side code l.count l.unheard)
-rear_grows plan x here act d l k t (Hears side) to = absurd cc
-rear_grows plan x here act d l k t (AwaitsBell side code) to = absurd cc
-rear_grows plan x here act d l k t (Turns way position berth is free) to = absurd cc
 rear_grows plan x here act d l k t (AwaitsBlock way position) to =
     stays x.way here.sent _ t _ refl
     (told_either (same_position k.position position) _ _ (λ (told : Told Block). told.here.sent ≡ here.sent) refl refl)
@@ -211,12 +208,9 @@ rear_grows plan x here act d l k t (Enters a n signal train way found into there
     (sym (so (is_entering plan x a) (train_entered (enter here left x.way train t).reply) mine)) grown in
     subst (λ (v : Way). Grows x.way here.sent t (comes_on plan x a (enter here left v train t).reply)
     (enter here left v train t).here.sent (enter here left v train t).word) (sym same) as_is
-rear_grows plan x here act d l k t (AwaitsTrain way) to = absurd cc
-rear_grows plan x here act d l k t (Berths way berth is free) to = absurd cc
-rear_grows plan x here act d l k t (Parts way berth is free) to = absurd cc
-rear_grows plan x here act d l k t (Clears way free) to = absurd cc
 rear_grows plan x here act d l k t (Winds way free) to = stays x.way here.sent _ t _ refl refl
 rear_grows plan x here act d l k t (Releases way free) to = stays x.way here.sent _ t _ refl refl
+rear_grows plan x here act d l k t out to = absurd cc
 
 -- off the words of the section no train comes on
 abbrev Quiet : Way → ByWay ℕ → List Passage → ByWay ℕ → Type 0
@@ -362,15 +356,6 @@ advance_shrinks : (plan : PlanFields) (x : Section) (bp : BoxFields) (here : Box
     → ThenOwn d (λ reply h l k t'. t ≡ goes_off x act reply ++ t') l k t
 advance_shrinks plan x bp here act d l k t (Refused a reply refused) at =
     none_off t _ (none_of (is_leaving x a) _ (refused_leaves reply refused))
-advance_shrinks plan x bp here act d l k t (Rings side code) at = none_off t _ refl
-advance_shrinks plan x bp here act d l k t (Hears side) at = none_off t _ refl
-advance_shrinks plan x bp here act d l k t (AwaitsBell side code) at = none_off t _ refl
-advance_shrinks plan x bp here act d l k t (Turns way position berth is free) at = none_off t _ refl
-advance_shrinks plan x bp here act d l k t (AwaitsBlock way position) at = none_off t _ refl
-advance_shrinks plan x bp here act d l k t (Pulls n is free) at = none_off t _ refl
-advance_shrinks plan x bp here act d l k t (PullsStarter n way is free) at = none_off t _ refl
-advance_shrinks plan x bp here act d l k t (Puts n free) at = none_off t _ refl
-advance_shrinks plan x bp here act d l k t (Brings train free) at = none_off t _ refl
 advance_shrinks plan x bp here act d l k t (GoesTo a n signal train place found to_place there moves) at =
     none_off t _ (not_moving x here n signal a _ moves)
 advance_shrinks plan x bp here act d l k t (GoesAway a n signal train found away there moves) at =
@@ -388,8 +373,7 @@ advance_shrinks plan x bp here act d l k t (Parts way berth is free) at =
 advance_shrinks plan x bp here act d l k t (Clears way free) at =
     own_off (same_way way x.way) t _ _ (own_way way x.way at)
     (cleared_leaves (next_train here way t) here way (next_number here way) t refl)
-advance_shrinks plan x bp here act d l k t (Winds way free) at = none_off t _ refl
-advance_shrinks plan x bp here act d l k t (Releases way free) at = none_off t _ refl
+advance_shrinks plan x bp here act d l k t out at = none_off t _ refl
 
 other_way : (v w : Way) → (Link.In v ≡ Link.In w → ⊥) → same_way v w ≡ true → ⊥
 other_way v w off e = off (ap (λ (u : Way). Link.In u) (same_way_is v w e))
@@ -587,12 +571,14 @@ none_sent_yet plan x is =
       zero_sent Up = refl
       zero_sent Down = refl
 
+-- the trains that entered a section are those that left it, and then those on its plain line
 pub in_order : (plan : PlanFields) (es : List Entry) (x : Section) → IsPlan plan → IsSection plan x → IsLegal plan es
     → trains_entered plan x es ≡ trains_left x es ++ plain_line_of (state_of plan es) x
 in_order plan es x sound is legal =
     ap (λ (l : List Passage). l ++ trains_entered plan x es) (sym (no_train_yet plan x))
     ∙ (history_moves plan x (opening_state plan) es sound is (opening_shape plan) legal).0
 
+-- the trains that entered a section are numbered in turn from 1
 pub all_numbered : (plan : PlanFields) (es : List Entry) (x : Section) → IsPlan plan → IsSection plan x
     → IsLegal plan es
     → AreNumbered 0 (length (trains_entered plan x es)) (trains_entered plan x es)
@@ -696,6 +682,7 @@ left_there x k train e (f ∷ es) leaves there = by_cases (head_or_tail f es e t
       by_cases (inr later) rec =
           Contains-append_right (leaving x f) (trains_left x es) (numbered_train k train) (rec later)
 
+-- the train that leaves a section as its k-th entered it as its k-th
 pub one_train : (plan : PlanFields) (es : List Entry) (e f : Entry) (x : Section) (k train other : ℕ) → IsPlan plan
     → IsSection plan x → IsLegal plan es → Contains es e → Contains es f → EntersAs plan x k train e
     → LeavesAs x k other f → train ≡ other

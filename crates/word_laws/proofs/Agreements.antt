@@ -93,28 +93,13 @@ awaited_keeps plan here code count (Some held) h =
 
 code_keeps : (plan : PlanFields) (b : ℕ) (box_plan : BoxFields) (act : Act) (here : BoxState) (d : Decision)
     → IsTrue (knows_act plan b act) → Outcome plan box_plan here act d → KeepsCode plan d
-code_keeps plan b box_plan act here d known (Refused a reply refused) = tt
 code_keeps plan b box_plan act here d known (Rings side code) =
     λ bell h. rung_keeps plan here side code bell.count bell.unheard
     (both (knows_side plan b side) (is_code_no plan code) known).1 h
 code_keeps plan b box_plan act here d known (Hears side) = λ bell h. heard_keeps plan here bell.count bell.unheard
 code_keeps plan b box_plan act here d known (AwaitsBell side code) =
     λ bell h. awaited_keeps plan here code bell.count bell.unheard h
-code_keeps plan b box_plan act here d known (Turns way p berth e free) = tt
-code_keeps plan b box_plan act here d known (AwaitsBlock way p) = tt
-code_keeps plan b box_plan act here d known (Pulls lever e free) = tt
-code_keeps plan b box_plan act here d known (PullsStarter lever way e free) = tt
-code_keeps plan b box_plan act here d known (Puts lever free) = tt
-code_keeps plan b box_plan act here d known (Brings train free) = tt
-code_keeps plan b box_plan act here d known (GoesTo a lever signal train place e to there moves) = tt
-code_keeps plan b box_plan act here d known (GoesAway a lever signal train e to there moves) = tt
-code_keeps plan b box_plan act here d known (Enters a lever signal train way e to there moves) = tt
-code_keeps plan b box_plan act here d known (AwaitsTrain way) = tt
-code_keeps plan b box_plan act here d known (Berths way berth e free) = tt
-code_keeps plan b box_plan act here d known (Parts way berth e free) = tt
-code_keeps plan b box_plan act here d known (Clears way free) = tt
-code_keeps plan b box_plan act here d known (Winds way free) = tt
-code_keeps plan b box_plan act here d known (Releases way free) = tt
+code_keeps plan b box_plan act here d known out = tt
 
 bells_keep : (plan : PlanFields) (bells : ByWay Bell) (way w : Way) (x : Bell)
     → ((w : Way) → IfSome (of_way bells w).unheard (IsCode plan)) → IfSome x.unheard (IsCode plan)

@@ -179,6 +179,7 @@ are_in_order plan state b call c next p apart =
     (way_at plan c next) p apart in
     record { reply = both.reply; here = both.here; word = both.word }
 
+-- calls of two boxes on different words come out the same in either order
 pub commute : (plan : PlanFields) (state : LineState) (b : ℕ) (call : Call) (c : ℕ) (next : Call) → IsPlan plan
     → IsStateOf plan state → KnowsCall plan b call → KnowsCall plan c next → b ≢ c
     → OnOtherWords plan state b call c next → Commute plan state b call c next

@@ -45,6 +45,7 @@ exchanges plan es more e f is h differ others =
       after = sym both.after;
     }
 
+-- neighbouring entries of two boxes on different words may change places in a legal history
 pub legal_exchange : (plan : PlanFields) (es more : List Entry) (e f : Entry) → IsPlan plan
     → IsLegal plan (es ++ e ∷ f ∷ more) → e.box_no ≢ f.box_no
     → OnOtherWords plan (state_of plan es) e.box_no e.call f.box_no f.call → IsLegal plan (es ++ f ∷ e ∷ more)
@@ -52,6 +53,7 @@ legal_exchange plan es more e f is h differ others =
     legal_both plan (opening_state plan) es (f ∷ e ∷ more) (legal_first plan (opening_state plan) es (e ∷ f ∷ more) h)
     (exchanges plan es more e f is h differ others).legal
 
+-- a history with such entries exchanged leads to the same state
 pub state_exchange : (plan : PlanFields) (es more : List Entry) (e f : Entry) → IsPlan plan
     → IsLegal plan (es ++ e ∷ f ∷ more) → e.box_no ≢ f.box_no
     → OnOtherWords plan (state_of plan es) e.box_no e.call f.box_no f.call

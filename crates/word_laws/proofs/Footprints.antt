@@ -74,6 +74,7 @@ word_along kind way p q p' q' e f same =
 
 -- ---- in the line
 
+-- a call comes out alike in states with the same box and the same word
 pub ends_alike : (plan : PlanFields) (state other : LineState) (b : ℕ) (call : Call) → IsPlan plan
     → IsStateOf plan state → IsStateOf plan other → KnowsCall plan b call → HaveSameFootprint plan b call state other
     → EndsAlike plan b call state other
@@ -93,6 +94,7 @@ ends_alike plan state other b call is h k known same =
           (get_or-set_same other.pairs (pair_of plan b call) _ opening_pair there.pair) told.word;
     }
 
+-- a call leaves every other box and every other word as they were
 pub keeps_others : (plan : PlanFields) (state : LineState) (b : ℕ) (call : Call) → IsPlan plan → IsStateOf plan state
     → KnowsCall plan b call → KeepsOthers plan b call state
 unfolding step

@@ -18,19 +18,23 @@ use Rattle.line_law.proofs.Numbers.{length_numbered}
 abbrev IsTrain : Passage → Type 0
 IsTrain passage = IsTrainNo passage.train
 
+-- a choice by a test that holds is the first
 pub if_true : {A : Type 0} (b : Bool) (x y : A) → b ≡ true → (if b then x else y) ≡ x
 if_true true x y h = refl
 if_true false x y h = cc
 
+-- a choice by a test that doesn't hold is the second
 pub if_false : {A : Type 0} (b : Bool) (x y : A) → b ≡ false → (if b then x else y) ≡ y
 if_false true x y h = cc
 if_false false x y h = refl
 
+-- different numbers are told apart
 pub eqb_no : (a b : ℕ) → a ≢ b → (a == b) ≡ false
 eqb_no a b ne =
     ⊎_elim (λ (t : ((a == b) ≡ true) × (a ≡ b)). absurd (ne t.1)) (λ (t : ((a == b) ≡ false) × (a ≢ b)). t.0)
     (eqb_tells a b)
 
+-- equal numbers are found equal
 pub eqb_yes : (a b : ℕ) → a ≡ b → (a == b) ≡ true
 eqb_yes a b e =
     ⊎_elim (λ (t : ((a == b) ≡ true) × (a ≡ b)). t.0) (λ (t : ((a == b) ≡ false) × (a ≢ b)). absurd (t.1 e))
@@ -78,6 +82,7 @@ pub line_fits : (ts : List Passage) → All IsTrain ts → plain_line_number ts 
 line_fits ts all = let a = lane_small 0 ts all in let b = lane_small 1 ts all in let c = lane_small 2 ts all in let d =
     lane_small 3 ts all in omega arith
 
+-- a lane of a plain line's word has the train that stands there
 pub lane-plain_line_number : (ts : List Passage) (i : ℕ) → All IsTrain ts
     → lane (plain_line_number ts) i ≡ lane_of ts (i % 4)
 lane-plain_line_number ts i all = lane-lanes_word (lane_of ts) i (λ j. lane_small j ts all)
@@ -99,15 +104,18 @@ held_none taken sent m (t ∷ ts) h apart =
 or_yes : (a b : Bool) → a ≡ true → (a || b) ≡ true
 or_yes a b h = rw h refl
 
+-- the plain line has room for the next train, and its lane is empty
 pub record Next (sent : ℕ) (ts : List Passage) : Type 0 where
   pub few : length ts < 4
   pub free : holds ts (sent + 1) ≡ false
   pub empty : lane_of ts ((sent + 1) % 4) ≡ 0
 
+-- the plain line has no room for the next train, and its lane is taken
 pub record Full (sent : ℕ) (ts : List Passage) : Type 0 where
   pub taken : holds ts (sent + 1) ≡ true
   pub there : 0 < lane_of ts ((sent + 1) % 4)
 
+-- the lane of the next train is empty exactly where the plain line has room for it
 pub next_lane : (taken sent : ℕ) (ts : List Passage) → AreNumbered taken sent ts → length ts ≤ 4 → All IsTrain ts
     → Next sent ts ⊎ Full sent ts
 next_lane taken sent [] h four all = inl (record { few = omega arith; free = refl; empty = refl })
@@ -161,6 +169,7 @@ pub record First (taken : ℕ) (t : Passage) (ts : List Passage) : Type 0 where
   pub lane_is : lane (plain_line_number (t ∷ ts)) (taken + 1) ≡ t.train
   pub left : bit_and (plain_line_number (t ∷ ts)) (lane_mask (taken + 1)) ≡ plain_line_number ts
 
+-- the first train of a plain line leaves its lane, and the others keep theirs
 pub line_left : (taken sent : ℕ) (t : Passage) (ts : List Passage) → AreNumbered taken sent (t ∷ ts)
     → length (t ∷ ts) ≤ 4 → All IsTrain (t ∷ ts) → First taken t ts
 line_left taken sent t ts h four all = record { lane_is = is; left = out }

@@ -126,10 +126,10 @@ enters box_plan here lever signal train way pair is to there has =
     (entry_at here (left_by box_plan here signal) way train (train_at_signal here (signal_of box_plan lever)) pair
     (fits_lane here signal.from train has there) (at_signal (signal_of box_plan lever) here signal train is there))
 
+-- what the operation of a call makes of a word that agrees is what the law makes of it
 pub follows : (plan : PlanFields) (box_plan : BoxFields) (act : Act) (here : BoxState) (d : Decision) (pair : PairState)
     → Outcome plan box_plan here act d → IsOnWord (kind_of d) → HasTrainNos here
     → Agrees (kind_of d) (link_of box_plan act) here pair → Follows box_plan act here d pair
-follows plan box_plan act here d pair (Refused a reply refused) on has agrees = absurd on
 follows plan box_plan act here d pair (Rings side code) on has agrees = record {
   first = λ h. on_bell (ring here side code) side pair (first_by box_plan (acts.Ring side code) here)
       (ring_makes here side code (of_way pair.bells side) agrees);
@@ -161,16 +161,11 @@ follows plan box_plan act here d pair (AwaitsBlock way p) on has agrees = record
       (see_makes here way p (of_way pair.blocks way));
   second = λ op is h. absurd h;
 }
-follows plan box_plan act here d pair (Pulls lever e free) on has agrees = absurd on
 follows plan box_plan act here d pair (PullsStarter lever way e free) on has agrees = record {
   first = λ h. pull_follows (starter_way (signal_of box_plan lever)) way here
       (pulled here lever (signal_of box_plan lever)) pair e;
   second = λ op is h. absurd h;
 }
-follows plan box_plan act here d pair (Puts lever free) on has agrees = absurd on
-follows plan box_plan act here d pair (Brings train free) on has agrees = absurd on
-follows plan box_plan act here d pair (GoesTo a lever signal train place e to there moves) on has agrees = absurd on
-follows plan box_plan act here d pair (GoesAway a lever signal train e to there moves) on has agrees = absurd on
 follows plan box_plan act here d pair (Enters a lever signal train way e to there (Passes free)) on has agrees =
     let entry = enters box_plan here lever signal train way pair e (ap starter_way e ∙ ap way_to to) there has agrees in
     record { first = entry.full; second = entry.free }
@@ -197,8 +192,7 @@ follows plan box_plan act here d pair (Clears way free) on has agrees = record {
       (clear_makes here way (of_way pair.lines way) agrees);
   second = λ op is h. absurd h;
 }
-follows plan box_plan act here d pair (Winds way free) on has agrees = absurd on
-follows plan box_plan act here d pair (Releases way free) on has agrees = absurd on
+follows plan box_plan act here d pair out on has agrees = absurd on
 
 first_there : (kind : Kind) (P : Type 0) → IsOnWord kind → FirstOn kind P → P
 first_there Tally P on h = absurd on

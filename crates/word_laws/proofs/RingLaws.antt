@@ -10,9 +10,7 @@ use Rattle.block_words.specs.declared.Way.TheVariants.{Up, Down}
 use Rattle.line_plan.specs.Frames.{BoxFields, same_way}
 use Rattle.line_plan.specs.Plans.{IsPlan, PlanFields}
 use Rattle.line_law.specs.declared.call.Act.{Act}
-use Rattle.line_law.specs.declared.call.Act.TheVariants.{Ring, Hear, AwaitBell, Turn, AwaitBlock, Pull, Put, Bring}
-use Rattle.line_law.specs.declared.call.Act.TheVariants.{Pass, Overrun, AwaitTrain, Berth, BerthPart, ClearPortion}
-use Rattle.line_law.specs.declared.call.Act.TheVariants.{Wind, Release}
+use Rattle.line_law.specs.declared.call.Act.TheVariants.{Ring, Hear, AwaitBell}
 use Rattle.line_law.specs.declared.call.Entry.{Entry}
 use Rattle.line_law.specs.declared.call.Reply.{Reply}
 use Rattle.line_law.specs.declared.call.Reply.TheVariants.{Heard, BellNotYet}
@@ -28,9 +26,7 @@ use Rattle.line_law.specs.Decisions.{Decision, Told, OnBell, on_pair}
 use Rattle.line_law.specs.States.{LineState, IsStateOf, box_at, opening_pair, opening_state, pair_at}
 use Rattle.line_law.specs.Law.{step, step_at, pair_of, box_plan_of, decide, at_moment, link_of}
 use Rattle.line_law.specs.History.{IsLegal, IsLegalFrom, after_entry, state_after, state_of}
-use Rattle.line_law.specs.Outcomes.{Outcome, Refused, Rings, Hears, AwaitsBell, Turns, AwaitsBlock, Pulls, PullsStarter}
-use Rattle.line_law.specs.Outcomes.{Puts, Brings, GoesTo, GoesAway, Enters, AwaitsTrain, Berths, Parts, Clears, Winds}
-use Rattle.line_law.specs.Outcomes.{Releases}
+use Rattle.line_law.specs.Outcomes.{Outcome, Rings, Hears, AwaitsBell}
 use Rattle.word_laws.specs.Rings.{bell_at, bell_link, code_heard, code_rung, count_told, heard_on, is_bell, is_on_bell}
 use Rattle.word_laws.specs.Rings.{rung_on, unheard_on}
 use Rattle.line_law.proofs.Lines.{has_places}
@@ -115,61 +111,22 @@ act_passes plan bp (Hear side) here pair way e =
 act_passes plan bp (AwaitBell side code) here pair way e =
     on_bell_passes (AwaitBell side code) (opposite side) way (await_bell here code) pair
     (λ bell. await_passes here side code bell.count bell.unheard)
-act_passes plan bp (Turn v position) here pair way e = absurd cc
-act_passes plan bp (AwaitBlock v position) here pair way e = absurd cc
-act_passes plan bp (Pull lever) here pair way e = absurd cc
-act_passes plan bp (Put lever) here pair way e = absurd cc
-act_passes plan bp (Bring train) here pair way e = absurd cc
-act_passes plan bp (Pass lever) here pair way e = absurd cc
-act_passes plan bp (Overrun lever) here pair way e = absurd cc
-act_passes plan bp (AwaitTrain v) here pair way e = absurd cc
-act_passes plan bp (Berth v) here pair way e = absurd cc
-act_passes plan bp (BerthPart v) here pair way e = absurd cc
-act_passes plan bp (ClearPortion v) here pair way e = absurd cc
-act_passes plan bp (Wind v) here pair way e = absurd cc
-act_passes plan bp (Release v) here pair way e = absurd cc
+act_passes plan bp act here pair way e = absurd cc
 
 -- a call is on no bell, or on that of its line
 bell_is : (bp : BoxFields) (act : Act) → (bell_link act ≡ None) ⊎ (bell_link act ≡ Some (link_of bp act))
 bell_is bp (Ring side code) = inr refl
 bell_is bp (Hear side) = inr refl
 bell_is bp (AwaitBell side code) = inr refl
-bell_is bp (Turn v position) = inl refl
-bell_is bp (AwaitBlock v position) = inl refl
-bell_is bp (Pull lever) = inl refl
-bell_is bp (Put lever) = inl refl
-bell_is bp (Bring train) = inl refl
-bell_is bp (Pass lever) = inl refl
-bell_is bp (Overrun lever) = inl refl
-bell_is bp (AwaitTrain v) = inl refl
-bell_is bp (Berth v) = inl refl
-bell_is bp (BerthPart v) = inl refl
-bell_is bp (ClearPortion v) = inl refl
-bell_is bp (Wind v) = inl refl
-bell_is bp (Release v) = inl refl
+bell_is bp act = inl refl
 
 -- a call that is on no bell leaves both
 no_bell : (plan : PlanFields) (bp : BoxFields) (here : BoxState) (pair : PairState) (v : Way) (act : Act) (d : Decision)
     → Outcome plan bp here act d → bell_link act ≡ None → (on_pair v d pair).word.bells ≡ pair.bells
-no_bell plan bp here pair v act d (Refused a reply refused) e = refl
 no_bell plan bp here pair v act d (Rings side code) e = absurd cc
 no_bell plan bp here pair v act d (Hears side) e = absurd cc
 no_bell plan bp here pair v act d (AwaitsBell side code) e = absurd cc
-no_bell plan bp here pair v act d (Turns way position berth is free) e = refl
-no_bell plan bp here pair v act d (AwaitsBlock way position) e = refl
-no_bell plan bp here pair v act d (Pulls lever is free) e = refl
-no_bell plan bp here pair v act d (PullsStarter lever way is free) e = refl
-no_bell plan bp here pair v act d (Puts lever free) e = refl
-no_bell plan bp here pair v act d (Brings train free) e = refl
-no_bell plan bp here pair v act d (GoesTo a lever signal train place is to there moves) e = refl
-no_bell plan bp here pair v act d (GoesAway a lever signal train is to there moves) e = refl
-no_bell plan bp here pair v act d (Enters a lever signal train way is to there moves) e = refl
-no_bell plan bp here pair v act d (AwaitsTrain way) e = refl
-no_bell plan bp here pair v act d (Berths way berth is free) e = refl
-no_bell plan bp here pair v act d (Parts way berth is free) e = refl
-no_bell plan bp here pair v act d (Clears way free) e = refl
-no_bell plan bp here pair v act d (Winds way free) e = refl
-no_bell plan bp here pair v act d (Releases way free) e = refl
+no_bell plan bp here pair v act d out e = refl
 
 -- ---- one call in the line
 
@@ -279,10 +236,12 @@ all_passes plan es p way is h =
     subst (λ (bell : Bell). Passes bell (rung_on p way es) (heard_on p way es) (bell_at (state_of plan es) p way))
     (opens_silent plan p way) (history_passes plan (opening_state plan) p way es is (opening_shape plan) h)
 
+-- the codes rung on a bell are those that were heard, and then the one that stands unheard
 pub all_heard : (plan : PlanFields) (es : List Entry) (p : ℕ) (way : Way) → IsPlan plan → IsLegal plan es
     → rung_on p way es ≡ heard_on p way es ++ unheard_on (state_of plan es) p way
 all_heard plan es p way is h = (all_passes plan es p way is h).codes
 
+-- a bell has counted the codes that were rung on it
 pub all_counted : (plan : PlanFields) (es : List Entry) (p : ℕ) (way : Way) → IsPlan plan → IsLegal plan es
     → (bell_at (state_of plan es) p way).count ≡ length (rung_on p way es)
 all_counted plan es p way is h = let n = (all_passes plan es p way is h).count in omega arith
@@ -294,6 +253,7 @@ with_one plan es more e h =
     legal_first plan (opening_state plan) (es ++ e ∷ []) more
     (subst (λ (l : List Entry). IsLegal plan l) (sym (append_assoc es (e ∷ []) more)) h)
 
+-- a call on a bell is told how many codes were rung on it so far
 pub count_is_told : (plan : PlanFields) (es more : List Entry) (e : Entry) (p : ℕ) (way : Way) → IsPlan plan
     → IsLegal plan (es ++ e ∷ more) → IsTrue (is_on_bell p way e)
     → count_told e.reply ≡ length (rung_on p way (es ++ e ∷ []))

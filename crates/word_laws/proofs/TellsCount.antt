@@ -184,19 +184,13 @@ moved_link box_plan here act lever signal way is to (Overruns free) = ap starter
 
 call_counts : (plan : PlanFields) (box_plan : BoxFields) (act : Act) (here : BoxState) (d : Decision)
     → Outcome plan box_plan here act d → CountsAt (link_of box_plan act) here d
-call_counts plan box_plan act here d (Refused a reply refused) = tt
 call_counts plan box_plan act here d (Rings side code) = λ bell. rung_counts here side code bell.count bell.unheard
 call_counts plan box_plan act here d (Hears side) = λ bell. heard_counts here bell.count bell.unheard
 call_counts plan box_plan act here d (AwaitsBell side code) = λ bell. awaited_counts here code bell.count bell.unheard
 call_counts plan box_plan act here d (Turns way p b e free) = λ block. turned_counts here way p block
 call_counts plan box_plan act here d (AwaitsBlock way p) = λ block. seen_counts here p block
-call_counts plan box_plan act here d (Pulls lever e free) = tt
 call_counts plan box_plan act here d (PullsStarter lever way e free) =
     λ block. pulled_counts here (pulled here lever (signal_of box_plan lever)) way block
-call_counts plan box_plan act here d (Puts lever free) = tt
-call_counts plan box_plan act here d (Brings train free) = tt
-call_counts plan box_plan act here d (GoesTo a lever signal train place e to there moves) = tt
-call_counts plan box_plan act here d (GoesAway a lever signal train e to there moves) = tt
 call_counts plan box_plan act here d (Enters a lever signal train way e to there moves) =
     enters_by (link_of box_plan a) here (left_by box_plan here signal) way train
     (moved_link box_plan here a lever signal way e to moves)
@@ -206,8 +200,7 @@ call_counts plan box_plan act here d (Berths way b e free) =
 call_counts plan box_plan act here d (Parts way b e free) =
     λ line. parts_counts (next_train here way line) here way b.place line
 call_counts plan box_plan act here d (Clears way free) = λ line. clears_counts (next_train here way line) here way line
-call_counts plan box_plan act here d (Winds way free) = tt
-call_counts plan box_plan act here d (Releases way free) = tt
+call_counts plan box_plan act here d out = tt
 
 -- ---- in the pair, and in the line
 

@@ -34,6 +34,7 @@ use Rattle.word_laws.proofs.Lanes.{line_left, next_lane}
 
 -- ---- bells
 
+-- an unheard code fits its part of the bell's word
 pub code_small : (u : Option ℕ) → IfSome u IsCodeNo → code_number u < 256
 code_small None h = omega arith
 code_small (Some code) h = h.1
@@ -50,6 +51,7 @@ ring_at here side code count r (Some held) is h =
     if_false (bell_word count held == bell_word r 0) (bell_word (r + 1) code) (bell_word count held)
     (eqb_no (bell_word count held) (bell_word r 0) (λ e. absurd (omega arith)))
 
+-- a ring makes of the bell's word what the law makes of the bell
 pub ring_makes : (here : BoxState) (side : Way) (code : ℕ) (bell : Bell) → BellAgrees (Out side) here bell
     → word_after (ops.Ring side (bell_word (of_way here.rung side) 0) (bell_word (of_way here.rung side + 1) code))
     (bell_number bell) ≡ bell_number (ring here side code bell).word
@@ -67,6 +69,7 @@ heard_word : (here : BoxState) (count : ℕ) (u : Option ℕ) → bell_word coun
 heard_word here count None = refl
 heard_word here count (Some code) = refl
 
+-- hearing makes of the bell's word what the law makes of the bell
 pub hear_makes : (here : BoxState) (way side : Way) (bell : Bell) → BellAgrees (In way) here bell
     → word_after (ops.Hear side) (bell_number bell) ≡ bell_number (hear here bell).word
 hear_makes here way side bell a =
@@ -88,6 +91,7 @@ awaited_word here code count (Some held) h is =
           record { count = count; unheard = Some held };
     }) (eqb_yes held code e))))
 
+-- an await makes of the bell's word, where the code stands there, what the law makes of the bell
 pub await_makes : (here : BoxState) (way side : Way) (code : ℕ) (bell : Bell) → BellAgrees (In way) here bell
     → bell_code (bell_number bell) ≡ code
     → word_after (ops.Hear side) (bell_number bell) ≡ bell_number (await_bell here code bell).word
@@ -110,6 +114,7 @@ not_yet_word here code count (Some held) h ne =
     })
     (eqb_no held code (λ e. ne (bell_code-bell_word count held h.1 ∙ e))))))
 
+-- an await makes of the bell's word, where the code doesn't stand there, what the law makes of the bell
 pub not_yet_makes : (here : BoxState) (way side : Way) (code : ℕ) (bell : Bell) → BellAgrees (In way) here bell
     → bell_code (bell_number bell) ≢ code
     → word_after (ops.LookBell side) (bell_number bell) ≡ bell_number (await_bell here code bell).word
@@ -117,6 +122,7 @@ not_yet_makes here way side code bell a ne = not_yet_word here code bell.count b
 
 -- ---- instruments
 
+-- a turn makes of the instrument's word what the law makes of the instrument
 pub turn_makes : (here : BoxState) (way : Way) (p : Position) (block : Block) → BlockAgrees (In way) here block
     → word_after (ops.Turn way (block_word ((of_way here.incoming way).turns + 1) false p)) (block_number block)
     ≡ block_number (turned here way p block).word
@@ -127,6 +133,7 @@ either_word : {W : Type 0} (number : W → ℕ) (b : Bool) (x y : Told W) (n : �
 either_word number true x y n h g = h
 either_word number false x y n h g = g
 
+-- a look makes of the instrument's word what the law makes of the instrument
 pub see_makes : (here : BoxState) (way : Way) (p : Position) (block : Block)
     → word_after (ops.LookBlock way) (block_number block) ≡ block_number (await_block here p block).word
 see_makes here way p block =
@@ -135,6 +142,7 @@ see_makes here way p block =
     (record { reply = replies.BlockNotYet block.position block.turns; here = here; word = block }) (block_number block)
     refl refl
 
+-- a starter's pull makes of the instrument's word what the law makes of the instrument
 pub pull_makes : (here after : BoxState) (way side : Way) (block : Block)
     → word_after (ops.Pull side) (block_number block) ≡ block_number (pulled_under here after way block).word
 pull_makes here after way side block =
@@ -184,6 +192,7 @@ pub record LaneSays (here : BoxState) (way : Way) (line : List Passage) : Type 0
   pub free : lane_next here way (plain_line_number line) ≡ 0
       → (holds line (of_way here.sent way + 1) ≡ false) × (length line < 4)
 
+-- the lane of the next train tells whether the section is full
 pub lane_says : (here : BoxState) (way : Way) (line : List Passage) → PlainLineAgrees (Out way) here line
     → LaneSays here way line
 lane_says here way line a =
@@ -195,6 +204,7 @@ lane_says here way line a =
     record { taken = λ some. f.taken; free = λ none. absurd (omega (arith, l, f.there, none)) })
     (next_lane a.numbered.0 (of_way here.sent way) line a.numbered.1 a.four a.each)
 
+-- a train that finds the section full leaves its word
 pub full_makes : (here left : BoxState) (way side : Way) (train : ℕ) (line : List Passage)
     → PlainLineAgrees (Out way) here line → 0 < lane_next here way (plain_line_number line)
     → word_after (ops.LookSection side) (plain_line_number line)
@@ -202,6 +212,7 @@ pub full_makes : (here left : BoxState) (way side : Way) (train : ℕ) (line : L
 full_makes here left way side train line a some =
     ap plain_line_number (sym (entry_word here left way train line true ((lane_says here way line a).taken some)))
 
+-- a train that enters makes of the plain line's word what the law makes of the plain line
 pub enter_makes : (here left : BoxState) (way side : Way) (train : ℕ) (line : List Passage)
     → PlainLineAgrees (Out way) here line → train < 65536 → lane_next here way (plain_line_number line) ≡ 0
     → word_after (ops.Enter side (lane_bits (of_way here.sent way + 1) train)) (plain_line_number line)
@@ -216,6 +227,7 @@ await_word : (t : Option ℕ) (here : BoxState) (j : ℕ) (line : List Passage)
 await_word None here j line = refl
 await_word (Some train) here j line = refl
 
+-- a look for the next train leaves the plain line's word
 pub approach_makes : (here : BoxState) (way side : Way) (line : List Passage)
     → word_after (ops.LookSection side) (plain_line_number line) ≡ plain_line_number (await_train here way line).word
 approach_makes here way side line = await_word (next_train here way line) here (next_number here way) line
@@ -225,6 +237,7 @@ part_word : (t : Option ℕ) (here : BoxState) (way : Way) (place j : ℕ) (line
 part_word None here way place j line = refl
 part_word (Some train) here way place j line = refl
 
+-- a train that leaves a portion behind leaves the plain line's word
 pub part_makes : (here : BoxState) (way side : Way) (place : ℕ) (line : List Passage)
     → word_after (ops.LookSection side) (plain_line_number line) ≡ plain_line_number (parted here way place line).word
 part_makes here way side place line = part_word (next_train here way line) here way place (next_number here way) line
@@ -238,6 +251,7 @@ pub first_is : (here : BoxState) (way : Way) (t : Passage) (ts : List Passage) �
 first_is here way t ts e =
     if_true (t.number == next_number here way) (Some t.train) None (eqb_yes t.number (next_number here way) e)
 
+-- a train that berths makes of the plain line's word what the law makes of the plain line
 pub berth_makes : (here : BoxState) (way : Way) (place : ℕ) (line : List Passage) → PlainLineAgrees (In way) here line
     → word_after (take_out_op here way) (plain_line_number line) ≡ plain_line_number (berthed here way place line).word
 berth_makes here way place [] a = nothing_out (lane_mask ((of_way here.incoming way).taken + 1))
@@ -247,6 +261,7 @@ berth_makes here way place (t ∷ ts) a =
     (λ (o : Option ℕ). plain_line_number (train_berthed o here way place (next_number here way) (t ∷ ts)).word)
     (first_is here way t ts a.numbered.1.0))
 
+-- a portion that is cleared away makes of the plain line's word what the law makes of the plain line
 pub clear_makes : (here : BoxState) (way : Way) (line : List Passage) → PlainLineAgrees (In way) here line
     → word_after (take_out_op here way) (plain_line_number line) ≡ plain_line_number (cleared here way line).word
 clear_makes here way [] a = nothing_out (lane_mask ((of_way here.incoming way).taken + 1))

@@ -18,6 +18,7 @@ one_way : (way : Way) → way_number way ≤ 1
 one_way Up = omega arith
 one_way Down = omega arith
 
+-- each word of a line has a place among its words, after the first
 pub place_within : (n : ℕ) (w : Word) → IsWordOf n w → (0 < word_place n w) × (word_place n w < word_count n)
 place_within n (TallyOf b) is = (omega arith, omega arith)
 place_within n (BellOf p way) is = let o = one_way way in (omega arith, omega arith)
@@ -35,6 +36,7 @@ same_both p q Up Down e = absurd (omega arith)
 same_both p q Down Up e = absurd (omega arith)
 same_both p q Down Down e = record { pair = omega arith; way = refl }
 
+-- two words of a line have different places
 pub one_place : (n : ℕ) (w v : Word) → IsWordOf n w → IsWordOf n v → word_place n w ≡ word_place n v → w ≡ v
 one_place n (TallyOf b) (TallyOf c) is are e = let same : b ≡ c = omega arith in cc
 one_place n (TallyOf b) (BellOf q w) is are e = absurd (omega arith)

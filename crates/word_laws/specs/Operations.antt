@@ -12,15 +12,14 @@ use Rattle.line_plan.specs.Frames.{BoxFields, signal_of}
 use Rattle.line_plan.specs.Plans.{PlanFields}
 use Rattle.line_plan.specs.declared.signal.Signal.{Signal}
 use Rattle.line_law.specs.declared.call.Act.{Act}
-use Rattle.line_law.specs.declared.call.Act.TheVariants.{Ring, Hear, AwaitBell, Turn, AwaitBlock, Pull, Put, Bring}
-use Rattle.line_law.specs.declared.call.Act.TheVariants.{Pass, Overrun, AwaitTrain, Berth, BerthPart, ClearPortion}
-use Rattle.line_law.specs.declared.call.Act.TheVariants.{Wind, Release}
+use Rattle.line_law.specs.declared.call.Act.TheVariants.{Ring, Hear, AwaitBell, Turn, AwaitBlock, Pull, Pass, Overrun}
+use Rattle.line_law.specs.declared.call.Act.TheVariants.{AwaitTrain, Berth, BerthPart, ClearPortion}
 use Rattle.line_law.specs.declared.call.Entry.{Entry}
 use Rattle.line_law.specs.declared.state.BoxState.{BoxState}
 use Rattle.line_law.specs.declared.state.PairState.{PairState}
 use Rattle.line_law.specs.Arrivals.{next_number}
 use Rattle.line_law.specs.Decisions.{Decision, on_pair}
-use Rattle.word_laws.specs.Footprint.{Kind, Tally, BellWord, BlockWord, PlainLineWord, kind_of}
+use Rattle.word_laws.specs.Footprint.{Kind, Tally, kind_of}
 use Rattle.line_law.specs.History.{state_of}
 use Rattle.line_law.specs.Instruments.{same_position}
 use Rattle.line_law.specs.Law.{at_moment, decide, link_of, box_plan_of}
@@ -72,16 +71,13 @@ first_by box_plan (Turn way position) here =
     ops.Turn way (block_word ((of_way here.incoming way).turns + 1) false position)
 first_by box_plan (AwaitBlock way position) here = ops.LookBlock way
 first_by box_plan (Pull lever) here = pull_op (starter_way (signal_of box_plan lever))
-first_by box_plan (Put lever) here = ops.Local
-first_by box_plan (Bring train) here = ops.Local
 first_by box_plan (Pass lever) here = look_op (starter_way (signal_of box_plan lever))
 first_by box_plan (Overrun lever) here = look_op (starter_way (signal_of box_plan lever))
 first_by box_plan (AwaitTrain way) here = ops.LookSection way
 first_by box_plan (Berth way) here = take_out_op here way
 first_by box_plan (BerthPart way) here = ops.LookSection way
 first_by box_plan (ClearPortion way) here = take_out_op here way
-first_by box_plan (Wind way) here = ops.Local
-first_by box_plan (Release way) here = ops.Local
+first_by box_plan act here = ops.Local
 
 -- the second operation, where a call may have one after its looks: a code that was seen is heard, and a train enters
 -- the lane that it saw empty
@@ -98,15 +94,11 @@ second_by box_plan act here = None
 -- a call that is decided in its box alone is counted on the box's tally, and has no other operation
 abbrev pub first_on : Kind → WordOp → WordOp
 first_on Tally op = ops.Local
-first_on BellWord op = op
-first_on BlockWord op = op
-first_on PlainLineWord op = op
+first_on kind op = op
 
 abbrev pub second_on : Kind → Option WordOp → Option WordOp
 second_on Tally op = None
-second_on BellWord op = op
-second_on BlockWord op = op
-second_on PlainLineWord op = op
+second_on kind op = op
 
 -- the first operation of a call of a box in this state
 abbrev pub first_op : PlanFields → BoxFields → Act → BoxState → WordOp
@@ -141,15 +133,11 @@ SecondDecides box_plan act here word = ⊥
 -- a call that is decided in its box alone is decided by its first operation, whatever that meets
 abbrev pub FirstOn : Kind → Type 0 → Type 0
 FirstOn Tally decides = Unit {0}
-FirstOn BellWord decides = decides
-FirstOn BlockWord decides = decides
-FirstOn PlainLineWord decides = decides
+FirstOn kind decides = decides
 
 abbrev pub SecondOn : Kind → Type 0 → Type 0
 SecondOn Tally decides = ⊥
-SecondOn BellWord decides = decides
-SecondOn BlockWord decides = decides
-SecondOn PlainLineWord decides = decides
+SecondOn kind decides = decides
 
 -- a call whose first operation meets this word is decided there
 abbrev pub AtFirst : PlanFields → BoxFields → Act → BoxState → ℕ → Type 0
@@ -217,9 +205,7 @@ HasTrainNos here = (place : ℕ) → IfSome (train_on here.places place) IsTrain
 -- a call is decided on a word
 abbrev pub IsOnWord : Kind → Type 0
 IsOnWord Tally = ⊥
-IsOnWord BellWord = Unit {0}
-IsOnWord BlockWord = Unit {0}
-IsOnWord PlainLineWord = Unit {0}
+IsOnWord kind = Unit {0}
 
 -- where a call is decided at an operation, the new word is the number of what the law makes of the pair whose number
 -- the old word was
