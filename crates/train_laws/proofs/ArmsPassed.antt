@@ -31,9 +31,9 @@ use Rattle.line_law.specs.Levers.{is_unspent_clear, lock_refusal, pull_refusal, 
 use Rattle.line_law.specs.Levers.{spare_refusal}
 use Rattle.line_law.specs.Lines.{ArmsFollow}
 use Rattle.line_law.specs.Links.{way_of}
-use Rattle.line_law.specs.Outcomes.{Moves, Passes, Overruns, Outcome, Refused, Rings, Hears, AwaitsBell, Turns}
-use Rattle.line_law.specs.Outcomes.{AwaitsBlock, Pulls, PullsStarter, Puts, Brings, GoesTo, GoesAway, Enters}
-use Rattle.line_law.specs.Outcomes.{AwaitsTrain, Berths, Parts, Clears, Winds, Releases}
+use Rattle.line_law.specs.Outcomes.{Moves, Passes, Overruns, Outcome, Refused, Rings, Hears, AwaitsBell}
+use Rattle.line_law.specs.Outcomes.{AwaitsBlock, Pulls, PullsStarter, Puts, GoesTo, GoesAway, Enters}
+use Rattle.line_law.specs.Outcomes.{AwaitsTrain, Berths, Parts, Clears}
 use Rattle.line_law.specs.Ready.{FitsHere}
 use Rattle.line_law.specs.Refusals.{is_refused_here}
 use Rattle.line_law.specs.States.{IsStateOf, LineState, box_at, no_state, opening_state, pair_at}

@@ -28,9 +28,7 @@ use Rattle.line_law.specs.Instruments.{same_position}
 use Rattle.line_law.specs.Law.{at_moment, decide, link_of, box_plan_of}
 use Rattle.line_law.specs.Levers.{is_unspent_clear, lock_refusal, pull_at, pull_refusal, pulled, pulled_under}
 use Rattle.line_law.specs.Levers.{row_refusal, spare_refusal, starter_link, starter_way, track_refusal}
-use Rattle.line_law.specs.Outcomes.{Outcome, Refused, Rings, Hears, AwaitsBell, Turns, AwaitsBlock, Pulls, PullsStarter}
-use Rattle.line_law.specs.Outcomes.{Puts, Brings, GoesTo, GoesAway, Enters, AwaitsTrain, Berths, Parts, Clears, Winds}
-use Rattle.line_law.specs.Outcomes.{Releases}
+use Rattle.line_law.specs.Outcomes.{Outcome, Turns, AwaitsBlock, PullsStarter}
 use Rattle.train_laws.specs.Pulls.{PullsUnder, is_starter_pull}
 use Rattle.line_law.specs.States.{IsStateOf, LineState, opening_state}
 use Rattle.line_law.specs.LeverEnds.{is_pulled}

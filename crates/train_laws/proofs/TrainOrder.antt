@@ -388,10 +388,7 @@ advance_quiet plan x bp here act d (Hears side) off = λ bell. refl
 advance_quiet plan x bp here act d (AwaitsBell side code) off = λ bell. refl
 advance_quiet plan x bp here act d (Turns way position berth is free) off = λ block. refl
 advance_quiet plan x bp here act d (AwaitsBlock way position) off = λ block. refl
-advance_quiet plan x bp here act d (Pulls n is free) off = refl
 advance_quiet plan x bp here act d (PullsStarter n way is free) off = λ block. refl
-advance_quiet plan x bp here act d (Puts n free) off = refl
-advance_quiet plan x bp here act d (Brings train free) off = refl
 advance_quiet plan x bp here act d (GoesTo a n signal train place found to_place there moves) off =
     not_moving x here n signal a _ moves
 advance_quiet plan x bp here act d (GoesAway a n signal train found away there moves) off =
@@ -403,8 +400,7 @@ advance_quiet plan x bp here act d (Berths way berth is free) off = λ t. not_so
     (other_way way x.way off)
 advance_quiet plan x bp here act d (Parts way berth is free) off = λ t. refl
 advance_quiet plan x bp here act d (Clears way free) off = λ t. not_so (same_way way x.way) _ (other_way way x.way off)
-advance_quiet plan x bp here act d (Winds way free) off = refl
-advance_quiet plan x bp here act d (Releases way free) off = refl
+advance_quiet plan x bp here act d out off = refl
 
 -- ---- an entry
 

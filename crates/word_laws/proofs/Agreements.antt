@@ -33,9 +33,7 @@ use Rattle.line_law.specs.Law.{at_moment, decide, link_of, pair_of, box_plan_of,
 use Rattle.line_law.specs.Lines.{IsLineOf, pair_in}
 use Rattle.line_law.specs.Links.{pair_no, way_of}
 use Rattle.word_laws.specs.Operations.{HasTrainNos}
-use Rattle.line_law.specs.Outcomes.{Outcome, Refused, Rings, Hears, AwaitsBell, Turns, AwaitsBlock, Pulls, PullsStarter}
-use Rattle.line_law.specs.Outcomes.{Puts, Brings, GoesTo, GoesAway, Enters, AwaitsTrain, Berths, Parts, Clears, Winds}
-use Rattle.line_law.specs.Outcomes.{Releases}
+use Rattle.line_law.specs.Outcomes.{Outcome, Rings, Hears, AwaitsBell}
 use Rattle.line_law.specs.SectionFacts.{HasLink, IsLocal}
 use Rattle.line_law.specs.States.{IsStateOf, LineState, box_at, opening_pair, opening_state, pair_at}
 use Rattle.line_law.specs.Tellings.{IsCode}

@@ -28,9 +28,9 @@ use Rattle.line_law.specs.Links.{way_of}
 use Rattle.word_laws.specs.Operations.{FirstDecides, FirstOn, FollowsLaw, SecondDecides, SecondOn, HasTrainNos}
 use Rattle.word_laws.specs.Operations.{IsOnWord, MakesAt, enter_op, first_by, first_on, look_op, next_lane, pull_op}
 use Rattle.word_laws.specs.Operations.{second_by, second_on, take_out_op, train_at_signal, train_or_none}
-use Rattle.line_law.specs.Outcomes.{Passes, Overruns, Outcome, Refused, Rings, Hears, AwaitsBell, Turns, AwaitsBlock}
-use Rattle.line_law.specs.Outcomes.{Pulls, PullsStarter, Puts, Brings, GoesTo, GoesAway, Enters, AwaitsTrain, Berths}
-use Rattle.line_law.specs.Outcomes.{Parts, Clears, Winds, Releases}
+use Rattle.line_law.specs.Outcomes.{Passes, Overruns, Outcome, Rings, Hears, AwaitsBell, Turns, AwaitsBlock}
+use Rattle.line_law.specs.Outcomes.{PullsStarter, Enters, AwaitsTrain, Berths}
+use Rattle.line_law.specs.Outcomes.{Parts, Clears}
 use Rattle.line_law.specs.Tracks.{train_on}
 use Rattle.line_law.specs.Trains.{enter, left_by}
 use Rattle.line_law.specs.Ways.{of_way}

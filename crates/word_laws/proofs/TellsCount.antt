@@ -31,9 +31,9 @@ use Rattle.line_law.specs.Law.{at_moment, decide, link_of, pair_of, box_plan_of,
 use Rattle.line_law.specs.Levers.{is_unspent_clear, pulled, pulled_under, starter_link, starter_way}
 use Rattle.line_law.specs.Links.{way_of}
 use Rattle.line_law.specs.Known.{KnowsCall}
-use Rattle.line_law.specs.Outcomes.{Moves, Passes, Overruns, Outcome, Refused, Rings, Hears, AwaitsBell, Turns}
-use Rattle.line_law.specs.Outcomes.{AwaitsBlock, Pulls, PullsStarter, Puts, Brings, GoesTo, GoesAway, Enters}
-use Rattle.line_law.specs.Outcomes.{AwaitsTrain, Berths, Parts, Clears, Winds, Releases}
+use Rattle.line_law.specs.Outcomes.{Moves, Passes, Overruns, Outcome, Rings, Hears, AwaitsBell, Turns}
+use Rattle.line_law.specs.Outcomes.{AwaitsBlock, PullsStarter, Enters}
+use Rattle.line_law.specs.Outcomes.{AwaitsTrain, Berths, Parts, Clears}
 use Rattle.line_law.specs.States.{IsStateOf, LineState, box_at, no_state, opening_pair, pair_at}
 use Rattle.word_laws.specs.TellsWord.{TellsCount, count_after, count_before, count_met, kind_told}
 use Rattle.line_law.specs.Trains.{enter, holds, left_by}

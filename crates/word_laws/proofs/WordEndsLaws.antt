@@ -12,8 +12,7 @@ use Rattle.word_laws.specs.Footprint.{Tally}
 use Rattle.line_law.specs.Law.{decide, link_of}
 use Rattle.line_law.specs.Levers.{pulled, pulled_under, starter_link}
 use Rattle.line_law.specs.Outcomes.{Outcome, Refused, Rings, Hears, AwaitsBell, Turns, AwaitsBlock, Pulls, PullsStarter}
-use Rattle.line_law.specs.Outcomes.{Puts, Brings, GoesTo, GoesAway, Enters, AwaitsTrain, Berths, Parts, Clears, Winds}
-use Rattle.line_law.specs.Outcomes.{Releases}
+use Rattle.line_law.specs.Outcomes.{GoesTo, GoesAway, Enters, AwaitsTrain, Berths, Parts, Clears}
 use Rattle.word_laws.specs.TellsWord.{kind_told}
 use Rattle.line_law.specs.Trains.{enter, left_by}
 use Rattle.word_laws.specs.WordEnds.{AtEnd, RingsIt, HearsIt, AwaitsIt, PullsUnder, LooksAt, TurnsIt, Sends, LooksOut}
@@ -39,8 +38,6 @@ at_end plan box_plan act here d (Pulls lever e free) h = in_box (starter_link _)
 at_end plan box_plan act here d (PullsStarter lever way e free) h =
     subst (λ (l : Link). AtEnd l (OnBlock (pulled_under here (pulled here lever (signal_of box_plan lever)) way)))
     (sym (ap starter_link e)) (PullsUnder here (pulled here lever (signal_of box_plan lever)))
-at_end plan box_plan act here d (Puts lever free) h = h
-at_end plan box_plan act here d (Brings train free) h = h
 at_end plan box_plan act here d (GoesTo a lever signal train place e to there moves) h =
     in_box (link_of box_plan a) _ _ h
 at_end plan box_plan act here d (GoesAway a lever signal train e to there moves) h = in_box (link_of box_plan a) _ _ h
@@ -51,8 +48,7 @@ at_end plan box_plan act here d (AwaitsTrain way) h = LooksOut here
 at_end plan box_plan act here d (Berths way b e free) h = Takes here b.place
 at_end plan box_plan act here d (Parts way b e free) h = TakesPart here b.place
 at_end plan box_plan act here d (Clears way free) h = ClearsAway here
-at_end plan box_plan act here d (Winds way free) h = h
-at_end plan box_plan act here d (Releases way free) h = h
+at_end plan box_plan act here d out h = h
 
 -- each call is at its end of its word, or decided in its box alone with a reply that tells so
 pub call_at_end : (plan : PlanFields) (box_plan : BoxFields) (act : Act) (here : BoxState)
