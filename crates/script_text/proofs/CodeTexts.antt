@@ -48,11 +48,13 @@ own_number : (plan : PlanFields) (number : ℕ) → IsPlan plan → is_code_no p
 own_number plan number p h = let i =
     in_table plan number h in code_number-code_at plan.codes number p.classes.table i.low i.high
 
+-- a printed code is read as its number in a call
 pub code_read : (plan : PlanFields) (number : ℕ) → IsPlan plan → is_code_no plan number ≡ true
     → code_in plan (code_no_text plan.codes number) ≡ Ok number
 unfolding code_in
 code_read plan number p h = rw (spelled_code plan number p h, own_number plan number p h) refl
 
+-- and in a reply
 pub code_named-read : (plan : PlanFields) (number : ℕ) → IsPlan plan → is_code_no plan number ≡ true
     → code_named plan (code_no_text plan.codes number) ≡ Some number
 code_named-read plan number p h = rw (spelled_code plan number p h, own_number plan number p h) refl
@@ -81,10 +83,12 @@ coded_is plan word None e = tt
 coded_is plan word (Some code) e =
     numbered_is plan word code (code_number plan.codes code) (read_spelled word code e).1 refl
 
+-- a word that is read as a code of the table is its text
 pub code_in_is : (plan : PlanFields) (word : List ℕ) → OfOk (IsCodeText plan word) (code_in plan word)
 unfolding code_in
 code_in_is plan word = coded_is plan word (code_of word) refl
 
+-- a word that names a code of the table is its text
 pub code_spelled : (plan : PlanFields) (word : List ℕ) (number : ℕ) → code_named plan word ≡ Some number
     → IsCodeText plan word number
 code_spelled plan word number e = go (code_of word) refl e where
@@ -101,6 +105,7 @@ not_empty : (word : List ℕ) → 1 ≤ length word → is_empty_word word ≡ f
 not_empty [] h = absurd (omega arith)
 not_empty (b ∷ bs) h = refl
 
+-- a code's text is a word
 pub code_is_word : (plan : PlanFields) (number : ℕ) → IsPlan plan → is_code_no plan number ≡ true
     → is_word (code_no_text plan.codes number) ≡ true
 code_is_word plan number p h =
@@ -111,6 +116,7 @@ code_is_word plan number p h =
       list_all-weaker is_code_byte is_word_byte code_byte (code_text code) (text_bytes code is),
     ) refl
 
+-- a code's text is short
 pub code_short : (plan : PlanFields) (number : ℕ) → IsPlan plan → is_code_no plan number ≡ true
     → length (code_no_text plan.codes number) ≤ 14
 code_short plan number p h = text_few (code_at plan.codes number) (code_is plan number p h)

@@ -14,12 +14,14 @@ abbrev pub last_moment : ℕ → List Call → ℕ
 last_moment moment [] = moment
 last_moment moment (call ∷ calls) = last_moment call.moment calls
 
+-- calls in turn with one more, not before the last of them, are in turn
 pub AreCalls-more : (plan : PlanFields) (b moment : ℕ) (calls : List Call) (call : Call) → AreCalls plan b moment calls
     → KnowsCall plan b call → last_moment moment calls ≤ call.moment → AreCalls plan b moment (calls ++ call ∷ [])
 AreCalls-more plan b moment [] call h known later = (known, later, tt)
 AreCalls-more plan b moment (first ∷ calls) call h known later =
     (h.0, h.1, AreCalls-more plan b first.moment calls call h.2 known later)
 
+-- the last moment is that of the last call
 pub last_moment-more : (moment : ℕ) (calls : List Call) (call : Call)
     → last_moment moment (calls ++ call ∷ []) ≡ call.moment
 last_moment-more moment [] call = refl

@@ -1,9 +1,9 @@
-mod ActRows
 pub mod Named
 pub mod CodeTexts
 pub mod LeverTexts
 pub mod InTurn
 pub mod MomentTexts
+pub mod PlainWords
 pub mod CallTexts
 pub mod ReplyWords
 pub mod ReplyTexts

@@ -19,4 +19,5 @@ faults_first old new (Ok done) read h = tt
 faults_first old new (Err (faults.Cause cause)) read h = tt
 faults_first old new (Err faults.NoMemory) read h = h.0
 
+-- of a reader that never runs out of memory
 pub ruleset memory_rules = (never_runs_out)

@@ -221,6 +221,7 @@ moment_day version word (Some m) e = (spelled_moment version word m (sym e)).1
 pub printed_ready : (version m : ℕ) → m < ready_moments version → ready_of version (moment_text version m) ≡ Some m
 printed_ready version m h = printed_time 25 version m (omega arith) h
 
+-- a word that is read as a ready moment is that moment as it is printed
 pub spelled_ready : (version : ℕ) (word : List ℕ) (m : ℕ) → ready_of version word ≡ Some m
     → word ≡ moment_text version m
 spelled_ready version word m e = (spelled_time 25 version word m e).0
@@ -249,6 +250,7 @@ pub record IsMomentText (text : List ℕ) : Type 0 where
   pub some : 5 ≤ length text
   pub few : length text ≤ 8
 
+-- a printed moment is a word of five to eight bytes, and begins no line that is skipped
 pub moment_is_word : (version m : ℕ) → m < hundred_hours version → IsMomentText (moment_text version m)
 moment_is_word version m h = go (eqb version 1) h where
   go : (first : Bool) → m < cond first 6000 360000 → IsMomentText (cond first (clock_text m) (long_text m))
@@ -270,16 +272,19 @@ moment_is_word version m h = go (eqb version 1) h where
         few = omega arith;
       }
 
+-- the moments of a day are printed with two digits for the hours
 pub day_is_short : (version m : ℕ) → m < moments_of version → m < hundred_hours version
 day_is_short version m h = go (eqb version 1) h where
   go : (first : Bool) → m < cond first 1440 86400 → m < cond first 6000 360000
   go true h = omega arith
   go false h = omega arith
 
+-- and so are the ready moments
 pub ready_is_short : (version m : ℕ) → m < ready_moments version → m < hundred_hours version
 ready_is_short version m h = go (eqb version 1) h where
   go : (first : Bool) → m < cond first 1500 90000 → m < cond first 6000 360000
   go true h = omega arith
   go false h = omega arith
 
+-- of every moment of a day
 pub ruleset moment_rules = (printed_moment, spelled_moment)

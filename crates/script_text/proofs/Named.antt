@@ -8,12 +8,10 @@ use Rattle.std.proofs.lemmas.List.{length-map}
 use Rattle.std.proofs.lemmas.List.Quantifiers.{position-Some}
 use Rattle.std.proofs.lemmas.Option.{slice_get-get_or, get_or_from_slice_get}
 use Rattle.std.proofs.lemmas.Slice.Eq.{bytes_eq-Decides}
-use Rattle.rail_text.specs.Forms.{is_word}
 use Rattle.rail_text.specs.Names.{are_new}
 use Rattle.rail_text.specs.Words.{is_name}
 use Rattle.rail_text.proofs.DistinctNames.{position-distinct}
 use Rattle.rail_text.proofs.PrintedLines.{both}
-use Rattle.rail_text.proofs.PrintedWords.{name_is_word}
 use Rattle.line_plan.specs.Plans.{PlanFields, IsPlan, box_at, is_train, names_of_trains}
 use Rattle.line_plan.specs.declared.plan.TrainPlan.{TrainPlan}
 use Rattle.script_text.specs.Names.{place_text, train_text, place_named, train_named}
@@ -58,11 +56,11 @@ pub place_spelled : (plan : PlanFields) (b : ℕ) (word : List ℕ) (place : ℕ
     → word ≡ place_text plan b place
 place_spelled plan b word place e = (found_is (box_at plan.boxes b).places word place e).1
 
-pub place_is_word : (plan : PlanFields) (b place : ℕ) → IsPlan plan → b < length plan.boxes
-    → is_place plan b place ≡ true → is_word (place_text plan b place) ≡ true
-place_is_word plan b place p at h =
-    name_is_word (place_text plan b place)
-    (valid_at is_name (box_at plan.boxes b).places place (p.each b at).named (place_there plan b place h))
+-- the name of a place is a name
+pub place_is_name : (plan : PlanFields) (b place : ℕ) → IsPlan plan → b < length plan.boxes
+    → is_place plan b place ≡ true → is_name (place_text plan b place) ≡ true
+place_is_name plan b place p at h =
+    valid_at is_name (box_at plan.boxes b).places place (p.each b at).named (place_there plan b place h)
 
 train_name_at : (trains : List TrainPlan) (i : ℕ) (d : TrainPlan) → i < length trains
     → get_or (names_of_trains trains) i [] ≡ (get_or trains i d).name
@@ -95,10 +93,6 @@ train_is_name plan train p h =
     ∙ valid_at is_name (names_of_trains plan.trains) (train - 1) p.trains_named
     (omega (arith, names_length plan, t.high))
 
-pub train_is_word : (plan : PlanFields) (train : ℕ) → IsPlan plan → is_train plan.trains train ≡ true
-    → is_word (train_text plan train) ≡ true
-train_is_word plan train p h = name_is_word (train_text plan train) (train_is_name plan train p h)
-
 -- a train is read as it is printed
 pub train_read : (plan : PlanFields) (train : ℕ) → IsPlan plan → is_train plan.trains train ≡ true
     → train_named plan (train_text plan train) ≡ Some train
@@ -128,6 +122,7 @@ train_spelled plan word train e = go (position (bytes_eq word) (names_of_trains 
             ∙ train_text_is plan train there,
       )
 
+-- what stands at a place of a box is its name
 pub place_is : (plan : PlanFields) (b place : ℕ) (name : List ℕ)
     → slice_get (box_at plan.boxes b).places place ≡ Some name → name ≡ place_text plan b place
 place_is plan b place name e = sym (get_or_from_slice_get (box_at plan.boxes b).places place name [] e)

@@ -1,10 +1,11 @@
 -- What a text is read as is a reply that it spells, and each reply has one spelling.
-use Rattle.std.proofs.Common.{◌≡◌, ℕ, ◌^◌, ◌<◌, Bool, true, false, cond, ltb, ◌&&◌, ◌||◌, List, [], ◌∷◌, length, Option}
+use Rattle.std.proofs.Common.{◌≡◌, ℕ, ◌*◌, ◌^◌, ◌<◌, ◌≤◌, Bool, true, false, cond, ltb, ◌&&◌, ◌||◌, List, [], ◌∷◌, length, Option}
 use Rattle.std.proofs.Common.{Some, None, option_map, Result, Ok, Err, IsTrue, IfOk, IsErr, ◌↔◌, refl, sym, ap, subst}
 use Rattle.std.proofs.Common.{◌∙◌, arith, codes, bytes_eq, decimal}
-use Rattle.std.specs.List.{join_with_byte}
-use Rattle.std.proofs.lemmas.Slice.Eq.{bytes_eq-Decides}
+use Rattle.std.specs.List.{join_with_byte, list_all}
+use Rattle.std.proofs.lemmas.Bool.Decides.{nat_tests}
 use Rattle.block_words.specs.declared.Position.{Position}
+use Rattle.rail_text.specs.Forms.{is_word}
 use Rattle.rail_text.specs.Lines.{words_of}
 use Rattle.rail_text.specs.Number.{number_of}
 use Rattle.rail_text.specs.declared.cause.Cause.{Cause}
@@ -14,24 +15,27 @@ use Rattle.rail_text.proofs.NumberLemmas.{number_of-spelled}
 use Rattle.rail_text.proofs.PrintedLines.{both, joined-words_of}
 use Rattle.rail_text.proofs.PrintedWords.{words_of-words}
 use Rattle.line_plan.specs.Plans.{PlanFields, IsPlan}
+use Rattle.line_plan.specs.Ways.{way_word}
 use Rattle.line_law.specs.declared.call.Act.{Act}
 use Rattle.line_law.specs.declared.call.Reply.{Reply}
-use Rattle.script_text.specs.Answers.{reply_in, ◌and_then◌, small, small_number, state_named, spent_named, row_named}
+use Rattle.script_text.specs.Answers.{reply_in, ◌and_then◌, small, small_number, state_named, spent_named}
 use Rattle.script_text.specs.Answers.{lone_rows, count_rows, code_rows, stand_rows, train_rows, lone_reply, count_reply}
 use Rattle.script_text.specs.Answers.{pair_reply, code_reply, stand_reply, train_reply, tells_a_train, bell_shown}
 use Rattle.script_text.specs.Answers.{shown_reply, triple_reply, lever_reply, instrument_reply, shaped_reply, accepted}
 use Rattle.script_text.specs.Answers.{reply_of}
 use Rattle.script_text.specs.Moments.{ready_of, moment_text}
-use Rattle.script_text.specs.Names.{way_text, position_text, code_no_text, place_text, train_text, way_named}
+use Rattle.script_text.specs.Names.{position_text, code_no_text, place_text, train_text, way_named}
 use Rattle.script_text.specs.Names.{position_named, code_named, place_named, train_named}
 use Rattle.script_text.specs.Replies.{shown_text, state_text, spent_text, reply_words, reply_text, is_spelled_reply}
-use Rattle.script_text.specs.Rows.{may_answer}
+use Rattle.script_text.specs.PossibleReplies.{may_answer}
 use Rattle.script_text.specs.Spelled.{SpellsReply}
-use Rattle.script_text.proofs.CallTexts.{OfSome, some_keeps, way_spelled, position_spelled}
+use Rattle.script_text.proofs.CallTexts.{OfSome, some_keeps, same_bytes, AllRows, rows_keep, way_spelled}
+use Rattle.script_text.proofs.CallTexts.{position_spelled, join_next}
 use Rattle.script_text.proofs.CodeTexts.{code_spelled}
 use Rattle.script_text.proofs.MomentTexts.{spelled_ready}
 use Rattle.script_text.proofs.Named.{place_spelled, train_spelled}
-use Rattle.script_text.proofs.ReplyWords.{AreWords, reply_words_are, reply_shape}
+use Rattle.script_text.proofs.ReplyWords.{is_short_word, reply_reads}
+use Rattle.script_text.proofs.PlainWords.{all_weaker}
 
 -- ---- going through a reading
 
@@ -48,22 +52,6 @@ map_keeps : {A B : Type 0} (Q : A → Type 0) (P : B → Type 0) (o : Option A) 
     → ((x : A) → Q x → P (f x)) → OfSome P (option_map f o)
 map_keeps Q P None f q h = tt
 map_keeps Q P (Some x) f q h = h x q
-
-same_bytes : (word other : List ℕ) → bytes_eq word other ≡ true → word ≡ other
-same_bytes word other e = (bytes_eq-Decides word other).0 e
-
--- each row, where the word is its own, meets P
-AllRows : (Reply → Type 0) → List ℕ → List (List ℕ × Reply) → Type 0
-AllRows P word [] = Unit {0}
-AllRows P word (row ∷ rows) = (word ≡ row.0 → P row.1) × AllRows P word rows
-
-rows_keep : (P : Reply → Type 0) (word : List ℕ) (rows : List (List ℕ × Reply)) → AllRows P word rows
-    → OfSome P (row_named rows word)
-unfolding AllRows
-rows_keep P word [] h = tt
-rows_keep P word (row ∷ rows) h =
-    some_keeps P (bytes_eq word row.0) (Some row.1) (row_named rows word) (λ e. h.0 (same_bytes word row.0 e))
-    (λ _. rows_keep P word rows h.1)
 
 -- ---- single words
 
@@ -253,7 +241,7 @@ unfolding instrument_reply
 instrument_is plan b w x y z v =
     let P : Reply → Type 0 = Says plan b (w ∷ x ∷ y ∷ z ∷ v ∷ []) in
     some_keeps P (bytes_eq w (codes "held_by_instrument")) _ _
-    (λ e. then_keeps (λ way. x ≡ way_text way) P (way_named x) _ (of_some _ (way_named x) (way_spelled x)) (λ way f.
+    (λ e. then_keeps (λ way. x ≡ way_word way) P (way_named x) _ (of_some _ (way_named x) (way_spelled x)) (λ way f.
     then_keeps (λ n. y ≡ decimal n) P (number_of y) _ (number_is y) (λ n g.
     then_keeps (λ position. z ≡ position_text position) P (position_named z) _
     (of_some _ (position_named z) (position_spelled z)) (λ position h.
@@ -291,20 +279,29 @@ spelled_reply plan b act text reply e =
         take_it true false a s = tt
         take_it false spelled a s = tt
 
-joined : (words : List (List ℕ)) → AreWords words → words_of (join_with_byte 32 words) ≡ words
-joined [] h = absurd (omega (arith, h.some))
-joined (word ∷ words) h = words_of-words word words h.each
+joined : (words : List (List ℕ)) → 0 < length words → list_all is_word words ≡ true
+    → words_of (join_with_byte 32 words) ≡ words
+joined [] some h = absurd (omega arith)
+joined (word ∷ words) some h = words_of-words word words h
+
+-- the words of a reply are words
+pub reply_words_are : (plan : PlanFields) (b : ℕ) (reply : Reply) → IsPlan plan → b < length plan.boxes
+    → is_spelled_reply plan b reply ≡ true → list_all is_word (reply_words plan b reply) ≡ true
+reply_words_are plan b reply p at s =
+    all_weaker is_short_word is_word (λ word e. (both (is_word word) _ e).0) (reply_words plan b reply)
+    (reply_reads plan b reply p at s).are.each
 
 words_of-reply : (plan : PlanFields) (b : ℕ) (reply : Reply) → IsPlan plan → b < length plan.boxes
     → IsTrue (is_spelled_reply plan b reply) → words_of (reply_text plan b reply) ≡ reply_words plan b reply
 unfolding reply_text
-words_of-reply plan b reply p at s = joined (reply_words plan b reply) (reply_words_are plan b reply p at s)
+words_of-reply plan b reply p at s =
+    joined (reply_words plan b reply) (reply_reads plan b reply p at s).are.some (reply_words_are plan b reply p at s)
 
 -- a printed reply has the shape of it
 shape_of-printed : (plan : PlanFields) (b : ℕ) (reply : Reply) → IsPlan plan → b < length plan.boxes
     → IsTrue (is_spelled_reply plan b reply) → shaped_reply plan b (words_of (reply_text plan b reply)) ≡ Some reply
 shape_of-printed plan b reply p at s =
-    ap (shaped_reply plan b) (words_of-reply plan b reply p at s) ∙ reply_shape plan b reply p at s
+    ap (shaped_reply plan b) (words_of-reply plan b reply p at s) ∙ (reply_reads plan b reply p at s).shape
 
 -- a reply that a text can spell is read as it is printed
 pub printed_reply : (plan : PlanFields) (b : ℕ) (act : Act) (reply : Reply) → IsPlan plan → b < length plan.boxes
@@ -323,7 +320,26 @@ replies_differ plan b one other p at s t e =
       same : Some one ≡ Some other → one ≡ other
       same h = cc
 
+-- of every text of a reply
 pub ruleset reply_rules = (printed_reply, spelled_reply, replies_differ)
+
+-- ---- a printed reply is short
+
+length-joined : (words : List (List ℕ)) → list_all is_short_word words ≡ true
+    → length (join_with_byte 32 words) ≤ 19 * length words
+length-joined [] h = omega arith
+length-joined (word ∷ words) h =
+    let e = both (is_short_word word) (list_all is_short_word words) h in
+    let few : length word ≤ 18 = (let short = (both (is_word word) _ e.0).1 in grind (arith, nat_tests, short)) in
+    omega (arith, join_next word words, few, length-joined words e.1)
+
+-- a printed reply has at most 95 bytes
+pub length-reply_text : (plan : PlanFields) (b : ℕ) (reply : Reply) → IsPlan plan → b < length plan.boxes
+    → IsTrue (is_spelled_reply plan b reply) → length (reply_text plan b reply) ≤ 95
+unfolding reply_text
+length-reply_text plan b reply p at h =
+    let w = (reply_reads plan b reply p at h).are in
+    omega (arith, length-joined (reply_words plan b reply) w.each, w.few)
 
 -- ---- what a reader answers
 
@@ -348,4 +364,5 @@ reading_refused plan b act text (Err cause) p at e = (
   not_read : (reply : Reply) → Err cause ≡ Ok reply → ⊥
   not_read reply h = cc
 
+-- of every reader of a reply
 pub ruleset reading_rules = (reading_spelled, reading_refused)

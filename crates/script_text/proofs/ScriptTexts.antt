@@ -517,12 +517,15 @@ reading_refused plan b bytes (Err (errors.Refused n why)) p h e line cause refus
     (every_spelling plan b bytes script p h spells)
 reading_refused plan b bytes (Err errors.NoMemory) p h e line cause refused script spells = absurd cc
 
+-- of every reader of a script
 pub ruleset reading_rules = (reading_spelled, reading_script, reading_refused)
 
+-- of every text of a script
 pub ruleset script_rules = (printed_script, printed_spells, spelled_script, every_spelling)
 
--- ---- a fetch of one byte more than the limit is enough
+-- ---- of a script's text the bytes up to one beyond the limit are enough
 
+-- what is read of them is what is read of all
 pub script_of-take : (plan : PlanFields) (b : ℕ) (bytes : List ℕ)
     → script_of plan b (take (most_script_bytes + 1) bytes) ≡ script_of plan b bytes
 unfolding script_of text_onto

@@ -1,6 +1,6 @@
 -- What the words behind a moment say that a signalman does.
-use Rattle.std.specs.Prelude.{ℕ, List, [], ◌∷◌, length, Option, Some, None, Result, Ok, Err, if◌then◌else◌, bytes_eq}
-use Rattle.std.specs.Prelude.{codes, slice_get, decimal}
+use Rattle.std.specs.Prelude.{ℕ, List, [], ◌∷◌, length, Option, Some, None, Result, Ok, Err, if◌then◌else◌, codes}
+use Rattle.std.specs.Prelude.{slice_get, decimal}
 use Rattle.std.specs.List.{join_with_byte}
 use Rattle.bell_codes.specs.Reading.{code_of}
 use Rattle.bell_codes.specs.Table.{code_number}
@@ -12,11 +12,15 @@ use Rattle.rail_text.specs.declared.cause.Cause.{Cause}
 use Rattle.rail_text.specs.declared.cause.Cause.TheVariants as causes
 use Rattle.locking_table.specs.Places.{most_levers}
 use Rattle.line_plan.specs.Plans.{PlanFields}
-use Rattle.line_plan.specs.Ways.{comes_in}
+use Rattle.line_plan.specs.Ways.{comes_in, way_word}
 use Rattle.line_law.specs.declared.call.Act.{Act}
 use Rattle.line_law.specs.declared.call.Act.TheVariants as acts
 use Rattle.line_law.specs.Known.{knows_arm, knows_berth, knows_lever, knows_outgoing, knows_side, knows_train}
-use Rattle.script_text.specs.Names.{way_text, position_text, code_no_text, train_text, way_named, position_named}
+use Rattle.script_text.specs.declared.reading_acts.ActWord.{ActWord}
+use Rattle.script_text.specs.declared.reading_acts.ActWord.TheVariants as names
+use Rattle.script_text.specs.declared.reading_acts.LineWord.{LineWord}
+use Rattle.script_text.specs.declared.reading_acts.LineWord.TheVariants as lines
+use Rattle.script_text.specs.Names.{position_text, code_no_text, train_text, row_named, way_named, position_named}
 use Rattle.script_text.specs.Names.{train_named}
 
 -- ---- single words
@@ -150,43 +154,60 @@ one_train plan b words = third_word words >>= train_in plan b
 
 -- ---- calls by their words
 
--- calls of an incoming line
-unfoldable pub line_act : PlanFields → ℕ → List (List ℕ) → List ℕ → Result Act Cause
-line_act plan b words word =
-    if bytes_eq word (codes "await_train") then one_berth plan b words >>= (λ way. Ok (acts.AwaitTrain way))
-    else if bytes_eq word (codes "berth") then one_berth plan b words >>= (λ way. Ok (acts.Berth way))
-    else if bytes_eq word (codes "berth_part") then one_berth plan b words >>= (λ way. Ok (acts.BerthPart way))
-    else if bytes_eq word (codes "clear_portion") then one_berth plan b words >>= (λ way. Ok (acts.ClearPortion way))
-    else if bytes_eq word (codes "wind") then one_berth plan b words >>= (λ way. Ok (acts.Wind way))
-    else if bytes_eq word (codes "release") then one_berth plan b words >>= (λ way. Ok (acts.Release way))
-    else Err causes.UnknownWord
+-- the words of all calls
+abbrev pub act_rows : List (List ℕ × ActWord)
+act_rows =
+    (codes "ring", names.Ring)
+    ∷ (codes "hear", names.Hear)
+    ∷ (codes "await_bell", names.AwaitBell)
+    ∷ (codes "turn", names.Turn)
+    ∷ (codes "await_block", names.AwaitBlock)
+    ∷ (codes "pull", names.Pull)
+    ∷ (codes "put", names.Put)
+    ∷ (codes "pass", names.Pass)
+    ∷ (codes "overrun", names.Overrun)
+    ∷ (codes "bring", names.Bring)
+    ∷ (codes "await_train", names.Line lines.AwaitTrain)
+    ∷ (codes "berth", names.Line lines.Berth)
+    ∷ (codes "berth_part", names.Line lines.BerthPart)
+    ∷ (codes "clear_portion", names.Line lines.ClearPortion)
+    ∷ (codes "wind", names.Line lines.Wind)
+    ∷ (codes "release", names.Line lines.Release)
+    ∷ []
 
--- calls of a lever or a train, and then those of an incoming line
-unfoldable pub lever_act : PlanFields → ℕ → List (List ℕ) → List ℕ → Result Act Cause
-lever_act plan b words word =
-    if bytes_eq word (codes "pull") then one_lever plan b words >>= (λ lever. Ok (acts.Pull lever))
-    else if bytes_eq word (codes "put") then one_lever plan b words >>= (λ lever. Ok (acts.Put lever))
-    else if bytes_eq word (codes "pass") then one_arm plan b words >>= (λ lever. Ok (acts.Pass lever))
-    else if bytes_eq word (codes "overrun") then one_arm plan b words >>= (λ lever. Ok (acts.Overrun lever))
-    else if bytes_eq word (codes "bring") then one_train plan b words >>= (λ train. Ok (acts.Bring train))
-    else line_act plan b words word
+-- a call of an incoming line
+abbrev pub way_act : LineWord → Way → Act
+way_act lines.AwaitTrain way = acts.AwaitTrain way
+way_act lines.Berth way = acts.Berth way
+way_act lines.BerthPart way = acts.BerthPart way
+way_act lines.ClearPortion way = acts.ClearPortion way
+way_act lines.Wind way = acts.Wind way
+way_act lines.Release way = acts.Release way
 
--- calls of a bell or an instrument, and then the others
-unfoldable pub bell_act : PlanFields → ℕ → List (List ℕ) → List ℕ → Result Act Cause
-bell_act plan b words word =
-    if bytes_eq word (codes "ring") then side_and_code plan b words >>= (λ both. Ok (acts.Ring both.0 both.1))
-    else if bytes_eq word (codes "hear") then one_side plan b words >>= (λ side. Ok (acts.Hear side))
-    else if bytes_eq word (codes "await_bell")
-    then side_and_code plan b words >>= (λ both. Ok (acts.AwaitBell both.0 both.1))
-    else if bytes_eq word (codes "turn") then berth_and_position plan b words >>= (λ both. Ok (acts.Turn both.0 both.1))
-    else if bytes_eq word (codes "await_block")
-    then outgoing_and_position plan b words >>= (λ both. Ok (acts.AwaitBlock both.0 both.1))
-    else lever_act plan b words word
+-- what a line with such a call says behind its word
+abbrev pub worded_act : PlanFields → ℕ → List (List ℕ) → ActWord → Result Act Cause
+worded_act plan b words names.Ring = side_and_code plan b words >>= (λ both. Ok (acts.Ring both.0 both.1))
+worded_act plan b words names.Hear = one_side plan b words >>= (λ side. Ok (acts.Hear side))
+worded_act plan b words names.AwaitBell = side_and_code plan b words >>= (λ both. Ok (acts.AwaitBell both.0 both.1))
+worded_act plan b words names.Turn = berth_and_position plan b words >>= (λ both. Ok (acts.Turn both.0 both.1))
+worded_act plan b words names.AwaitBlock =
+    outgoing_and_position plan b words >>= (λ both. Ok (acts.AwaitBlock both.0 both.1))
+worded_act plan b words names.Pull = one_lever plan b words >>= (λ lever. Ok (acts.Pull lever))
+worded_act plan b words names.Put = one_lever plan b words >>= (λ lever. Ok (acts.Put lever))
+worded_act plan b words names.Pass = one_arm plan b words >>= (λ lever. Ok (acts.Pass lever))
+worded_act plan b words names.Overrun = one_arm plan b words >>= (λ lever. Ok (acts.Overrun lever))
+worded_act plan b words names.Bring = one_train plan b words >>= (λ train. Ok (acts.Bring train))
+worded_act plan b words (names.Line line) = one_berth plan b words >>= (λ way. Ok (way_act line way))
+
+-- the same, where the word names a call
+abbrev pub act_worded : PlanFields → ℕ → List (List ℕ) → Option ActWord → Result Act Cause
+act_worded plan b words None = Err causes.UnknownWord
+act_worded plan b words (Some word) = worded_act plan b words word
 
 -- what the call's word, if there is one, says with the words of the line
 abbrev pub act_named : PlanFields → ℕ → List (List ℕ) → Option (List ℕ) → Result Act Cause
 act_named plan b words None = Err causes.UnknownWord
-act_named plan b words (Some word) = bell_act plan b words word
+act_named plan b words (Some word) = act_worded plan b words (row_named act_rows word)
 
 -- what a line says behind its moment: the call's word, and the words behind it
 unfoldable pub act_of : PlanFields → ℕ → List (List ℕ) → Result Act Cause
@@ -196,22 +217,22 @@ act_of plan b words = act_named plan b words (slice_get words 1)
 
 -- the words of an act
 abbrev pub act_words : PlanFields → Act → List (List ℕ)
-act_words plan (acts.Ring side code) = codes "ring" ∷ way_text side ∷ code_no_text plan.codes code ∷ []
-act_words plan (acts.Hear side) = codes "hear" ∷ way_text side ∷ []
-act_words plan (acts.AwaitBell side code) = codes "await_bell" ∷ way_text side ∷ code_no_text plan.codes code ∷ []
-act_words plan (acts.Turn way position) = codes "turn" ∷ way_text way ∷ position_text position ∷ []
-act_words plan (acts.AwaitBlock way position) = codes "await_block" ∷ way_text way ∷ position_text position ∷ []
+act_words plan (acts.Ring side code) = codes "ring" ∷ way_word side ∷ code_no_text plan.codes code ∷ []
+act_words plan (acts.Hear side) = codes "hear" ∷ way_word side ∷ []
+act_words plan (acts.AwaitBell side code) = codes "await_bell" ∷ way_word side ∷ code_no_text plan.codes code ∷ []
+act_words plan (acts.Turn way position) = codes "turn" ∷ way_word way ∷ position_text position ∷ []
+act_words plan (acts.AwaitBlock way position) = codes "await_block" ∷ way_word way ∷ position_text position ∷ []
 act_words plan (acts.Pull lever) = codes "pull" ∷ decimal lever ∷ []
 act_words plan (acts.Put lever) = codes "put" ∷ decimal lever ∷ []
 act_words plan (acts.Bring train) = codes "bring" ∷ train_text plan train ∷ []
 act_words plan (acts.Pass lever) = codes "pass" ∷ decimal lever ∷ []
 act_words plan (acts.Overrun lever) = codes "overrun" ∷ decimal lever ∷ []
-act_words plan (acts.AwaitTrain way) = codes "await_train" ∷ way_text way ∷ []
-act_words plan (acts.Berth way) = codes "berth" ∷ way_text way ∷ []
-act_words plan (acts.BerthPart way) = codes "berth_part" ∷ way_text way ∷ []
-act_words plan (acts.ClearPortion way) = codes "clear_portion" ∷ way_text way ∷ []
-act_words plan (acts.Wind way) = codes "wind" ∷ way_text way ∷ []
-act_words plan (acts.Release way) = codes "release" ∷ way_text way ∷ []
+act_words plan (acts.AwaitTrain way) = codes "await_train" ∷ way_word way ∷ []
+act_words plan (acts.Berth way) = codes "berth" ∷ way_word way ∷ []
+act_words plan (acts.BerthPart way) = codes "berth_part" ∷ way_word way ∷ []
+act_words plan (acts.ClearPortion way) = codes "clear_portion" ∷ way_word way ∷ []
+act_words plan (acts.Wind way) = codes "wind" ∷ way_word way ∷ []
+act_words plan (acts.Release way) = codes "release" ∷ way_word way ∷ []
 
 -- an act as it is printed: its words, with one space between each two
 abbrev pub act_text : PlanFields → Act → List ℕ

@@ -13,9 +13,9 @@ use Rattle.line_law.specs.declared.call.Act.{Act}
 use Rattle.line_law.specs.declared.call.Reply.{Reply}
 use Rattle.line_law.specs.declared.call.Reply.TheVariants as replies
 use Rattle.script_text.specs.Moments.{ready_of}
-use Rattle.script_text.specs.Names.{way_named, position_named, code_named, place_named, train_named}
+use Rattle.script_text.specs.Names.{row_named, way_named, position_named, code_named, place_named, train_named}
 use Rattle.script_text.specs.Replies.{is_spelled_reply}
-use Rattle.script_text.specs.Rows.{may_answer}
+use Rattle.script_text.specs.PossibleReplies.{may_answer}
 
 -- ---- single words
 
@@ -44,11 +44,6 @@ state_named word =
 abbrev pub spent_named : List ℕ → Option Bool
 spent_named word = if bytes_eq word (codes "spent") then Some true else if bytes_eq word (codes "unspent")
     then Some false else None
-
--- the reply of the first row with this word
-abbrev pub row_named : List (List ℕ × Reply) → List ℕ → Option Reply
-row_named [] word = None
-row_named (row ∷ rows) word = if bytes_eq word row.0 then Some row.1 else row_named rows word
 
 -- ---- replies by their words
 

@@ -2,12 +2,10 @@ pub mod Limits
 pub mod Moments
 pub mod Names
 pub mod Acts
-pub mod ActWords
 pub mod Calls
 pub mod Replies
-pub mod FirstWords
 pub mod Entries
-pub mod Rows
+pub mod PossibleReplies
 pub mod Answers
 pub mod Pairs
 pub mod Memory

@@ -1,5 +1,5 @@
 -- The words that name things of a plan and of its boxes, and the numbers of these.
-use Rattle.std.specs.Prelude.{ℕ, ◌+◌, List, [], Option, position, bytes_eq, slice_index_or, option_map}
+use Rattle.std.specs.Prelude.{ℕ, ◌+◌, List, [], ◌∷◌, Option, position, bytes_eq, slice_index_or, option_map}
 use Rattle.bell_codes.specs.Codes.{code_text}
 use Rattle.bell_codes.specs.Reading.{code_of}
 use Rattle.bell_codes.specs.Table.{code_at, code_number}
@@ -11,11 +11,6 @@ use Rattle.std.specs.Prelude.{Some, None, codes, if◌then◌else◌}
 use Rattle.line_plan.specs.Plans.{PlanFields, box_at, names_of_trains, train_at}
 
 -- ---- as they are printed
-
--- a way's word
-abbrev pub way_text : Way → List ℕ
-way_text Up = codes "up"
-way_text Down = codes "down"
 
 -- a position's word
 abbrev pub position_text : Position → List ℕ
@@ -36,6 +31,11 @@ abbrev pub train_text : PlanFields → ℕ → List ℕ
 train_text plan train = (train_at plan.trains train).name
 
 -- ---- as they are read
+
+-- what the first of these rows with this word has
+abbrev pub row_named : {A : Type 0} → List (List ℕ × A) → List ℕ → Option A
+row_named [] word = None
+row_named (row ∷ rows) word = if bytes_eq word row.0 then Some row.1 else row_named rows word
 
 -- the way that a word names
 abbrev pub way_named : List ℕ → Option Way

@@ -5,11 +5,12 @@ use Rattle.std.specs.List.{join_with_byte}
 use Rattle.block_words.specs.declared.WelwynState.{WelwynState}
 use Rattle.block_words.specs.declared.WelwynState.TheVariants as states
 use Rattle.line_plan.specs.Plans.{PlanFields, box_at, is_train}
+use Rattle.line_plan.specs.Ways.{way_word}
 use Rattle.line_law.specs.declared.call.Reply.{Reply}
 use Rattle.line_law.specs.declared.call.Reply.TheVariants as replies
 use Rattle.line_law.specs.Known.{is_code_no, knows_lever}
 use Rattle.script_text.specs.Moments.{moment_text, ready_moments}
-use Rattle.script_text.specs.Names.{way_text, position_text, code_no_text, place_text, train_text}
+use Rattle.script_text.specs.Names.{position_text, code_no_text, place_text, train_text}
 
 -- ---- as they are printed
 
@@ -55,7 +56,7 @@ reply_words plan b (replies.HeldByLever lever row) =
 reply_words plan b (replies.HeldByTrack place train) =
     codes "held_by_track" ∷ place_text plan b place ∷ train_text plan train ∷ []
 reply_words plan b (replies.HeldByInstrument way shown spent v) =
-    codes "held_by_instrument" ∷ way_text way ∷ decimal v ∷ position_text shown ∷ spent_text spent ∷ []
+    codes "held_by_instrument" ∷ way_word way ∷ decimal v ∷ position_text shown ∷ spent_text spent ∷ []
 reply_words plan b replies.Put = codes "put" ∷ []
 reply_words plan b replies.AlreadyNormal = codes "already_normal" ∷ []
 reply_words plan b replies.Brought = codes "brought" ∷ []
@@ -126,7 +127,7 @@ abbrev pub is_ready_moment : PlanFields → ℕ → Bool
 is_ready_moment plan moment = nat_lt moment (ready_moments plan.version)
 
 -- Some text spells the reply at box b: its codes, places, trains, levers and rows are there, and its numbers and
--- moments in range.
+-- moments in range. A reply that tells nothing more is always spelled.
 unfoldable pub is_spelled_reply : PlanFields → ℕ → Reply → Bool
 is_spelled_reply plan b (replies.Rung k) = is_count k
 is_spelled_reply plan b (replies.BellBusy code k) = is_count k && is_code_no plan code
@@ -134,31 +135,19 @@ is_spelled_reply plan b (replies.Heard code k) = is_count k && is_code_no plan c
 is_spelled_reply plan b (replies.Silent k) = is_count k
 is_spelled_reply plan b (replies.BellNotYet shown k) = is_count k && shows_code plan shown
 is_spelled_reply plan b (replies.Turned v) = is_count v
-is_spelled_reply plan b replies.AlreadyThere = true
-is_spelled_reply plan b replies.NotFromNormal = true
 is_spelled_reply plan b (replies.HomeReversed lever) = knows_lever plan b lever
 is_spelled_reply plan b (replies.TrackOccupied place train) = is_stand plan b place train
 is_spelled_reply plan b (replies.WelwynHolds state) = is_holding state
 is_spelled_reply plan b (replies.CountFull out) = is_small out
 is_spelled_reply plan b (replies.Seen v) = is_count v
 is_spelled_reply plan b (replies.BlockNotYet shown v) = is_count v
-is_spelled_reply plan b replies.Pulled = true
 is_spelled_reply plan b (replies.PulledUnder v) = is_count v
-is_spelled_reply plan b replies.AlreadyReversed = true
-is_spelled_reply plan b replies.Spare = true
 is_spelled_reply plan b (replies.HeldByLever lever row) = knows_lever plan b lever && is_row plan b row
 is_spelled_reply plan b (replies.HeldByTrack place train) = is_stand plan b place train
 is_spelled_reply plan b (replies.HeldByInstrument way shown spent v) = is_count v
-is_spelled_reply plan b replies.Put = true
-is_spelled_reply plan b replies.AlreadyNormal = true
-is_spelled_reply plan b replies.Brought = true
-is_spelled_reply plan b replies.AlreadyBrought = true
 is_spelled_reply plan b (replies.Occupied place train) = is_stand plan b place train
 is_spelled_reply plan b (replies.Passed train) = is_train plan.trains train
 is_spelled_reply plan b (replies.Entered train k) = is_count k && is_train plan.trains train
-is_spelled_reply plan b replies.NoTrain = true
-is_spelled_reply plan b replies.AtDanger = true
-is_spelled_reply plan b replies.ArmOff = true
 is_spelled_reply plan b (replies.SectionFull k) = is_count k
 is_spelled_reply plan b (replies.Approaching train j) = is_count j && is_train plan.trains train
 is_spelled_reply plan b (replies.TrainNotYet j) = is_count j
@@ -168,10 +157,6 @@ is_spelled_reply plan b (replies.NoTrainAt j) = is_count j
 is_spelled_reply plan b (replies.BerthOccupied train) = is_train plan.trains train
 is_spelled_reply plan b (replies.PortionAhead train) = is_train plan.trains train
 is_spelled_reply plan b (replies.Cleared train j) = is_count j && is_train plan.trains train
-is_spelled_reply plan b replies.NoPortion = true
 is_spelled_reply plan b (replies.Winding ready_at) = is_ready_moment plan ready_at
-is_spelled_reply plan b replies.AlreadyWinding = true
-is_spelled_reply plan b replies.NotAtNormal = true
-is_spelled_reply plan b replies.Released = true
-is_spelled_reply plan b replies.NotWinding = true
 is_spelled_reply plan b (replies.TooSoon ready_at) = is_ready_moment plan ready_at
+is_spelled_reply plan b reply = true

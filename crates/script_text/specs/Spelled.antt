@@ -12,7 +12,7 @@ use Rattle.script_text.specs.declared.script.Script.{Script}
 use Rattle.script_text.specs.Calls.{call_text}
 use Rattle.script_text.specs.Limits.{most_script_bytes}
 use Rattle.script_text.specs.Replies.{is_spelled_reply, reply_text}
-use Rattle.script_text.specs.Rows.{may_answer}
+use Rattle.script_text.specs.PossibleReplies.{may_answer}
 use Rattle.script_text.specs.Scripts.{IsScriptOf}
 
 -- The plan knows the call for box b, and the text is the call as it is printed.

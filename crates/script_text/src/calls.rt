@@ -7,9 +7,9 @@ ghost use Rattle.line_law.specs.declared.call.Call.{Call};
 ghost use Rattle.script_text.specs.Calls.{moment_in, call_of, call_text};
 ghost use Rattle.script_text.specs.Spelled.{SpellsCall};
 
-use crate::act_texts::put_act;
-use crate::acts::read_act;
 use crate::moments::{put_moment, read_moment};
+use crate::printing_acts::put_act;
+use crate::reading_acts::read_act;
 use line_law::Call;
 use line_plan::Plan;
 use rail_text::{Cause, KeptEnds, LineWords, NoMemory};

@@ -1,7 +1,7 @@
 //! The script as far as its text is read, and which line may come next.
 
-use crate::acts::read_act;
 use crate::calls::moment_in;
+use crate::reading_acts::read_act;
 use crate::script::{MOST_CALLS, Script};
 use line_law::Call;
 use line_plan::{Items, Plan};

@@ -4,8 +4,8 @@ ghost use Rattle.std.specs.Prelude.{◌≡◌, ◌↔◌, ◌++◌, IsTrue, OnOk
 ghost use Rattle.script_text.specs.Entries.{IsSpelled, told_text};
 
 use crate::calls::put_call;
-use crate::replies::put_reply;
-use crate::spelled::is_spelled_reply;
+use crate::printing_replies::put_reply;
+use crate::spelled_replies::is_spelled_reply;
 use line_law::{Entry, knows};
 use line_plan::Plan;
 use std::alloc::AllocError;

@@ -12,7 +12,7 @@ ghost use Rattle.script_text.specs.Moments.{moment_of, moment_text};
 ghost use Rattle.script_text.specs.Scripts.{IsScriptOf, script_of, script_text};
 ghost use Rattle.script_text.specs.Answers.{reply_of};
 ghost use Rattle.script_text.specs.Replies.{is_spelled_reply, reply_text};
-ghost use Rattle.script_text.specs.Rows.{may_answer};
+ghost use Rattle.script_text.specs.PossibleReplies.{may_answer};
 ghost use Rattle.script_text.specs.Spelled.{SpellsCall, SpellsReply, SpellsScript};
 
 /// A law, in each version: a moment of a day is read as it is printed, and no other word is read as that moment. So two

@@ -4,14 +4,15 @@ ghost use Rattle.std.specs.Prelude.{◌≡◌, ◌<◌, ◌++◌, ◌∷◌, dec
 ghost use Rattle.bell_codes.specs.Codes.{code_text};
 ghost use Rattle.line_law.specs.Known.{is_code_no};
 ghost use Rattle.line_plan.specs.Plans.{is_train};
+ghost use Rattle.line_plan.specs.Ways.{way_word};
 ghost use Rattle.script_text.specs.Names.{code_named, code_no_text, place_named, place_text, position_named};
-ghost use Rattle.script_text.specs.Names.{position_text, train_named, train_text, way_named, way_text};
+ghost use Rattle.script_text.specs.Names.{position_text, train_named, train_text, way_named};
 ghost use Rattle.script_text.specs.Replies.{is_place};
 
 use crate::numbers::put_number;
 use bell_codes::{CodeNo, read_code};
 use block_words::{Position, Way};
-use line_plan::Plan;
+use line_plan::{Plan, way_word};
 use std::alloc::AllocError;
 
 /// The way that a word names.
@@ -67,16 +68,6 @@ pub fn train_named(plan: &Plan, word: &[u8]) -> Option<u32>
 {
     let number = plan.train_names.number_of_word(word)?;
     Some(number + 1)
-}
-
-/// A way's word.
-pub fn way_word(way: Way) -> &'static str
-    ensures { result.now ≡ way_text way }
-{
-    match way {
-        Way::Up => "up",
-        Way::Down => "down",
-    }
 }
 
 /// A position's word.
@@ -144,7 +135,7 @@ pub fn put_small(out: &mut String, word: &str, number: u32) -> Result<(), AllocE
 
 /// Puts a word and a way behind a text.
 pub fn put_way(out: &mut String, word: &str, way: Way) -> Result<(), AllocError>
-    ensures { OnOk result (string_bytes out.new ≡ string_bytes out.old ++ (word.now ++ 32 ∷ way_text way)) }
+    ensures { OnOk result (string_bytes out.new ≡ string_bytes out.old ++ (word.now ++ 32 ∷ way_word way)) }
 {
     out.push_str(word)?;
     out.push(' ')?;

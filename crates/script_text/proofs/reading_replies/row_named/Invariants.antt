@@ -1,6 +1,6 @@
 use Rattle.std.proofs.Common.{◌≡◌, drop, map}
-use Rattle.script_text.specs.Answers.{row_named}
-use Rattle.script_text.proofs.answers.row_named.Given as goal
+use Rattle.script_text.specs.Names.{row_named}
+use Rattle.script_text.proofs.reading_replies.row_named.Given as goal
 
 abbrev pub invariant-loop-row : goal.invariant-loop-row
 invariant-loop-row l =

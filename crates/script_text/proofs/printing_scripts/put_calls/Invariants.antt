@@ -1,7 +1,7 @@
 use Rattle.std.proofs.Common.{◌≡◌, ◌++◌, string_bytes, take}
 use Rattle.std.specs.List.{flat_map}
 use Rattle.script_text.specs.Scripts.{call_line}
-use Rattle.script_text.proofs.printing.put_calls.Given as goal
+use Rattle.script_text.proofs.printing_scripts.put_calls.Given as goal
 
 abbrev pub invariant-loop-call : goal.invariant-loop-call
 invariant-loop-call l =

@@ -7,9 +7,8 @@ ghost use Rattle.rail_text.specs.Gives.{GivesCause};
 ghost use Rattle.script_text.specs.Acts.{fixed, side_in, code_in, with_berth, lever_in, arm_in, train_in, two_words};
 ghost use Rattle.script_text.specs.Acts.{third_word, side_and_code, way_and_position, berth_and_position};
 ghost use Rattle.script_text.specs.Acts.{outgoing_and_position, one_side, one_berth, one_lever, one_arm, one_train};
-ghost use Rattle.script_text.specs.Acts.{bell_act, act_of};
-ghost use Rattle.script_text.specs.ActWords.{act_rows, way_act, word_named, worded_act};
-ghost use Rattle.script_text.specs.Names.{way_named, position_named};
+ghost use Rattle.script_text.specs.Acts.{act_rows, way_act, worded_act, act_worded, act_of};
+ghost use Rattle.script_text.specs.Names.{row_named, way_named, position_named};
 
 use crate::names::{position_named, train_named, way_named};
 use bell_codes::{CodeNo, read_code};
@@ -278,7 +277,7 @@ enum ActWord {
 
 // The call in the first of these rows with this word.
 fn word_named(rows: &[(&'static str, ActWord)], word: &[u8]) -> Option<ActWord>
-    ensures { result ≡ word_named (map (λ row. (row.0.now, row.1)) rows.now) word.now }
+    ensures { result ≡ row_named (map (λ row. (row.0.now, row.1)) rows.now) word.now }
 {
     for row in rows {
         if word == row.0.as_bytes() {
@@ -290,7 +289,7 @@ fn word_named(rows: &[(&'static str, ActWord)], word: &[u8]) -> Option<ActWord>
 
 // The call of this word.
 fn act_word(word: &[u8]) -> Option<ActWord>
-    ensures { result ≡ word_named act_rows word.now }
+    ensures { result ≡ row_named act_rows word.now }
 {
     let rows = [
         ("ring", ActWord::Ring),
@@ -383,7 +382,7 @@ fn worded_act(plan: &Plan, box_no: u32, words: &LineWords<'_>, word: ActWord) ->
 // What the words of a line say behind the call's word.
 fn named_act(plan: &Plan, box_no: u32, words: &LineWords<'_>, word: &[u8]) -> Result<Act, Cause>
     requires { box_no < length plan.now.boxes }
-    ensures { result ≡ bell_act plan.now box_no words.now word.now }
+    ensures { result ≡ act_worded plan.now box_no words.now (row_named act_rows word.now) }
 {
     match act_word(word) {
         Some(name) => worded_act(plan, box_no, words, name),

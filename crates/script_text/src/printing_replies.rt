@@ -1,12 +1,13 @@
 //! Replies as they are printed.
 
-ghost use Rattle.std.specs.Prelude.{◌≡◌, ◌<◌, ◌++◌, ◌∷◌, OnOk, IfOk, IsTrue, length, string_bytes, decimal, codes};
+ghost use Rattle.std.specs.Prelude.{ℕ, ◌≡◌, ◌<◌, ◌++◌, ◌∷◌, OnOk, IfOk, IsTrue, length, string_bytes, decimal, codes};
 ghost use Rattle.line_law.specs.Known.{is_code_no};
-ghost use Rattle.line_plan.specs.Plans.{is_train};
+ghost use Rattle.rail_text.specs.Words.{keyword};
+ghost use Rattle.line_plan.specs.Plans.{PlanFields, is_train};
+ghost use Rattle.line_plan.specs.Ways.{way_word};
 ghost use Rattle.script_text.specs.Moments.{moment_text, hundred_hours};
-ghost use Rattle.script_text.specs.Names.{way_text, position_text, code_no_text, place_text, train_text};
+ghost use Rattle.script_text.specs.Names.{position_text, code_no_text, place_text, train_text};
 ghost use Rattle.script_text.specs.Replies.{reply_text, reply_words, is_spelled_reply, shown_text, state_text};
-ghost use Rattle.script_text.specs.FirstWords.{first_word};
 ghost use Rattle.script_text.specs.Replies.{spent_text, shows_code, is_stand, is_place, is_ready_moment};
 
 use crate::moments::put_moment;
@@ -21,6 +22,7 @@ use line_plan::Plan;
 use rail_text::NoMemory;
 use std::alloc::{AllocError, Global};
 
+// A Welwyn state's word.
 fn state_word(state: WelwynState) -> &'static str
     ensures { result.now ≡ state_text state }
 {
@@ -31,17 +33,11 @@ fn state_word(state: WelwynState) -> &'static str
     }
 }
 
-fn spent_word(spent: bool) -> &'static str
+/// Whether an instrument is spent, as a word.
+pub fn spent_word(spent: bool) -> &'static str
     ensures { result.now ≡ spent_text spent }
 {
     if spent { "spent" } else { "unspent" }
-}
-
-// A word alone.
-fn put_word(out: &mut String, word: &str) -> Result<(), AllocError>
-    ensures { OnOk result (string_bytes out.new ≡ string_bytes out.old ++ word.now) }
-{
-    out.push_str(word)
 }
 
 // A word and a number.
@@ -171,7 +167,7 @@ fn put_instrument(
 ) -> Result<(), AllocError>
     ensures { OnOk result (string_bytes out.new
         ≡ string_bytes out.old ++ (word.now
-        ++ 32 ∷ (way_text way ++ 32 ∷ (decimal v ++ 32 ∷ (position_text shown ++ 32 ∷ spent_text spent))))) }
+        ++ 32 ∷ (way_word way ++ 32 ∷ (decimal v ++ 32 ∷ (position_text shown ++ 32 ∷ spent_text spent))))) }
 {
     put_way(out, word, way)?;
     out.push(' ')?;
@@ -193,7 +189,7 @@ fn put_ready(out: &mut String, version: u8, word: &str, ready_at: u32) -> Result
 
 // The word with which a reply begins.
 fn first_word(reply: &Reply) -> &'static str
-    ensures { result.now ≡ first_word reply.now }
+    ensures { (plan : PlanFields) (b : ℕ) → keyword (reply_words plan b reply.now) ≡ result.now }
 {
     match *reply {
         Reply::Rung { .. } => "rung",
@@ -301,15 +297,16 @@ pub fn put_reply(
         | Reply::AlreadyReversed
         | Reply::Spare
         | Reply::Put
-        | Reply::AlreadyNormal => put_word(out, word),
+        | Reply::AlreadyNormal => out.push_str(word),
         Reply::Brought
         | Reply::AlreadyBrought
         | Reply::NoTrain
         | Reply::AtDanger
         | Reply::ArmOff
-        | Reply::NoPortion => put_word(out, word),
-        Reply::AlreadyWinding | Reply::NotAtNormal | Reply::Released | Reply::NotWinding =>
-            put_word(out, word),
+        | Reply::NoPortion => out.push_str(word),
+        Reply::AlreadyWinding | Reply::NotAtNormal | Reply::Released | Reply::NotWinding => {
+            out.push_str(word)
+        }
     }
 }
 

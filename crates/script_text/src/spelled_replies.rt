@@ -109,22 +109,6 @@ pub fn is_spelled_reply(plan: &Plan, box_no: u32, reply: &Reply) -> bool
             is_ready_moment(plan, ready_at)
         }
         Reply::CountFull { out } => is_small(out),
-        Reply::AlreadyThere
-        | Reply::NotFromNormal
-        | Reply::Pulled
-        | Reply::AlreadyReversed
-        | Reply::Spare
-        | Reply::Put
-        | Reply::AlreadyNormal
-        | Reply::Brought
-        | Reply::AlreadyBrought
-        | Reply::NoTrain
-        | Reply::AtDanger
-        | Reply::ArmOff
-        | Reply::NoPortion
-        | Reply::AlreadyWinding
-        | Reply::NotAtNormal
-        | Reply::Released
-        | Reply::NotWinding => true,
+        _ => true,
     }
 }

@@ -1,11 +1,11 @@
 //! Which replies a call may have.
 
 ghost use Rattle.std.specs.Prelude.{◌≡◌};
-ghost use Rattle.script_text.specs.Rows.{answers_await_bell, answers_await_block, answers_await_train, answers_berth};
-ghost use Rattle.script_text.specs.Rows.{answers_berth_part, answers_bring, answers_clear_portion, answers_hear};
-ghost use Rattle.script_text.specs.Rows.{answers_move, answers_overrun, answers_pass, answers_pull, answers_put};
-ghost use Rattle.script_text.specs.Rows.{answers_release, answers_ring, answers_turn, answers_wind, may_answer};
-ghost use Rattle.script_text.specs.Rows.{refuses_berth};
+ghost use Rattle.script_text.specs.PossibleReplies.{answers_await_bell, answers_await_block, answers_await_train, answers_berth};
+ghost use Rattle.script_text.specs.PossibleReplies.{answers_berth_part, answers_bring, answers_clear_portion, answers_hear};
+ghost use Rattle.script_text.specs.PossibleReplies.{answers_move, answers_overrun, answers_pass, answers_pull, answers_put};
+ghost use Rattle.script_text.specs.PossibleReplies.{answers_release, answers_ring, answers_turn, answers_wind, may_answer};
+ghost use Rattle.script_text.specs.PossibleReplies.{refuses_berth};
 
 use line_law::{Act, Reply};
 
@@ -163,7 +163,7 @@ fn answers_release(reply: &Reply) -> bool
 }
 
 /// Whether the reply is one that such a call may have, whatever its line, lever or train.
-#[tactic(auto, unfolding(crate::specs::Rows::may_answer))]
+#[tactic(auto, unfolding(crate::specs::PossibleReplies::may_answer))]
 pub fn may_answer(act: Act, reply: &Reply) -> bool
     ensures { result ≡ may_answer act reply.now }
 {

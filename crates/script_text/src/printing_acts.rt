@@ -2,9 +2,10 @@
 
 ghost use Rattle.std.specs.Prelude.{◌≡◌, ◌++◌, ◌∷◌, OnOk, string_bytes, IsTrue, decimal};
 ghost use Rattle.line_plan.specs.Plans.{is_train};
+ghost use Rattle.line_plan.specs.Ways.{way_word};
 ghost use Rattle.line_law.specs.Known.{is_code_no, knows_act};
 ghost use Rattle.script_text.specs.Acts.{act_text};
-ghost use Rattle.script_text.specs.Names.{way_text, position_text, code_no_text, train_text};
+ghost use Rattle.script_text.specs.Names.{position_text, code_no_text, train_text};
 
 use crate::names::{position_word, put_code, put_small, put_train, put_way};
 use bell_codes::CodeNo;
@@ -21,7 +22,7 @@ fn put_position(
     position: Position,
 ) -> Result<(), AllocError>
     ensures { OnOk result (string_bytes out.new
-        ≡ string_bytes out.old ++ (word.now ++ 32 ∷ way_text way ++ 32 ∷ position_text position)) }
+        ≡ string_bytes out.old ++ (word.now ++ 32 ∷ way_word way ++ 32 ∷ position_text position)) }
 {
     put_way(out, word, way)?;
     out.push(' ')?;
@@ -38,7 +39,7 @@ fn put_side_and_code(
 ) -> Result<(), AllocError>
     requires { IsTrue (is_code_no plan.now code) }
     ensures { OnOk result (string_bytes out.new
-        ≡ string_bytes out.old ++ (word.now ++ 32 ∷ way_text side ++ 32 ∷ code_no_text plan.now.codes code)) }
+        ≡ string_bytes out.old ++ (word.now ++ 32 ∷ way_word side ++ 32 ∷ code_no_text plan.now.codes code)) }
 {
     put_way(out, word, side)?;
     out.push(' ')?;

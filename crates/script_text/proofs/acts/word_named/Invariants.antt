@@ -1,8 +1,0 @@
-use Rattle.std.proofs.Common.{◌≡◌, drop, map}
-use Rattle.script_text.specs.ActWords.{word_named}
-use Rattle.script_text.proofs.acts.word_named.Given as goal
-
-abbrev pub invariant-loop-row : goal.invariant-loop-row
-invariant-loop-row l =
-    word_named (map (λ row. (row.0.now, row.1)) (drop l.row-index l.rows)) l.word
-    ≡ word_named (map (λ row. (row.0.now, row.1)) l.rows) l.word
