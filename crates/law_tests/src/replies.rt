@@ -2,11 +2,11 @@
 
 use crate::facts::all_hold;
 use crate::lines::{NAMES, plan_of_three};
-use block_words::{Way, WelwynState};
+use block_words::{Position, Way, WelwynState};
 use line_law::{Act, Call, Entry, Reply};
 use line_plan::Plan;
 use plan_text::read_plan;
-use script_text::{is_spelled, is_spelled_reply, put_told, way_word};
+use script_text::{is_spelled, is_spelled_reply, position_word, put_told, spent_word};
 use std::alloc::{AllocError, Global};
 use std::process::Abort;
 
@@ -45,8 +45,9 @@ fn replies_off_a_line_of_three_have_no_text(rt: HostRuntime) {
     let plan = plan_of_three(rt.alloc(), 2).expect(&rt, "a plan");
     let is_late = has_no_text(&plan, Reply::TooSoon { ready_at: 90_000 });
     drop(plan);
-    let is_up = way_word(Way::Up) == "up";
-    assert!(rt; is_late && is_up);
+    let is_spent = spent_word(true) == "spent";
+    let is_clear = position_word(Position::LineClear) == "line_clear";
+    assert!(rt; is_late && is_spent && is_clear);
 }
 
 // Whether the line spells what a box was told at a moment.

@@ -64,10 +64,10 @@ use Rattle.line_law.proofs.Found.{both}
 use Rattle.line_law.proofs.Keeping.{stays}
 use Rattle.line_law.proofs.Opens.{opens}
 use Rattle.line_law.proofs.Sides.{known_parts}
-use Rattle.script_text.specs.Rows.{answers_await_bell, answers_await_block, answers_await_train, answers_berth}
-use Rattle.script_text.specs.Rows.{answers_berth_part, answers_bring, answers_clear_portion, answers_hear}
-use Rattle.script_text.specs.Rows.{answers_overrun, answers_pass, answers_pull, answers_put, answers_release}
-use Rattle.script_text.specs.Rows.{answers_ring, answers_turn, answers_wind, may_answer}
+use Rattle.script_text.specs.PossibleReplies.{answers_await_bell, answers_await_block, answers_await_train, answers_berth}
+use Rattle.script_text.specs.PossibleReplies.{answers_berth_part, answers_bring, answers_clear_portion, answers_hear}
+use Rattle.script_text.specs.PossibleReplies.{answers_overrun, answers_pass, answers_pull, answers_put, answers_release}
+use Rattle.script_text.specs.PossibleReplies.{answers_ring, answers_turn, answers_wind, may_answer}
 use Rattle.line_report.specs.Spelled.{IsAnswered}
 
 -- ---- refusals of a row
@@ -514,6 +514,7 @@ finds_for plan plain b moment (acts.ClearPortion way) line known =
     (both (comes_in (length plan.boxes) b way) (is_some (berth_of (box_plan_of plan b) way)) known).0
 finds_for plan plain b moment act line known = tt
 
+-- the law answers a call of a plain line by a reply that such a call may have
 pub step_answered : (plan : PlanFields) (plain : PlainState) (b : ℕ) (call : Call) → IsLineOf plan plain
     → KnowsCall plan b call → IsTrue (may_answer call.act (step plan plain.line b call).reply)
 unfolding step
@@ -535,6 +536,7 @@ answered_from plan plain (e ∷ es) is line legal =
     (answered_from plan (record { line = after_entry plan plain.line e; calls = plain.calls + 1 }) es is
     (stays plan plain e.box_no e.call is line known) legal.2)
 
+-- each reply of a legal history is one that its call may have
 pub history_answered : (plan : PlanFields) (es : List Entry) → IsPlan plan → IsLegal plan es → All IsAnswered es
 history_answered plan es is legal =
     answered_from plan (record { line = opening_state plan; calls = 0 }) es is (opens plan) legal

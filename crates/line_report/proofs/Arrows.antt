@@ -151,6 +151,7 @@ told_before words count least many all n e =
     ∙ ap (take many) third
     ∙ (parted (drop 2 words) many (sym (e ∙ ap arrow_number third))).before
 
+-- the words behind the first arrow are those of the reply
 pub told_behind : (words : List (List ℕ)) (count least many : ℕ) → count ≡ length words → least ≡ min count 2
     → Some many ≡ arrow_number (drop least words)
     → Some (take (count - (least + many + 1)) (drop (least + many + 1) words)) ≡ behind_arrow (drop 2 words)
@@ -175,6 +176,7 @@ told_there words least many e =
 abbrev single : List (List ℕ) → Type 0
 single words = list_all (lacks 32) words ≡ true
 
+-- no word of a line has a space in it
 pub single_words : (text : List ℕ) → list_all (lacks 32) (words_of text) ≡ true
 single_words text = (words_are text).single
 

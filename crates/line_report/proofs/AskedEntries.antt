@@ -26,12 +26,14 @@ AreBehind plan moments (e ∷ es) = IsBehind plan moments e × AreBehind plan (a
 
 -- ---- they are asked
 
+-- entries that follow one another in their moments can be spelled
 pub behind_spelled : (plan : PlanFields) (moments : List ℕ) (es : List Entry) → AreBehind plan moments es
     → All (IsSpelled plan) es
 behind_spelled plan moments [] h = All-nil (IsSpelled plan)
 behind_spelled plan moments (e ∷ es) h =
     All-cons (IsSpelled plan) e es h.0.spelled (behind_spelled plan (after moments e) es h.1)
 
+-- and each has a reply that its call may have
 pub behind_answered : (plan : PlanFields) (moments : List ℕ) (es : List Entry) → AreBehind plan moments es
     → All IsAnswered es
 behind_answered plan moments [] h = All-nil IsAnswered
@@ -71,6 +73,7 @@ no_moment n b = elim (cases_lt b n) [
   | inr le ↦ get_or_past (replicate n 0) b 0 (omega (arith, le, length-replicate {A = ℕ} n 0))
 ]
 
+-- and from the opening moments on they are asked
 pub behind_asked : (plan : PlanFields) (es : List Entry) → AreBehind plan (replicate (length plan.boxes) 0) es
     → AreAsked plan es
 behind_asked plan es h b =
@@ -122,6 +125,7 @@ called_behind plan moments (e ∷ es) each spelled answered called =
           (λ b. calls_behind plan b moments e (filter (λ x. eqb x.box_no b) es) (eqb e.box_no b) refl at (called b)),
     )
 
+-- asked entries that can be spelled and are answered follow one another from the opening moments on
 pub asked_behind : (plan : PlanFields) (es : List Entry) → All (IsSpelled plan) es → All IsAnswered es
     → AreAsked plan es → AreBehind plan (replicate (length plan.boxes) 0) es
 asked_behind plan es spelled answered asked =

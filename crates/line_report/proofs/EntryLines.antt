@@ -35,19 +35,19 @@ use Rattle.script_text.specs.Replies.{reply_words, reply_text}
 use Rattle.script_text.specs.Scripts.{not_falling}
 use Rattle.script_text.specs.Spelled.{SpellsCall}
 use Rattle.script_text.specs.Entries.{IsSpelled, told_text}
-use Rattle.script_text.proofs.CallTexts.{moment_read, moment_word, call_words_are, words_of-call, printed_call}
+use Rattle.script_text.proofs.CallTexts.{moment_read, moment_word, call_words_are, call_words_plain, words_of-call}
+use Rattle.script_text.proofs.CallTexts.{printed_call}
 use Rattle.script_text.proofs.CallTexts.{spelled_call, length-call_text}
 use Rattle.script_text.proofs.Named.{valid_at, found_is, found_at}
-use Rattle.script_text.proofs.ReplyTexts.{printed_reply, spelled_reply}
-use Rattle.script_text.proofs.ReplyWords.{reply_words_are}
+use Rattle.script_text.proofs.PlainWords.{plain, differ}
+use Rattle.script_text.proofs.ReplyTexts.{printed_reply, spelled_reply, reply_words_are, length-reply_text}
+use Rattle.script_text.proofs.ReplyWords.{reply_reads}
 use Rattle.line_report.specs.Arrows.{before_arrow, behind_arrow}
 use Rattle.line_report.specs.Readers.{SoFar}
 use Rattle.line_report.specs.Journals.{entry_text}
 use Rattle.line_report.specs.Reading.{counted, entry_number, box_named, known_box, box_in, call_told, reply_told}
 use Rattle.line_report.specs.Reading.{call_after, reply_behind, entry_in}
 use Rattle.line_report.specs.Spelled.{IsBehind}
-use Rattle.line_report.proofs.PlainWords.{plain, differ, call_plain}
-use Rattle.line_report.proofs.ReplyLengths.{length-reply_text}
 
 -- ---- the text of an entry's line
 
@@ -60,6 +60,7 @@ line_words plan number e =
 abbrev pub line_text : PlanFields → ℕ → Entry → List ℕ
 line_text plan number e = decimal number ++ 32 ∷ box_name plan e.box_no ++ 32 ∷ told_text plan e
 
+-- the text of an entry is its line and the end of that
 pub entry_text-line : (plan : PlanFields) (number : ℕ) (e : Entry)
     → entry_text plan number e ≡ line_text plan number e ++ 10 ∷ []
 unfolding entry_text
@@ -283,6 +284,7 @@ pub record IsEntryOf (so_far : SoFar) (text : List ℕ) (e : Entry) : Type 0 whe
   pub behind : IsBehind so_far.plan so_far.moments e
   pub line : text ≡ line_text so_far.plan (so_far.count + 1) e
 
+-- what is read of a line's words is an entry that the line spells
 pub entry_is : (so_far : SoFar) (text : List ℕ) → OfOk (IsEntryOf so_far text) (entry_in so_far (words_of text))
 unfolding entry_in
 entry_is so_far text =
@@ -326,7 +328,7 @@ line_words_are : (plan : PlanFields) (number : ℕ) (e : Entry) → IsPlan plan 
 line_words_are plan number e p few s =
     let told : list_all is_word (call_words plan e.call ++ codes "->" ∷ reply_words plan e.box_no e.reply) ≡ true =
     words_all is_word (call_words plan e.call) (codes "->" ∷ reply_words plan e.box_no e.reply)
-    (call_words_are plan e.box_no e.call p s.call) (reply_words_are plan e.box_no e.reply p s.box s.reply).each in
+    (call_words_are plan e.box_no e.call p s.call) (reply_words_are plan e.box_no e.reply p s.box s.reply) in
     rw (decimal_is_word number few, name_is_word (box_name plan e.box_no) (name_of_box plan e.box_no p s.box), told)
     refl
 
@@ -335,7 +337,7 @@ line_joined : (plan : PlanFields) (number : ℕ) (e : Entry) → IsPlan plan →
 unfolding told_text call_text reply_text
 line_joined plan number e p s =
     joined_line (decimal number) (box_name plan e.box_no) (call_words plan e.call) (reply_words plan e.box_no e.reply)
-    (omega arith) (reply_words_are plan e.box_no e.reply p s.box s.reply).some
+    (omega arith) (reply_reads plan e.box_no e.reply p s.box s.reply).are.some
 
 words_of-line : (plan : PlanFields) (number : ℕ) (e : Entry) → IsPlan plan → number < 10 ^ 10 → IsSpelled plan e
     → words_of (line_text plan number e) ≡ line_words plan number e
@@ -385,6 +387,7 @@ line_form plan number e p few s =
     (line_words_are plan number e p few s) (number_counts number few)
     (rw (line_joined plan number e p s) (line_short plan number e p few s))
 
+-- no line's end stands within an entry's line
 pub line_lacks_end : (plan : PlanFields) (number : ℕ) (e : Entry) → IsPlan plan → number < 10 ^ 10 → IsSpelled plan e
     → lacks 10 (line_text plan number e) ≡ true
 line_lacks_end plan number e p few s =
@@ -429,7 +432,7 @@ unfolding call_told call_text
 call_told-line plan number e p s =
     ap (join_with_byte 32)
     (before_plain (call_words plan e.call) (reply_words plan e.box_no e.reply)
-    (call_plain plan e.box_no e.call p s.call)).0
+    (call_words_plain plan e.box_no e.call p s.call)).0
 
 reply_told-line : (plan : PlanFields) (number : ℕ) (e : Entry) → IsPlan plan → IsSpelled plan e
     → reply_told (line_words plan number e) ≡ Some (reply_text plan e.box_no e.reply)
@@ -437,7 +440,7 @@ unfolding reply_told reply_text
 reply_told-line plan number e p s =
     ap (λ (o : Option (List (List ℕ))). option_map (λ behind. join_with_byte 32 behind) o)
     (before_plain (call_words plan e.call) (reply_words plan e.box_no e.reply)
-    (call_plain plan e.box_no e.call p s.call)).1
+    (call_words_plain plan e.box_no e.call p s.call)).1
 
 call_read : (plan : PlanFields) (b last : ℕ) (call : Call) → IsPlan plan → KnowsCall plan b call → last ≤ call.moment
     → call_after plan b last (call_text plan call) ≡ Ok call

@@ -125,9 +125,11 @@ pub all_heard : (plan : PlanFields) (es : List Entry)
     → (heard_all (opening_judge plan) es).verdict ≡ verdict_of plan es
 all_heard plan es = (heard_found plan es).verdict
 
+-- a judge keeps his plan
 pub heard_plan : (plan : PlanFields) (es : List Entry) → (heard_all (opening_judge plan) es).plan ≡ plan
 heard_plan plan es = (heard_found plan es).plan
 
+-- a judge counts the entries that he has heard
 pub heard_count : (plan : PlanFields) (es : List Entry) → (heard_all (opening_judge plan) es).count ≡ length es
 heard_count plan es = let count = (heard_found plan es).count in omega (arith, count)
 

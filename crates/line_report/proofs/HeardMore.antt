@@ -26,6 +26,7 @@ use Rattle.line_report.proofs.Turns.{AreAskedFrom, asked_behind, starts_at}
 
 -- ---- entry by entry
 
+-- one entry more is heard behind the others
 pub heard_more : (judge : JudgeFields) (es : List Entry) (e : Entry)
     → heard_all judge (es ++ e ∷ []) ≡ heard (heard_all judge es) e
 heard_more judge [] e = refl
@@ -33,6 +34,7 @@ heard_more judge (first ∷ es) e = heard_more (heard judge first) es e
 
 -- ---- before the first entry
 
+-- a judge who opens has heard what a reader has read at the start: nothing
 pub heard_none : (plan : PlanFields) → HasHeard (start plan) (opening_judge plan)
 heard_none plan = record {
   plan = refl;
@@ -63,6 +65,7 @@ asked_on judge next es i d is line lt after asked legal = go judge.verdict refl 
         apart : (v : Verdict) → v ≡ Legal → v ≡ WrongAt k said law → ⊥
         apart v one other = cc
 
+-- when one entry has been heard the rest remains to be heard
 pub heard_rest : (judge next whole : JudgeFields) (es : List Entry) (i : ℕ) (d : Entry) → i < length es
     → next ≡ heard judge (get_or es i d) → heard_all judge (drop i es) ≡ whole
     → heard_all next (drop (i + 1) es) ≡ whole
@@ -125,6 +128,7 @@ moments_on plan state moments e shape each in_line before b = elim (eqb_tells e.
       ∙ before b ∙ sym (get_or-set_other moments e.box_no b e.call.moment 0 other)
 ]
 
+-- an entry that is read and heard leaves reader and judge together
 pub heard_on : (so_far : SoFar) (judge : JudgeFields) (e : Entry) → IsStateOf (heard judge e).plan (heard judge e).state
     → HasHeard so_far judge → IsBehind so_far.plan so_far.moments e
     → HasHeard (entry_onto so_far e) (heard judge e)
@@ -166,6 +170,7 @@ heard_on so_far judge e after has behind = go judge.verdict refl after where
 
 -- ---- as long as no entry is wrong
 
+-- what is legal with an entry was legal before it
 pub was_legal : (judge : JudgeFields) (e : Entry) → (heard judge e).verdict ≡ Legal → judge.verdict ≡ Legal
 was_legal judge e legal = go judge.verdict refl legal where
   go : (verdict : Verdict) → judge.verdict ≡ verdict → (heard_by verdict judge e).verdict ≡ Legal

@@ -630,11 +630,7 @@ IsOffLineAct act = Unit {0}
 
 act_off : (plan : PlanFields) (bp : BoxFields) (act : Act) (here : BoxState) → IsOffLineAct act
     → IsOffLine (decide plan bp act here)
-act_off plan bp (acts.Ring side code) here off = tt
-act_off plan bp (acts.Hear side) here off = tt
-act_off plan bp (acts.AwaitBell side code) here off = tt
 act_off plan bp (acts.Turn way position) here off = turn_off (berth_of bp way) here way position
-act_off plan bp (acts.AwaitBlock way position) here off = tt
 act_off plan bp (acts.Pull lever) here off =
     unless_off (pull_refusal bp here lever) here _ (pull_at_off (starter_way (signal_of bp lever)) here _)
 act_off plan bp (acts.Put lever) here off = unless_off (put_refusal bp here lever) here _ tt
@@ -649,6 +645,7 @@ act_off plan bp (acts.ClearPortion way) here off = absurd off
 act_off plan bp (acts.Wind way) here off = unless_off (wind_refusal (of_way here.incoming way)) here _ tt
 act_off plan bp (acts.Release way) here off =
     unless_off (release_refusal here.moment (of_way here.incoming way).ready_at) here _ tt
+act_off plan bp act here off = tt
 
 goes_off : (box_plan : BoxFields) (here : BoxState) (lever : ℕ) (w : Way) (d : Decision) → Goes box_plan here lever d
     → starter_link (starter_way (signal_of box_plan lever)) ≡ Link.In w → IsOffLine d
@@ -672,30 +669,6 @@ rear_told : (plan : PlanFields) (x : Section) (here : BoxState) (act : Act) (l :
     → link_of (box_plan_of plan x.rear) act ≡ Link.Out x.way
     → ThenOwn (decide plan (box_plan_of plan x.rear) act here)
     (λ reply h l k u. length u ≡ length t + count_if (gains_at_rear plan x act reply)) l k t
-rear_told plan x here (acts.Ring side code) l k t line =
-    off_length (decide plan (box_plan_of plan x.rear) (acts.Ring side code) here) l k t
-    (act_off plan (box_plan_of plan x.rear) (acts.Ring side code) here tt)
-rear_told plan x here (acts.Hear side) l k t line =
-    off_length (decide plan (box_plan_of plan x.rear) (acts.Hear side) here) l k t
-    (act_off plan (box_plan_of plan x.rear) (acts.Hear side) here tt)
-rear_told plan x here (acts.AwaitBell side code) l k t line =
-    off_length (decide plan (box_plan_of plan x.rear) (acts.AwaitBell side code) here) l k t
-    (act_off plan (box_plan_of plan x.rear) (acts.AwaitBell side code) here tt)
-rear_told plan x here (acts.Turn way position) l k t line =
-    off_length (decide plan (box_plan_of plan x.rear) (acts.Turn way position) here) l k t
-    (act_off plan (box_plan_of plan x.rear) (acts.Turn way position) here tt)
-rear_told plan x here (acts.AwaitBlock way position) l k t line =
-    off_length (decide plan (box_plan_of plan x.rear) (acts.AwaitBlock way position) here) l k t
-    (act_off plan (box_plan_of plan x.rear) (acts.AwaitBlock way position) here tt)
-rear_told plan x here (acts.Pull lever) l k t line =
-    off_length (decide plan (box_plan_of plan x.rear) (acts.Pull lever) here) l k t
-    (act_off plan (box_plan_of plan x.rear) (acts.Pull lever) here tt)
-rear_told plan x here (acts.Put lever) l k t line =
-    off_length (decide plan (box_plan_of plan x.rear) (acts.Put lever) here) l k t
-    (act_off plan (box_plan_of plan x.rear) (acts.Put lever) here tt)
-rear_told plan x here (acts.Bring train) l k t line =
-    off_length (decide plan (box_plan_of plan x.rear) (acts.Bring train) here) l k t
-    (act_off plan (box_plan_of plan x.rear) (acts.Bring train) here tt)
 rear_told plan x here (acts.Pass lever) l k t line =
     let bp : BoxFields = box_plan_of plan x.rear in
     goes_own bp here lever x.way _ l k t (pass_goes (signal_of bp lever) bp here lever refl) line
@@ -706,12 +679,9 @@ rear_told plan x here (acts.AwaitTrain way) l k t line = absurd (in_not_out way 
 rear_told plan x here (acts.Berth way) l k t line = absurd (in_not_out way x.way line)
 rear_told plan x here (acts.BerthPart way) l k t line = absurd (in_not_out way x.way line)
 rear_told plan x here (acts.ClearPortion way) l k t line = absurd (in_not_out way x.way line)
-rear_told plan x here (acts.Wind way) l k t line =
-    off_length (decide plan (box_plan_of plan x.rear) (acts.Wind way) here) l k t
-    (act_off plan (box_plan_of plan x.rear) (acts.Wind way) here tt)
-rear_told plan x here (acts.Release way) l k t line =
-    off_length (decide plan (box_plan_of plan x.rear) (acts.Release way) here) l k t
-    (act_off plan (box_plan_of plan x.rear) (acts.Release way) here tt)
+rear_told plan x here act l k t line =
+    off_length (decide plan (box_plan_of plan x.rear) act here) l k t
+    (act_off plan (box_plan_of plan x.rear) act here tt)
 
 -- a call of the rear box elsewhere tells of no train more
 rear_elsewhere : (plan : PlanFields) (x : Section) (here : BoxState) (act : Act)
@@ -719,34 +689,8 @@ rear_elsewhere : (plan : PlanFields) (x : Section) (here : BoxState) (act : Act)
     → ThenElsewhere (decide plan (box_plan_of plan x.rear) act here) (λ reply h. gains_at_rear plan x act reply ≡ false)
 rear_elsewhere plan x here (acts.Pass lever) off = pass_off (box_plan_of plan x.rear) lever x.way _ off
 rear_elsewhere plan x here (acts.Overrun lever) off = pass_off (box_plan_of plan x.rear) lever x.way _ off
-rear_elsewhere plan x here (acts.Ring side code) off =
-    elsewhere_const (decide plan (box_plan_of plan x.rear) (acts.Ring side code) here) (false ≡ false) refl
-rear_elsewhere plan x here (acts.Hear side) off =
-    elsewhere_const (decide plan (box_plan_of plan x.rear) (acts.Hear side) here) (false ≡ false) refl
-rear_elsewhere plan x here (acts.AwaitBell side code) off =
-    elsewhere_const (decide plan (box_plan_of plan x.rear) (acts.AwaitBell side code) here) (false ≡ false) refl
-rear_elsewhere plan x here (acts.Turn way position) off =
-    elsewhere_const (decide plan (box_plan_of plan x.rear) (acts.Turn way position) here) (false ≡ false) refl
-rear_elsewhere plan x here (acts.AwaitBlock way position) off =
-    elsewhere_const (decide plan (box_plan_of plan x.rear) (acts.AwaitBlock way position) here) (false ≡ false) refl
-rear_elsewhere plan x here (acts.Pull lever) off =
-    elsewhere_const (decide plan (box_plan_of plan x.rear) (acts.Pull lever) here) (false ≡ false) refl
-rear_elsewhere plan x here (acts.Put lever) off =
-    elsewhere_const (decide plan (box_plan_of plan x.rear) (acts.Put lever) here) (false ≡ false) refl
-rear_elsewhere plan x here (acts.Bring train) off =
-    elsewhere_const (decide plan (box_plan_of plan x.rear) (acts.Bring train) here) (false ≡ false) refl
-rear_elsewhere plan x here (acts.AwaitTrain way) off =
-    elsewhere_const (decide plan (box_plan_of plan x.rear) (acts.AwaitTrain way) here) (false ≡ false) refl
-rear_elsewhere plan x here (acts.Berth way) off =
-    elsewhere_const (decide plan (box_plan_of plan x.rear) (acts.Berth way) here) (false ≡ false) refl
-rear_elsewhere plan x here (acts.BerthPart way) off =
-    elsewhere_const (decide plan (box_plan_of plan x.rear) (acts.BerthPart way) here) (false ≡ false) refl
-rear_elsewhere plan x here (acts.ClearPortion way) off =
-    elsewhere_const (decide plan (box_plan_of plan x.rear) (acts.ClearPortion way) here) (false ≡ false) refl
-rear_elsewhere plan x here (acts.Wind way) off =
-    elsewhere_const (decide plan (box_plan_of plan x.rear) (acts.Wind way) here) (false ≡ false) refl
-rear_elsewhere plan x here (acts.Release way) off =
-    elsewhere_const (decide plan (box_plan_of plan x.rear) (acts.Release way) here) (false ≡ false) refl
+rear_elsewhere plan x here act off =
+    elsewhere_const (decide plan (box_plan_of plan x.rear) act here) (false ≡ false) refl
 
 -- ---- at the box in advance
 
@@ -833,22 +777,6 @@ advance_told : (plan : PlanFields) (x : Section) (here : BoxState) (act : Act) (
     → link_of (box_plan_of plan (advance_of x)) act ≡ Link.In x.way
     → ThenOwn (decide plan (box_plan_of plan (advance_of x)) act here)
     (λ reply h l k u. AdvanceTold plan x act here (length t) reply h u) l k t
-advance_told plan x here (acts.Ring side code) l k t sound is known places line =
-    off_act plan x here (acts.Ring side code) l k t sound is known tt tt
-advance_told plan x here (acts.Hear side) l k t sound is known places line =
-    off_act plan x here (acts.Hear side) l k t sound is known tt tt
-advance_told plan x here (acts.AwaitBell side code) l k t sound is known places line =
-    off_act plan x here (acts.AwaitBell side code) l k t sound is known tt tt
-advance_told plan x here (acts.Turn way position) l k t sound is known places line =
-    off_act plan x here (acts.Turn way position) l k t sound is known tt tt
-advance_told plan x here (acts.AwaitBlock way position) l k t sound is known places line =
-    off_act plan x here (acts.AwaitBlock way position) l k t sound is known tt tt
-advance_told plan x here (acts.Pull lever) l k t sound is known places line =
-    off_act plan x here (acts.Pull lever) l k t sound is known tt tt
-advance_told plan x here (acts.Put lever) l k t sound is known places line =
-    off_act plan x here (acts.Put lever) l k t sound is known tt tt
-advance_told plan x here (acts.Bring train) l k t sound is known places line =
-    off_act plan x here (acts.Bring train) l k t sound is known tt tt
 advance_told plan x here (acts.Pass lever) l k t sound is known places line =
     let bp : BoxFields = box_plan_of plan (advance_of x) in
     off_told plan x (acts.Pass lever) here (decide plan bp (acts.Pass lever) here) l k t
@@ -886,10 +814,8 @@ advance_told plan x here (acts.ClearPortion way) l k t sound is known places lin
     (own_weaker (clear_portion here x.way) _ _ l k t
     (λ reply h l k u p. rw (same_way_refl x.way) (rw (or_false (is_cleared reply)) p))
     (clear_own (section_berth plan x) here x.way l k t))
-advance_told plan x here (acts.Wind way) l k t sound is known places line =
-    off_act plan x here (acts.Wind way) l k t sound is known tt tt
-advance_told plan x here (acts.Release way) l k t sound is known places line =
-    off_act plan x here (acts.Release way) l k t sound is known tt tt
+advance_told plan x here act l k t sound is known places line =
+    off_act plan x here act l k t sound is known tt tt
 
 -- ---- one call
 
@@ -924,6 +850,7 @@ pub third_gains : (plan : PlanFields) (x : Section) (e : Entry) → e.box_no ≢
     → gains plan x e ≡ false
 third_gains plan x e nr na = rw (differ e.box_no x.rear nr) (rw (differ e.box_no (advance_of x) na) refl)
 
+-- an entry of another box than the one in advance tells of no train less
 pub third_loses : (plan : PlanFields) (x : Section) (e : Entry) → e.box_no ≢ advance_of x → loses plan x e ≡ false
 third_loses plan x e na = rw (differ e.box_no (advance_of x) na) refl
 
@@ -951,6 +878,7 @@ none_gains plan x e none =
     (rw (and_false (is_parting x e.call.act)) (rw (and_false (e.box_no == x.rear))
     (rw (and_false (e.box_no == advance_of x)) refl)))))
 
+-- and so it tells of no train less
 pub none_loses : (plan : PlanFields) (x : Section) (e : Entry) → counts_trains e.reply ≡ false → loses plan x e ≡ false
 none_loses plan x e none =
     rw (no_cleared e.reply none) (rw (no_passed e.reply none) (rw (and_false (is_clearing x e.call.act))

@@ -27,6 +27,7 @@ spelled_from plan state calls (e ∷ es) is few legal told =
     })
     (spelled_from plan (after_entry plan state e) calls es is few legal.2 (All-tail (Tells plan calls) e es told))
 
+-- the entries of a legal history can be spelled
 pub legal_spelled : (plan : PlanFields) (es : List Entry) → IsPlan plan → length es < 10 ^ 10 → IsLegal plan es
     → All (IsSpelled plan) es
 legal_spelled plan es is few legal =

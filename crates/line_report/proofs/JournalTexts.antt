@@ -98,6 +98,7 @@ words_is so_far line ended =
     (λ _. bind_keeps (IsEntryOf so_far line.text) (IsTold so_far line) (entry_in so_far (words_of line.text)) _
     (entry_is so_far line.text) (λ e is. (ended, is)))
 
+-- what is read of a journal's line is told by it
 pub told_is : (so_far : SoFar) (line : Line) → OfOk (IsTold so_far line) (told_by so_far line)
 unfolding told_by
 told_is so_far line =
@@ -261,17 +262,20 @@ entries_fit plan number (e ∷ es) =
       entries_fit plan (number + 1) es,
     )
 
+-- a printed journal has no more entries than bytes
 pub journal_fits : (plan : PlanFields) (es : List Entry) (rest : List ℕ)
     → length es ≤ length (journal_text plan es ++ rest)
 unfolding journal_text
 journal_fits plan es rest = simp length-append (omega (arith, entries_fit plan 1 es))
 
+-- no journal's text may have more bytes than this, in either version
 pub most_bytes : (version : ℕ) → most_journal_bytes version ≤ 134217728
 most_bytes version = go (eqb version 1) where
   go : (first : Bool) → cond first 67108864 134217728 ≤ 134217728
   go true = omega arith
   go false = omega arith
 
+-- so a text spells no more entries than that
 pub few_entries : (plan : PlanFields) (bytes : List ℕ) (es : List Entry) → SpellsJournal plan bytes es
     → length es ≤ 134217728
 few_entries plan bytes es spells =
@@ -408,6 +412,7 @@ reading_printable plan bytes (Err fault) e = tt
 refused_or_read : (fault : Fault) (es : List Entry) (r : Result (List Entry) Fault) → r ≡ Err fault → r ≡ Ok es → ⊥
 refused_or_read fault es r e k = cc
 
+-- a text that is refused spells no journal
 pub reading_refused : (plan : PlanFields) (bytes : List ℕ) (r : Result Journal ReadError) → IsPlan plan
     → IsReading plan bytes r → (line : ℕ) (cause : Cause) → IsErrOf r (errors.Refused line cause) → (es : List Entry)
     → ¬ SpellsJournal plan bytes es
@@ -421,6 +426,7 @@ pub ruleset reading_rules = (reading_spelled, reading_asked, reading_few, readin
 
 -- ---- a fetch of one byte more than the limit is enough
 
+-- of a journal's text the bytes up to one beyond the limit are enough
 pub journal_of-take : (plan : PlanFields) (bytes : List ℕ)
     → journal_of plan (take (most_journal_bytes plan.version + 1) bytes) ≡ journal_of plan bytes
 unfolding journal_of

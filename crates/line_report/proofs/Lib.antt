@@ -3,9 +3,7 @@ pub mod Spellings
 pub mod Histories
 pub mod Arrows
 pub mod Boxes
-pub mod ReplyLengths
 pub mod AskedEntries
-pub mod PlainWords
 pub mod EntryLines
 pub mod JournalTexts
 pub mod Answered

@@ -69,6 +69,7 @@ opening_line : (way : Way) → length (of_way opening_pair.lines way) ≡ 0
 opening_line Up = refl
 opening_line Down = refl
 
+-- a section opens with no trains
 pub opening_held : (plan : PlanFields) (section : Section) → IsSection plan section
     → held_by plan (opening_state plan) section ≡ 0
 opening_held plan section is =
@@ -198,6 +199,7 @@ reached_from plan section state (e ∷ es) = go (reached_from plan section (afte
         most = then ∙ later.most;
       }
 
+-- the most trains that a section held it held after some beginning of the journal
 pub most_reached : (plan : PlanFields) (es : List Entry) (section : Section)
     → (before : List Entry) × (more : List Entry) × (es ≡ before ++ more) × (most_of plan es section ≡ held_by plan
     (state_of plan before) section)
@@ -210,6 +212,7 @@ most_after plan section state [] more = held_first plan section state more
 most_after plan section state (e ∷ before) more = let h =
     most_after plan section (after_entry plan state e) before more in omega (arith, h)
 
+-- and it held no more after any other
 pub most_bounds : (plan : PlanFields) (before more : List Entry) (section : Section)
     → held_by plan (state_of plan before) section ≤ most_of plan (before ++ more) section
 most_bounds plan before more section = most_after plan section (opening_state plan) before more
@@ -225,6 +228,7 @@ clean_before test (x ∷ es) more e = go (test x) (λ f. clean_before test es mo
   go true later f = f
   go false later f = later f
 
+-- a section of which a journal is clean never held more trains than it may hold
 pub one_train_reaches : (plan : PlanFields) (es : List Entry) (section : Section) → IsPlan plan → IsSection plan section
     → IsLegal plan es → IsClean plan section es → most_of plan es section ≤ limit_of plan section
 one_train_reaches plan es section is in_line legal clean =

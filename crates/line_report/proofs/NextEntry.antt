@@ -34,6 +34,7 @@ left_then old new e h = rw (h.next, h.told, h.after) refl
 abbrev pub kept_then : List Entry → Result (List Entry) Fault → Result (List Entry) Fault
 kept_then kept read = read >>= (λ es. Ok (kept ++ es))
 
+-- with nothing kept before, what is left is all that is read
 pub none_kept : (read : Result (List Entry) Fault) → read ≡ kept_then [] read
 none_kept (Ok es) = refl
 none_kept (Err fault) = refl
@@ -43,6 +44,7 @@ one_more : (kept : List Entry) (e : Entry) (read : Result (List Entry) Fault)
 one_more kept e (Ok es) = ap Ok (sym (append_assoc kept (e ∷ []) es))
 one_more kept e (Err fault) = refl
 
+-- the next entry goes from those that are left to those that are kept
 pub keeps_on : (old new : ReaderFields) (whole : Result (List Entry) Fault) (kept : List Entry) (e : Entry)
     → TellsNext old new e → whole ≡ kept_then kept (entries_left old)
     → whole ≡ kept_then (kept ++ e ∷ []) (entries_left new)
@@ -51,6 +53,7 @@ keeps_on old new whole kept e h so_far =
 
 -- ---- entries that are told one after another
 
+-- a reader that has told entries tells one more
 pub tells_more : (old middle new : ReaderFields) (es : List Entry) (e : Entry) → Tells old es middle
     → TellsNext middle new e → Tells old (es ++ e ∷ []) new
 tells_more old middle new [] e same h = (new, subst (λ (r : ReaderFields). TellsNext r new e) (sym same) h, refl)

@@ -23,6 +23,7 @@ never true true true g words h = absurd cc
 never true true false true words h = absurd cc
 never true true false false words h = absurd cc
 
+-- no line of a journal is skipped
 pub none_skipped : (line : Line) → formed_words false line ≡ Ok None → ⊥
 unfolding form_of formed_words
 none_skipped line h =

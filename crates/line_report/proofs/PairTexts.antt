@@ -39,6 +39,7 @@ pairs_from plan es b (first ∷ trains) h =
     rw (down, up, later) (append_assoc (line_told plan es (section_between b Down))
     (line_told plan es (section_between b Up)) _)
 
+-- the lines of all pairs are those of all sections
 pub all_pairs : (plan : PlanFields) (es : List Entry) (trains : List (ByWay HeldTrains)) → AreMost plan es trains
     → pairs_text plan 0 trains ≡ sections_text plan es
 unfolding sections_text

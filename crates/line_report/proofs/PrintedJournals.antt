@@ -28,10 +28,12 @@ legal_spells plan es rest is legal short =
       printed = refl;
     }
 
+-- a legal history is read as it is printed, whatever stands behind its text
 pub legal_read : (plan : PlanFields) (es : List Entry) (rest : List ℕ) → IsPlan plan → IsLegal plan es
     → length (journal_text plan es ++ rest) ≤ most_journal_bytes plan.version
     → journal_of plan (journal_text plan es ++ rest) ≡ Ok es
 legal_read plan es rest is legal short = every_journal plan _ es is (legal_spells plan es rest is legal short)
 
+-- a legal history is judged to be legal
 pub legal_judged : (plan : PlanFields) (es : List Entry) → IsPlan plan → IsLegal plan es → verdict_of plan es ≡ Legal
 legal_judged plan es is legal = (legal_exactly plan es is (λ b. calls_in_turn plan es b is legal)).1 legal

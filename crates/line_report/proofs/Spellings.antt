@@ -73,33 +73,21 @@ told_spelled (replies.Silent k) plan b calls is few h = count_is k calls h few
 told_spelled (replies.BellNotYet shown k) plan b calls is few h =
     and_true (is_count k) (shows_code plan shown) (count_is k calls h.0 few) (shown_is plan shown h.1)
 told_spelled (replies.Turned v) plan b calls is few h = count_is v calls h few
-told_spelled replies.AlreadyThere plan b calls is few h = refl
-told_spelled replies.NotFromNormal plan b calls is few h = refl
 told_spelled (replies.HomeReversed lever) plan b calls is few h = h
 told_spelled (replies.TrackOccupied place train) plan b calls is few h = stand_is plan b place train h
 told_spelled (replies.WelwynHolds state) plan b calls is few h = holding_is state h
 told_spelled (replies.CountFull out) plan b calls is few h = small_is out h
 told_spelled (replies.Seen v) plan b calls is few h = count_is v calls h few
 told_spelled (replies.BlockNotYet shown v) plan b calls is few h = count_is v calls h few
-told_spelled replies.Pulled plan b calls is few h = refl
 told_spelled (replies.PulledUnder v) plan b calls is few h = count_is v calls h few
-told_spelled replies.AlreadyReversed plan b calls is few h = refl
-told_spelled replies.Spare plan b calls is few h = refl
 told_spelled (replies.HeldByLever lever row) plan b calls is few h =
     and_true (knows_lever plan b lever) (is_row plan b row) h.0 (row_is plan b row h.1)
 told_spelled (replies.HeldByTrack place train) plan b calls is few h = stand_is plan b place train h
 told_spelled (replies.HeldByInstrument way shown spent v) plan b calls is few h = count_is v calls h few
-told_spelled replies.Put plan b calls is few h = refl
-told_spelled replies.AlreadyNormal plan b calls is few h = refl
-told_spelled replies.Brought plan b calls is few h = refl
-told_spelled replies.AlreadyBrought plan b calls is few h = refl
 told_spelled (replies.Occupied place train) plan b calls is few h = stand_is plan b place train h
 told_spelled (replies.Passed train) plan b calls is few h = h
 told_spelled (replies.Entered train k) plan b calls is few h =
     and_true (is_count k) (is_train plan.trains train) (count_is k calls h.0 few) h.1
-told_spelled replies.NoTrain plan b calls is few h = refl
-told_spelled replies.AtDanger plan b calls is few h = refl
-told_spelled replies.ArmOff plan b calls is few h = refl
 told_spelled (replies.SectionFull k) plan b calls is few h = count_is k calls h few
 told_spelled (replies.Approaching train j) plan b calls is few h =
     and_true (is_count j) (is_train plan.trains train) (count_is j calls h.0 few) h.1
@@ -113,10 +101,6 @@ told_spelled (replies.BerthOccupied train) plan b calls is few h = h
 told_spelled (replies.PortionAhead train) plan b calls is few h = h
 told_spelled (replies.Cleared train j) plan b calls is few h =
     and_true (is_count j) (is_train plan.trains train) (count_is j calls h.0 few) h.1
-told_spelled replies.NoPortion plan b calls is few h = refl
 told_spelled (replies.Winding ready_at) plan b calls is few h = ready_is plan ready_at is h
-told_spelled replies.AlreadyWinding plan b calls is few h = refl
-told_spelled replies.NotAtNormal plan b calls is few h = refl
-told_spelled replies.Released plan b calls is few h = refl
-told_spelled replies.NotWinding plan b calls is few h = refl
 told_spelled (replies.TooSoon ready_at) plan b calls is few h = ready_is plan ready_at is h
+told_spelled reply plan b calls is few h = refl

@@ -71,12 +71,14 @@ no_entry = record { box_no = 0; call = record { moment = 0; act = Ring Up 0 }; r
 
 -- ---- calls that may be made, one entry of a list
 
+-- of entries that are asked in turn, the next may be called now
 pub asked_at : (plan : PlanFields) (state : LineState) (es : List Entry) (i : ℕ) (d : Entry) → i < length es
     → AreAskedFrom plan state (drop i es) → MayCall plan state (get_or es i d).box_no (get_or es i d).call
 asked_at plan state es i d lt asked =
     asked_now plan state (get_or es i d) (drop (i + 1) es)
     (subst (λ (rest : List Entry). AreAskedFrom plan state rest) (drop_more es i d lt) asked)
 
+-- and behind it the rest are asked in turn
 pub asked_behind : (plan : PlanFields) (state after : LineState) (es : List Entry) (i : ℕ) (d : Entry) → IsPlan plan
     → IsStateOf plan state → i < length es → after_entry plan state (get_or es i d) ≡ after
     → AreAskedFrom plan state (drop i es) → AreAskedFrom plan after (drop (i + 1) es)
@@ -93,10 +95,12 @@ opening_moment trains [] b = refl
 opening_moment trains (box_plan ∷ boxes) zero = refl
 opening_moment trains (box_plan ∷ boxes) (suc b) = opening_moment trains boxes b
 
+-- a box opens at moment 0
 pub starts_at : (plan : PlanFields) (b : ℕ) → (box_at (opening_state plan) b).moment ≡ 0
 unfolding opening_state
 starts_at plan b = opening_moment (length plan.trains) plan.boxes b
 
+-- entries that are asked are asked in turn from the opening on
 pub asked_first : (plan : PlanFields) (es : List Entry) → AreAsked plan es → AreAskedFrom plan (opening_state plan) es
 asked_first plan es asked b = subst (λ (m : ℕ). AreCalls plan b m (calls_of b es)) (sym (starts_at plan b)) (asked b)
 
@@ -132,6 +136,7 @@ asked_all plan state e es is shape may asked b = elim (eqb_tells e.box_no b) [
   calls_with true plan b moment e es h k = h refl
   calls_with false plan b moment e es h k = k refl
 
+-- and entries that are asked in turn from there on are asked
 pub asked_begins : (plan : PlanFields) (state : LineState) (es : List Entry) → state ≡ opening_state plan
     → (AreAskedFrom plan state es ↔ AreAsked plan es)
 asked_begins plan state es opens = (
@@ -140,6 +145,7 @@ asked_begins plan state es opens = (
   λ asked. subst (λ (s : LineState). AreAskedFrom plan s es) (sym opens) (asked_first plan es asked),
 )
 
+-- an entry that may be called leaves it to the rest whether all are asked
 pub asked_more : (plan : PlanFields) (state after : LineState) (es : List Entry) (i : ℕ) (d : Entry) → IsPlan plan
     → IsStateOf plan state → i < length es → after_entry plan state (get_or es i d) ≡ after
     → MayCall plan state (get_or es i d).box_no (get_or es i d).call

@@ -176,6 +176,7 @@ law_spelled plan es b call is few legal may =
     told_spelled (step plan (state_of plan es) b call).reply plan b (length es + 1) is few
     (each_told plan es [] (entry_of plan (state_of plan es) b call) is (history_grows plan es b call legal may))
 
+-- the two replies of a verdict can be printed
 pub can_print : (plan : PlanFields) (es : List Entry) (k b : ℕ) (said law : Reply) → IsPlan plan
     → All (IsSpelled plan) es → AreAsked plan es → AreFewEntries es → verdict_of plan es ≡ WrongAt k said law
     → b ≡ box_of_entry es k → CanPrint plan b said law

@@ -1,14 +1,13 @@
 -- The most trains that each section held.
 use Rattle.std.specs.Prelude.{ℕ, List, [], ◌∷◌, ◌++◌, codes, decimal, max}
 use Rattle.std.specs.List.{flat_map}
-use Rattle.line_plan.specs.Plans.{PlanFields, box_name}
-use Rattle.line_plan.specs.Sections.{advance_of, sections_of}
+use Rattle.line_plan.specs.Plans.{PlanFields}
+use Rattle.line_plan.specs.Sections.{section_name, sections_of}
 use Rattle.line_plan.specs.declared.section.Section.{Section}
 use Rattle.line_law.specs.declared.call.Entry.{Entry}
 use Rattle.line_law.specs.History.{after_entry}
 use Rattle.line_law.specs.Sections.{held_by}
 use Rattle.line_law.specs.States.{LineState, opening_state}
-use Rattle.script_text.specs.Names.{way_text}
 
 -- the most trains that a section holds in a state, and after each of these entries from there
 abbrev pub most_from : PlanFields → Section → LineState → List Entry → ℕ
@@ -23,8 +22,7 @@ most_of plan es section = most_from plan section (opening_state plan) es
 -- a section's line: its way, its boxes from rear to advance, and the most trains that it held
 unfoldable pub section_text : PlanFields → Section → ℕ → List ℕ
 section_text plan section most =
-    codes "section " ++ way_text section.way ++ 32 ∷ box_name plan section.rear
-    ++ 32 ∷ box_name plan (advance_of section) ++ codes " most " ++ decimal most ++ 10 ∷ []
+    codes "section " ++ section_name plan section ++ codes " most " ++ decimal most ++ 10 ∷ []
 
 -- the lines of all sections
 unfoldable pub sections_text : PlanFields → List Entry → List ℕ

@@ -2,7 +2,7 @@
 use Rattle.std.specs.Prelude.{◌≡◌, ◌≤◌, ℕ, IsTrue, All, List, ◌++◌, length, slice_index}
 use Rattle.line_plan.specs.Plans.{PlanFields}
 use Rattle.line_law.specs.declared.call.Entry.{Entry}
-use Rattle.script_text.specs.Rows.{may_answer}
+use Rattle.script_text.specs.PossibleReplies.{may_answer}
 use Rattle.script_text.specs.Entries.{IsSpelled}
 use Rattle.line_report.specs.Asked.{AreAsked}
 use Rattle.line_report.specs.Journals.{journal_text}

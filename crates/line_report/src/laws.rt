@@ -21,7 +21,7 @@ ghost use Rattle.line_report.specs.Spelled.{IsAnswered};
 ghost use Rattle.line_report.specs.Verdicts.{IsWrongAt, verdict_of};
 ghost use Rattle.line_report.specs.declared.judging.Verdict.TheVariants.{Legal, WrongAt};
 ghost use Rattle.script_text.specs.Entries.{IsSpelled};
-ghost use Rattle.script_text.specs.Rows.{may_answer};
+ghost use Rattle.script_text.specs.PossibleReplies.{may_answer};
 ghost use Rattle.train_laws.specs.Authorities.{count_if};
 
 /// A law: every entry of a legal history of a plan's line can be printed, where the history has fewer than ten thousand

@@ -2,8 +2,7 @@
 
 ghost use Rattle.std.specs.Prelude.{◌≡◌, ◌+◌, ◌++◌, ◌∷◌, ◌<◌, ◌≤◌, ◌^◌, ℕ, IfOk, OnOk, length, replicate};
 ghost use Rattle.std.specs.Prelude.{IsOk, List, OnErr, string_bytes};
-ghost use Rattle.line_plan.specs.Plans.{box_name};
-ghost use Rattle.line_plan.specs.Sections.{IsSection, advance_of, limit_of};
+ghost use Rattle.line_plan.specs.Sections.{IsSection, limit_of};
 ghost use Rattle.line_law.specs.declared.call.Entry.{Entry};
 ghost use Rattle.line_law.specs.History.{IsLegal};
 ghost use Rattle.line_law.specs.Sections.{IsClean};
@@ -13,13 +12,12 @@ ghost use Rattle.line_report.specs.Between.{pair_text, pairs_after, pairs_text, 
 ghost use Rattle.line_report.specs.Gains.{count_after, counts_trains, gains, gains_at_rear, gains_in_advance};
 ghost use Rattle.line_report.specs.Gains.{loses, loses_in_advance, works_home, works_starter};
 ghost use Rattle.line_report.specs.Sections.{most_of, section_text, sections_text};
-ghost use Rattle.script_text.specs.Names.{way_text};
 
 use block_words::Way;
 use line_law::{Act, ByWay, Entry, Journal, Reply, starter_way};
 use line_plan::{Plan, Section};
 use rail_text::NoMemory;
-use script_text::{put_text, way_word};
+use script_text::put_text;
 use std::alloc::{AllocError, Global};
 use std::fmt::Write;
 
@@ -269,20 +267,6 @@ pub fn no_trains(alloc: Global, pairs: usize) -> Result<Vec<ByWay<HeldTrains>>, 
     Ok(vec![in alloc; none; pairs]?)
 }
 
-// A section as it is named: its way, its rear box and its box in advance.
-fn put_named(out: &mut String, plan: &Plan, section: Section) -> Result<(), AllocError>
-    requires { IsSection plan.now section }
-    ensures { OnOk result (string_bytes out.new
-        ≡ string_bytes out.old ++ (way_text section.way ++ 32 ∷ box_name plan.now section.rear
-        ++ 32 ∷ box_name plan.now (advance_of section))) }
-{
-    out.push_str(way_word(section.way))?;
-    out.push_str(" ")?;
-    out.push_str(plan.box_name(section.rear))?;
-    out.push_str(" ")?;
-    out.push_str(plan.box_name(section.advance(plan)))
-}
-
 // A section's line.
 #[tactic(auto, unfolding(crate::specs::Sections::section_text))]
 fn put_section(out: &mut String, plan: &Plan, section: Section, most: u32) -> Result<(), AllocError>
@@ -290,7 +274,7 @@ fn put_section(out: &mut String, plan: &Plan, section: Section, most: u32) -> Re
     ensures { OnOk result (string_bytes out.new ≡ string_bytes out.old ++ section_text plan.now section most) }
 {
     out.push_str("section ")?;
-    put_named(out, plan, section)?;
+    section.put_name(out, plan)?;
     write!(out, " most {most}\n")
 }
 

@@ -2,10 +2,10 @@
 use Rattle.std.specs.Prelude.{◌≡◌, ℕ, ◌+◌, ◌*◌, ◌-◌, ◌≤◌, List, [], ◌∷◌, ◌++◌, All, length, codes, decimal}
 use Rattle.block_words.specs.declared.Way.{Way}
 use Rattle.block_words.specs.declared.Way.TheVariants.{Up, Down}
-use Rattle.line_plan.specs.Plans.{PlanFields, box_name}
-use Rattle.line_plan.specs.Sections.{advance_of, sections_of}
+use Rattle.line_plan.specs.Plans.{PlanFields}
+use Rattle.line_plan.specs.Sections.{section_name, sections_of}
 use Rattle.line_plan.specs.declared.section.Section.{Section}
-use Rattle.script_text.specs.Names.{position_text, way_text}
+use Rattle.script_text.specs.Names.{position_text}
 use Rattle.script_text.specs.Replies.{spent_text}
 use Rattle.line_watch.specs.declared.sight.Sight.{Sight}
 
@@ -49,11 +49,6 @@ section_number section = number_on section.rear section.way
 
 -- ---- as it is printed
 
--- a section as it is named: its way, its rear box and its box in advance
-unfoldable pub named_text : PlanFields → Section → List ℕ
-named_text plan section =
-    way_text section.way ++ 32 ∷ box_name plan section.rear ++ 32 ∷ box_name plan (advance_of section)
-
 -- what an instrument showed: its turn count, its position and its spent mark
 unfoldable pub shown_text : Sight → List ℕ
 shown_text sight = decimal sight.turns ++ 32 ∷ position_text sight.position ++ 32 ∷ spent_text sight.spent
@@ -61,7 +56,7 @@ shown_text sight = decimal sight.turns ++ 32 ∷ position_text sight.position ++
 -- a sight's line: its round, its section and what the instrument showed
 unfoldable pub sight_text : PlanFields → ℕ → Section → Sight → List ℕ
 sight_text plan round section sight =
-    decimal round ++ 32 ∷ named_text plan section ++ 32 ∷ shown_text sight ++ 10 ∷ []
+    decimal round ++ 32 ∷ section_name plan section ++ 32 ∷ shown_text sight ++ 10 ∷ []
 
 -- a round's lines, one for each section
 abbrev pub round_text : PlanFields → ℕ → List Section → List Sight → List ℕ

@@ -2,52 +2,18 @@
 
 ghost use Rattle.std.specs.Prelude.{◌≡◌, ◌++◌, IfOk, OnOk, All, length, map, string_bytes};
 ghost use Rattle.line_plan.specs.Sections.{IsSection, sections_of};
-ghost use Rattle.script_text.specs.Names.{position_text};
-ghost use Rattle.script_text.specs.Replies.{spent_text};
-ghost use Rattle.line_watch.specs.Boards.{board_text, named_text, round_text, rounds_text, section_count};
+ghost use Rattle.line_watch.specs.Boards.{board_text, round_text, rounds_text, section_count};
 ghost use Rattle.line_watch.specs.Boards.{shown_text, sight_text};
 
 use crate::board::Board;
 use crate::numbers::section_numbered;
 use crate::round::Round;
 use crate::sight::Sight;
-use block_words::Position;
 use line_plan::{Plan, Section};
 use rail_text::NoMemory;
-use script_text::way_word;
+use script_text::{position_word, spent_word};
 use std::alloc::{AllocError, Global};
 use std::fmt::Write;
-
-// A position's word.
-fn position_word(position: Position) -> &'static str
-    ensures { result.now ≡ position_text position }
-{
-    match position {
-        Position::Normal => "normal",
-        Position::LineClear => "line_clear",
-        Position::TrainOnLine => "train_on_line",
-    }
-}
-
-// The word of a spent mark.
-fn spent_word(spent: bool) -> &'static str
-    ensures { result.now ≡ spent_text spent }
-{
-    if spent { "spent" } else { "unspent" }
-}
-
-// A section as it is named.
-#[tactic(auto, unfolding(crate::specs::Boards::named_text))]
-fn put_named(out: &mut String, plan: &Plan, section: Section) -> Result<(), AllocError>
-    requires { IsSection plan.now section }
-    ensures { OnOk result (string_bytes out.new ≡ string_bytes out.old ++ named_text plan.now section) }
-{
-    out.push_str(way_word(section.way))?;
-    out.push_str(" ")?;
-    out.push_str(plan.box_name(section.rear))?;
-    out.push_str(" ")?;
-    out.push_str(plan.box_name(section.advance(plan)))
-}
 
 // What an instrument showed.
 #[tactic(auto, unfolding(crate::specs::Boards::shown_text))]
@@ -75,7 +41,7 @@ fn put_sight(
         ≡ string_bytes out.old ++ sight_text plan.now round section sight) }
 {
     write!(out, "{round} ")?;
-    put_named(out, plan, section)?;
+    section.put_name(out, plan)?;
     out.push_str(" ")?;
     put_shown(out, sight)?;
     out.push_str("\n")

@@ -2,8 +2,7 @@
 use Rattle.std.specs.Prelude.{ℕ, List, [], ◌∷◌, ◌++◌, length, codes, decimal}
 use Rattle.std.specs.List.{flat_map}
 use Rattle.line_plan.specs.Plans.{PlanFields, box_name}
-use Rattle.line_plan.specs.Ways.{way_word}
-use Rattle.line_plan.specs.Sections.{advance_of}
+use Rattle.line_plan.specs.Sections.{section_name}
 use Rattle.line_plan.specs.declared.section.Section.{Section}
 use Rattle.plan_check.specs.declared.finding.Finding.{Finding}
 use Rattle.plan_check.specs.declared.finding.Finding.TheVariants.{RowsClash, LeverWithoutRow, NoBerth, NoStarter}
@@ -11,8 +10,7 @@ use Rattle.plan_check.specs.declared.finding.Finding.TheVariants.{RowsClash, Lev
 -- a section that lacks something: its way, and its boxes from rear to advance
 abbrev pub gap_text : PlanFields → Section → List ℕ → List ℕ
 gap_text plan section lacks =
-    codes "section " ++ way_word section.way ++ 32 ∷ box_name plan section.rear
-    ++ 32 ∷ box_name plan (advance_of section) ++ codes " has no " ++ lacks ++ 10 ∷ []
+    codes "section " ++ section_name plan section ++ codes " has no " ++ lacks ++ 10 ∷ []
 
 -- a box as a finding names it
 unfoldable pub box_text : PlanFields → ℕ → List ℕ

@@ -2,14 +2,12 @@
 
 ghost use Rattle.std.specs.Prelude.{◌≡◌, ◌<◌, ◌++◌, ◌∷◌, All, IfOk, OnErr, OnOk, length, string_bytes};
 ghost use Rattle.std.specs.List.{flat_map};
-ghost use Rattle.line_plan.specs.Plans.{box_name};
-ghost use Rattle.line_plan.specs.Ways.{way_word};
-ghost use Rattle.line_plan.specs.Sections.{IsSection, advance_of};
+ghost use Rattle.line_plan.specs.Sections.{IsSection};
 ghost use Rattle.plan_check.specs.Found.{IsOfPlan};
 ghost use Rattle.plan_check.specs.Texts.{box_text, clash_text, finding_text, findings_text, gap_text, lever_text};
 
 use crate::finding::Finding;
-use line_plan::{Plan, Section, way_word};
+use line_plan::{Plan, Section};
 use rail_text::NoMemory;
 use std::alloc::{AllocError, Global};
 use std::fmt::Write;
@@ -24,27 +22,13 @@ fn put_box(out: &mut String, plan: &Plan, box_no: u32) -> Result<(), AllocError>
     out.push_str(plan.box_name(box_no))
 }
 
-// A section as it is named: its way, its rear box and its box in advance.
-fn put_named(out: &mut String, plan: &Plan, section: Section) -> Result<(), AllocError>
-    requires { IsSection plan.now section }
-    ensures { OnOk result (string_bytes out.new
-        ≡ string_bytes out.old ++ (way_word section.way ++ 32 ∷ box_name plan.now section.rear
-        ++ 32 ∷ box_name plan.now (advance_of section))) }
-{
-    out.push_str(way_word(section.way))?;
-    out.push_str(" ")?;
-    out.push_str(plan.box_name(section.rear))?;
-    out.push_str(" ")?;
-    out.push_str(plan.box_name(section.advance(plan)))
-}
-
 // A section's line, with the word of what it lacks.
 fn put_gap(out: &mut String, plan: &Plan, section: Section, lacks: &str) -> Result<(), AllocError>
     requires { IsSection plan.now section }
     ensures { OnOk result (string_bytes out.new ≡ string_bytes out.old ++ gap_text plan.now section lacks.now) }
 {
     out.push_str("section ")?;
-    put_named(out, plan, section)?;
+    section.put_name(out, plan)?;
     out.push_str(" has no ")?;
     out.push_str(lacks)?;
     out.push_str("\n")

@@ -9,7 +9,7 @@ ghost use Rattle.rehearsal_report.specs.Reports.{IsSentence};
 use bell_codes::CodeNo;
 use line_law::{Act, Entry, Reply};
 use line_plan::Plan;
-use reply_sentences::{Sentence, position_word};
+use reply_sentences::{Sentence, position_name};
 use std::alloc::{AllocError, Global};
 
 // Says a code and what became of it.
@@ -70,7 +70,7 @@ fn say_deed(sentence: &mut Sentence, plan: &Plan, entry: &Entry) -> Result<(), A
         }
         Act::Turn { position, .. } => {
             say_man_and(sentence, plan, box_no, " had turned the instrument to ")?;
-            sentence.say(position_word(position))
+            sentence.say(position_name(position))
         }
         Act::AwaitBlock { .. } => {
             say_man_and(sentence, plan, box_no, " had looked at the instrument")

@@ -11,7 +11,7 @@ use crate::refusals::refusal_sentence;
 use block_words::Way;
 use line_law::{Act, Call, Entry, Reply, starter_way};
 use line_plan::Plan;
-use reply_sentences::{Sentence, position_word};
+use reply_sentences::{Sentence, position_name};
 use std::alloc::{AllocError, Global};
 
 // The box on a side of another, where the line has one.
@@ -169,7 +169,7 @@ fn say_wanted(sentence: &mut Sentence, plan: &Plan, entry: &Entry) -> Result<(),
         Act::AwaitBell { code, .. } => sentence.say_code(plan, " ring ", code),
         Act::AwaitBlock { position, .. } => {
             sentence.say(" turn it to ")?;
-            sentence.say(position_word(position))
+            sentence.say(position_name(position))
         }
         _ => sentence.say(" send it"),
     }

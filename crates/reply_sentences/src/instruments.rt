@@ -3,11 +3,10 @@
 ghost use Rattle.std.specs.Prelude.{◌<◌, IsTrue, OnOk, length};
 ghost use Rattle.script_text.specs.Replies.{is_stand};
 
-use crate::names::position_word;
+use crate::names::position_name;
 use crate::sentence::Sentence;
 use block_words::{Position, Way, WelwynState};
-use line_plan::Plan;
-use script_text::way_word;
+use line_plan::{Plan, way_word};
 use std::alloc::AllocError;
 
 impl Sentence {
@@ -77,7 +76,7 @@ impl Sentence {
         ensures { OnOk result (length self.old < length self.new) }
     {
         self.say("the instrument shows ")?;
-        self.say(position_word(shown))?;
+        self.say(position_name(shown))?;
         self.say_turn(v)
     }
 
@@ -96,7 +95,7 @@ impl Sentence {
         self.say(" is held by the instrument of the ")?;
         self.say(way_word(way))?;
         self.say(" line, which shows ")?;
-        self.say(position_word(shown))?;
+        self.say(position_name(shown))?;
         if spent {
             self.say(", spent by an earlier pull")?;
         }

@@ -9,6 +9,6 @@ mod names;
 mod sentence;
 mod told;
 
-pub use names::position_word;
+pub use names::position_name;
 pub use sentence::Sentence;
 pub use told::{put_sentence, sentence_of};

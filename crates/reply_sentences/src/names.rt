@@ -1,10 +1,11 @@
 //! The names of things of a plan, said in a sentence.
 
-ghost use Rattle.std.specs.Prelude.{◌+◌, ◌≤◌, ◌<◌, IsTrue, OnOk, length};
+ghost use Rattle.std.specs.Prelude.{◌≡◌, ◌+◌, ◌≤◌, ◌<◌, IsTrue, OnOk, length};
 ghost use Rattle.line_law.specs.Known.{is_code_no};
 ghost use Rattle.line_plan.specs.Plans.{is_train};
 ghost use Rattle.script_text.specs.Moments.{hundred_hours};
 ghost use Rattle.script_text.specs.Replies.{is_place, is_row, is_stand};
+ghost use Rattle.reply_sentences.specs.Names.{position_name};
 
 use crate::sentence::Sentence;
 use bell_codes::CodeNo;
@@ -14,8 +15,10 @@ use locking_table::{Row, put_row};
 use script_text::put_moment;
 use std::alloc::{AllocError, Global};
 
-/// The railway's word for a position.
-pub fn position_word(position: Position) -> &'static str {
+/// A position as the railway names it.
+pub fn position_name(position: Position) -> &'static str
+    ensures { result.now ≡ position_name position }
+{
     match position {
         Position::Normal => "Normal",
         Position::LineClear => "Line Clear",
