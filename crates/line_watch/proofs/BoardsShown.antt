@@ -22,15 +22,18 @@ use Rattle.line_watch.proofs.Marks.{Follows}
 use Rattle.line_watch.proofs.SectionNumbers.{listed_section}
 use Rattle.line_watch.proofs.Traces.{SameParts, right_in_other, same_whole}
 
+-- what begins a beginning begins the whole
 pub prefix_on : (xs ys zs : List Entry) → IsPrefix xs ys → IsPrefix ys zs → IsPrefix xs zs
 prefix_on xs ys zs a b =
     (a.0 ++ b.0, sym (append_assoc xs a.0 b.0) ∙ (ap (λ (l : List Entry). l ++ b.0) a.1 ∙ b.1))
 
+-- a history begins itself
 pub begins_itself : (xs : List Entry) → IsPrefix xs xs
 begins_itself xs = ([], append-nil xs)
 
 -- ---- one look of a round
 
+-- the history before looks in turn begins that after them
 pub looks_begin : (plan : PlanFields) (sections : List Section) (sights : List Sight) (before after : List Entry)
     → LooksInTurn plan sections sights before after → IsPrefix before after
 looks_begin plan [] [] before after h = ([], append-nil before ∙ h)
@@ -172,6 +175,7 @@ no_earlier plan log other before after first next section sight shown is legal l
 
 -- ---- the board
 
+-- rounds of looks at a line show what any legal history with the same parts shows
 pub board_of : (plan : PlanFields) (log other before : List Entry) (rounds : List (List Sight)) (last : List Sight)
     → IsPlan plan → IsLegal plan log → IsLegal plan other → SameParts log other
     → RoundsInTurn plan (rounds ++ last ∷ []) before log → LooksInTurn plan (sections_of plan) last log log

@@ -43,6 +43,7 @@ shorter_begins (x ∷ xs) (y ∷ ys) (z ∷ zs) p q h =
     let t : xs ++ r.0 ≡ ys = r.1 in
     (r.0, (cc))
 
+-- a beginning is no longer than the whole
 pub longer_than : (xs ys : List Entry) → IsPrefix xs ys → length xs ≤ length ys
 longer_than xs ys p =
     let l = length-append xs p.0 in
@@ -95,6 +96,7 @@ right_or_not plan log section sight =
       | inr differ ↦ inr (λ h. differ h.turns)
     ]
 
+-- a sight is right wherever the instrument is the same
 pub right_there : (plan : PlanFields) (xs ys : List Entry) (section : Section) (sight : Sight)
     → instrument_after plan xs section ≡ instrument_after plan ys section → IsRightAfter plan xs section sight
     → IsRightAfter plan ys section sight
@@ -147,12 +149,14 @@ look_on plan log before section sight done (x ∷ rest) e none begins right =
           omega arith)) begins right
     ]
 
+-- where a sight is right after some beginning, there is a shortest one
 pub first_right : (plan : PlanFields) (log before : List Entry) (section : Section) (sight : Sight) → IsPlan plan
     → IsLegal plan log → IsPrefix before log → IsRightAfter plan before section sight
     → (first : List Entry) × IsFirstRight plan log section sight first × IsPrefix first before
 first_right plan log before section sight is legal begins right =
     look_on plan log before section sight [] log refl (λ other p h. omega arith) begins right
 
+-- there is one shortest beginning alone
 pub one_first : (plan : PlanFields) (log first other : List Entry) (section : Section) (sight : Sight)
     → IsFirstRight plan log section sight first → IsFirstRight plan log section sight other → first ≡ other
 one_first plan log first other section sight h g =

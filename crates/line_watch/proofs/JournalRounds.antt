@@ -157,12 +157,14 @@ stands plan es i d e legal lt at =
     legal) in
     (record { known = d.0.known; told = ap (λ (x : Entry). x.reply) d.1 }, next)
 
+-- an entry of a legal history is of a box of the line
 pub box_there : (plan : PlanFields) (es : List Entry) (i : ℕ) (d : Entry) → IsLegal plan es → i < length es
     → (get_or es i d).box_no < length plan.boxes
 box_there plan es i d legal lt =
     let e = get_or es i d in
     known_box plan e.box_no e.call (stands plan es i d e legal lt refl).0.known
 
+-- the section that an entry tells of has its sight in the round
 pub number_there : (plan : PlanFields) (es : List Entry) (i : ℕ) (d : Entry) (before : List Entry) (round : List Sight)
     → IsPlan plan → IsLegal plan es → i < length es → IsRoundAfter plan before round
     → number_told plan (get_or es i d) < length round
@@ -238,6 +240,7 @@ unfolding opening_state
 opens plan pair Up = ap (λ (p : PairState). p.blocks.up) (all_one (length plan.boxes - 1) pair opening_pair)
 opens plan pair Down = ap (λ (p : PairState). p.blocks.down) (all_one (length plan.boxes - 1) pair opening_pair)
 
+-- a round of first sights is right before all entries
 pub round_opens : (plan : PlanFields) (boxes : ℕ) → boxes ≡ length plan.boxes
     → IsRoundAfter plan [] (replicate (section_count boxes) first_sight)
 round_opens plan boxes e = record {
@@ -254,6 +257,7 @@ round_opens plan boxes e = record {
       }));
 }
 
+-- an entry that tells nothing of an instrument leaves the round right
 pub round_stays : (plan : PlanFields) (es : List Entry) (i : ℕ) (d e : Entry) (round : List Sight) → IsPlan plan
     → IsLegal plan es → i < length es → get_or es i d ≡ e → sight_told e.call.act e.reply ≡ None
     → IsRoundAfter plan (take i es) round → IsRoundAfter plan (take (i + 1) es) round
@@ -268,6 +272,7 @@ round_stays plan es i d e round is legal lt at tells h =
           (stays_or_told plan (take i es) e k is s.0 within);
     })
 
+-- one that does leaves it right with the sight that it tells
 pub round_told : (plan : PlanFields) (es : List Entry) (i : ℕ) (d e : Entry) (sight : Sight) (round : List Sight)
     → IsPlan plan → IsLegal plan es → i < length es → get_or es i d ≡ e
     → sight_told e.call.act e.reply ≡ Some sight → IsRoundAfter plan (take i es) round
@@ -310,6 +315,7 @@ round_told plan es i d e sight round is legal lt at tells h =
         (sym same) (h.right k within))
         (λ t. absurd (ne t.0)) (stays_or_told plan (take i es) e k is s.0 within))
 
+-- a round that is right after all entries is right after the journal
 pub round_whole : (plan : PlanFields) (es : List Entry) (i : ℕ) (round : List Sight) → length es ≤ i
     → IsRoundAfter plan (take i es) round → IsRoundAfter plan es round
 round_whole plan es i round h r = subst (λ (l : List Entry). IsRoundAfter plan l round) (take_all i es h) r
@@ -331,6 +337,7 @@ same_first plan log first next section sight shown h g f n = f.shortest next n.b
   spent = h.spent ∙ (sym g.spent ∙ n.right.spent);
 })
 
+-- a board of rounds that are each right after a journal is one of it
 pub board_stands : (plan : PlanFields) (log : List Entry) (rounds : List (List Sight))
     → All (λ (round : List Sight). IsRoundAfter plan log round) rounds → IsBoardOf plan log rounds
 board_stands plan log rounds all = record {
@@ -346,6 +353,7 @@ board_stands plan log rounds all = record {
 abbrev AllOf : List Sight → List RoundFields → Type 0
 AllOf sights rounds = All (λ (round : RoundFields). round.sights ≡ sights) rounds
 
+-- such rounds have a sight of each section
 pub all_full : (plan : PlanFields) (boxes : ℕ) (log : List Entry) (sights : List Sight) (rounds : List RoundFields)
     → boxes ≡ length plan.boxes → IsRoundAfter plan log sights → AllOf sights rounds
     → All (λ (round : RoundFields). length round.sights ≡ section_count boxes) rounds

@@ -170,6 +170,7 @@ same_between a b c h g alike =
     let spent : one_if a.spent ≡ one_if c.spent = ap one_if alike.spent in
     sym (h.same (omega (arith, h.rises, g.rises, turns, spent)))
 
+-- an instrument that is marked as it was has not changed between
 pub never_back : (plan : PlanFields) (es more later : List Entry) (section : Section) → IsPlan plan
     → IsLegal plan (es ++ (more ++ later))
     → AreMarkedAlike (instrument_after plan es section) (instrument_after plan (es ++ (more ++ later)) section)

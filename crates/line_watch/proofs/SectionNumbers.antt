@@ -24,6 +24,7 @@ down_listed b (suc pairs) (suc (suc n)) (suc k) d e h =
     down_listed (b + 1) pairs n k d (omega (arith, e)) (omega (arith, h))
     ∙ ap (λ (m : ℕ). record { rear = m; way = Down }) (omega arith)
 
+-- the sections with odd numbers are those of the up line
 pub up_listed : (b pairs n k : ℕ) (d : Section) → n ≡ 2 * k + 1 → k < pairs
     → get_or (sections_from b pairs) n d ≡ record { rear = b + k + 1; way = Up }
 up_listed b zero n k d e h = absurd (omega arith)
@@ -34,10 +35,12 @@ up_listed b (suc pairs) (suc (suc n)) (suc k) d e h =
     up_listed (b + 1) pairs n k d (omega (arith, e)) (omega (arith, h))
     ∙ ap (λ (m : ℕ). record { rear = m; way = Up }) (omega arith)
 
+-- each pair of neighbours has two sections
 pub sections_counted : (b pairs : ℕ) → length (sections_from b pairs) ≡ 2 * pairs
 sections_counted b zero = refl
 sections_counted b (suc pairs) = let l = sections_counted (b + 1) pairs in omega (arith, l)
 
+-- a section stands under its number
 pub number_listed : (boxes : ℕ) (section : Section) (way : Way) → section.way ≡ way
     → IsTrue (leaves boxes section.rear way) → (d : Section)
     → get_or (sections_from 0 (boxes - 1)) (number_on section.rear way) d ≡ section
@@ -70,6 +73,7 @@ up_leaves n b low high =
     let c : nat_lt b n ≡ true = grind (arith, nat_tests) in
     rw (a, c) refl
 
+-- a number is even or odd
 pub even_or_odd : (k : ℕ) → (k ≡ 2 * (k / 2)) ⊎ (k ≡ 2 * (k / 2) + 1)
 even_or_odd k = ⊎_elim (λ (t : ((k == 2 * (k / 2)) ≡ true) × (k ≡ 2 * (k / 2))). inl t.1)
     (λ (t : ((k == 2 * (k / 2)) ≡ false) × (k ≢ 2 * (k / 2))). inr (let ne = t.1 in omega arith))

@@ -135,6 +135,7 @@ abbrev StaysOrShows : PlanFields → LineState → Entry → Way → ℕ → Pai
 StaysOrShows plan state e w q pair =
     (of_way pair.blocks w ≡ block_in state q w) ⊎ ShowsAt plan e q w (of_way pair.blocks w)
 
+-- a call leaves an instrument as it is, or its entry tells what it shows
 pub step_shows : (plan : PlanFields) (state : LineState) (e : Entry) (q : ℕ) (w : Way) → IsPlan plan
     → IsStateOf plan state → KnowsCall plan e.box_no e.call → e.reply ≡ (step plan state e.box_no e.call).reply
     → (block_in (after_entry plan state e) q w ≡ block_in state q w)
@@ -151,6 +152,7 @@ step_shows plan state e q w is shape known told =
     (sym (pairs_after plan state e told))
     (pair_written (λ k x. StaysOrShows plan state e w k x) state.pairs p _ q there own (inl refl))
 
+-- what an entry tells of an instrument is what it shows
 pub step_back : (plan : PlanFields) (state : LineState) (e : Entry) (q : ℕ) (w : Way) (shown : Block)
     → e.reply ≡ (step plan state e.box_no e.call).reply → q < length state.pairs → ShowsAt plan e q w shown
     → block_in (after_entry plan state e) q w ≡ shown
@@ -283,6 +285,7 @@ shown_there plan log other before section is at legal legal' parts begins =
     w : Way
     w = section.way
 
+-- a sight that is right in a history is right in any other with the same parts
 pub right_in_other : (plan : PlanFields) (log other before : List Entry) (section : Section) (sight : Sight)
     → IsPlan plan → IsSection plan section → IsLegal plan log → IsLegal plan other → SameParts log other
     → IsPrefix before log → IsRightAfter plan before section sight

@@ -538,6 +538,7 @@ clash_found plan b first second lever is h =
     (subst (λ (n : ℕ). Contains (clashes_from b 1 rows)
     (RowsClash b n (1 + (second - 1)) (row_at (box_at plan.boxes b) first).subject)) number found))))
 
+-- two rows are found to clash exactly where they do
 pub clash_exactly : (plan : PlanFields) (b first second lever : ℕ) → IsPlan plan
     → (Contains (findings_of plan) (RowsClash b first second lever) ↔ RowsClashAt plan b first second lever)
 clash_exactly plan b first second lever is =
@@ -601,6 +602,7 @@ lever_found plan b lever h =
     (in_levers b here_box.rows here_box.levers (record { number = lever; kind = h.kind }) h.there
     (not_works h.kind h.works) h.row))
 
+-- a lever is found to have no row exactly where it has none
 pub lever_exactly : (plan : PlanFields) (b lever : ℕ)
     → (Contains (findings_of plan) (LeverWithoutRow b lever) ↔ HasNoRow plan b lever)
 lever_exactly plan b lever = (lever_told plan b lever, lever_found plan b lever)
@@ -657,6 +659,7 @@ starter_told plan section h = elim (is_in plan (NoStarter section) h).is [
   | inr at ↦ no_starter_at plan section (section_kind plan (NoStarter section) at)
 ]
 
+-- a section is found to have no berth exactly where it lacks one
 pub no_berth_exactly : (plan : PlanFields) (section : Section)
     → (Contains (findings_of plan) (NoBerth section) ↔ LacksBerth plan section)
 no_berth_exactly plan section = (
@@ -665,6 +668,7 @@ no_berth_exactly plan section = (
       (in_no_berth section (section_starter plan section) (section_berth plan section) h.starter h.berth),
 )
 
+-- a section is found to have no starter exactly where it lacks one
 pub no_starter_exactly : (plan : PlanFields) (section : Section)
     → (Contains (findings_of plan) (NoStarter section) ↔ LacksStarter plan section)
 no_starter_exactly plan section = (

@@ -349,6 +349,7 @@ one_broken ReleasedBy LocksNormal AtReversed h p q = cc
 at_mid : (xs : List End) (subject lever : ℕ) → lever ≡ subject → stand_of xs subject AtMid lever ≡ AtMid
 at_mid xs subject lever e = let test : eqb lever subject ≡ true = same_test lever subject e in rw test refl
 
+-- two rows that are found to clash do
 pub meets_clash : (levers : ℕ) (first second : Row) → IsTrue (do_clash first second) → Clash levers first second
 meets_clash levers first second h =
     let m = meets first second h in
@@ -362,6 +363,7 @@ meets_clash levers first second h =
           (holds_plain places second m.other (at_mid xs first.subject second.subject (sym m.subject)) both.1));
     }
 
+-- two rows of a table are found to clash exactly where they do
 pub clashes_exactly : (levers : ℕ) (first second : Row) → IsRow first → IsRow second → RowFits levers first
     → RowFits levers second → (IsTrue (do_clash first second) ↔ Clash levers first second)
 clashes_exactly levers first second spelled other fits too =

@@ -67,9 +67,11 @@ gap_there plan section (Some starter) None is =
     All-cons (IsOfPlan plan) (NoBerth section) [] is (All-nil (IsOfPlan plan))
 gap_there plan section (Some starter) (Some berth) is = All-nil (IsOfPlan plan)
 
+-- a box with another behind it has a section of the down line
 pub down_is : (plan : PlanFields) (b : ℕ) → b + 1 < length plan.boxes → IsSection plan (record { rear = b; way = Down })
 down_is plan b lt = grind (arith, nat_tests)
 
+-- and the other has one of the up line
 pub up_is : (plan : PlanFields) (b : ℕ) → b + 1 < length plan.boxes → IsSection plan (record { rear = b + 1; way = Up })
 up_is plan b lt = grind (arith, nat_tests)
 

@@ -63,6 +63,7 @@ box_first : (plan : PlanFields) (es : List Entry) (b : ℕ) → b < length plan.
 box_first plan es b within Up = side_first plan es b Up within
 box_first plan es b within Down = side_first plan es b Down within
 
+-- before the first entry each box has its opening marks
 pub marks_first : (plan : PlanFields) (es : List Entry)
     → AllMarks plan es 0 (replicate (length plan.boxes) opening_marks)
 marks_first plan es = record {
@@ -115,6 +116,7 @@ marks_of_other plan es i e b marks h other has side =
     ∙ other_box plan (state_of plan (take i es)) e.box_no b e.call (λ f. other (sym f)))
     (has side)
 
+-- an entry changes the marks of its own box alone, by what was done
 pub marks_more : (plan : PlanFields) (es : List Entry) (i : ℕ) (e : Entry) (marks : List (ByWay SideMarks))
     → IsEntryAt plan es i e → AllMarks plan es i marks → AllMarks plan es (i + 1) (marks_then plan e marks)
 marks_more plan es i e marks h all =

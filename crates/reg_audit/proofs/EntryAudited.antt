@@ -36,6 +36,7 @@ pub record IsAtHand (plan : PlanFields) (state : LineState) (e : Entry) (marks :
   pub here_is : here ≡ marks_at marks e.box_no
   pub held_is : held ≡ held_beside plan (after_entry plan state e) e.box_no (deed_of plan e)
 
+-- what an auditor looks up for an entry is what he needs of it
 pub at_hand : (plan : PlanFields) (state : LineState) (e : Entry) (marks : List (ByWay SideMarks)) (deed : Deed)
     (here : ByWay SideMarks) (held : ℕ) → e.box_no < length marks → deed ≡ deed_of plan e
     → here ≡ get_or marks e.box_no here
@@ -72,6 +73,7 @@ at_entry plan state k e marks deed here held hand =
 
 -- ---- the audit after it
 
+-- an auditor who has audited the entries so far has audited one more
 pub audited_on : (plan : PlanFields) (es : List Entry) (e : Entry) (old : AuditorFields) (deed : Deed)
     (here after : ByWay SideMarks) (held : ℕ) (trains : List (ByWay HeldTrains)) (found : List Breach)
     → HasAudited plan es old → IsAtHand plan (state_of plan es) e old.marks deed here held

@@ -62,6 +62,7 @@ comes_next plan es old new auditor e is hears audited legal few =
       few = omega (arith, few, count, length-append es (e ∷ []));
     }
 
+-- while what is heard is legal, the auditor has audited all that was heard
 pub has_audited : (plan : PlanFields) (es : List Entry) (old new : JudgeFields) (auditor : AuditorFields) (e : Entry)
     → HearsEntry old new e → IsAuditing plan es old auditor → new.verdict ≡ Legal → HasAudited plan es auditor
 has_audited plan es old new auditor e hears audited legal =

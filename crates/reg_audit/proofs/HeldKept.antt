@@ -52,6 +52,7 @@ none_way : (trains : ByWay HeldTrains) (way : Way) → trains ≡ no_trains → 
 none_way trains Up e = ap (λ (t : ByWay HeldTrains). t.up.now) e
 none_way trains Down e = ap (λ (t : ByWay HeldTrains). t.down.now) e
 
+-- the sections of a line that opens hold no trains
 pub held_first : (plan : PlanFields) (n : ℕ) (trains : List (ByWay HeldTrains))
     → n + 1 ≡ length plan.boxes → trains ≡ replicate n no_trains → AreHeld plan (opening_state plan) 0 trains
 held_first plan n trains pairs none =

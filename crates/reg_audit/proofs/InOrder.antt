@@ -25,6 +25,7 @@ contains_cases : {X : Type 0} (y x : X) (xs : List X) → Contains (y ∷ xs) x 
 contains_cases y x xs (zero, lt, is) = inl is
 contains_cases y x xs (suc k, lt, is) = inr (k, omega (arith, lt), is)
 
+-- nothing is among none
 pub contains_none : {X : Type 0} (x : X) → ¬ Contains [] x
 contains_none x h = let lt = h.1 in omega (arith, lt)
 
@@ -101,6 +102,7 @@ all_by k broken = All-map (IsBy k broken) (breach_by k) (filter broken all_rules
     (All-weaker (λ rule. broken rule ≡ true) (λ rule. IsBy k broken (breach_by k rule)) (λ rule is. (refl, is))
     (filter broken all_rules) (filter_passes broken all_rules))
 
+-- the breaches by an entry are those of the rules that it breaks
 pub entry_breaches : (k : ℕ) (broken : Rule → Bool) (breach : Breach)
     → (Contains (by_entry k broken) breach ↔ (breach.entry ≡ k) × (broken breach.rule ≡ true))
 entry_breaches k broken breach = (
@@ -118,6 +120,7 @@ pairs_mapped R f xs none pairs i j d less lt =
     let second = get_or-map f xs j none d within in
     rw first (rw second (pairs i j none less within))
 
+-- they stand in order
 pub entry_order : (k : ℕ) (broken : Rule → Bool) → AllPairs ComesBefore (by_entry k broken)
 entry_order k broken =
     pairs_mapped ComesBefore (breach_by k) (filter broken all_rules) rules.Offer
@@ -131,6 +134,7 @@ pairs_head R x xs pairs k d lt = pairs 0 (suc k) d (omega arith) (omega (arith, 
 pairs_tail : {X : Type 0} (R : X → X → Type 0) (x : X) (xs : List X) → AllPairs R (x ∷ xs) → AllPairs R xs
 pairs_tail R x xs pairs i j d less lt = pairs (suc i) (suc j) d (omega (arith, less)) (omega (arith, lt))
 
+-- two lists in order, the first of which comes before the other, are in order together
 pub pairs_both : {X : Type 0} (R : X → X → Type 0) (xs ys : List X) → AllPairs R xs → AllPairs R ys
     → All (λ x. All (R x) ys) xs → AllPairs R (xs ++ ys)
 pairs_both R [] ys p q across = q

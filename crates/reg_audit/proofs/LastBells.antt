@@ -26,6 +26,7 @@ done_there plan es b kind i e at h =
       subst (λ (x : Entry). kind (deed_of plan x)) same h.done,
     )
 
+-- what an entry does is done at its place
 pub done_here : (plan : PlanFields) (es : List Entry) (kind : Deed → Type 0) (i : ℕ) (e : Entry)
     → slice_get es i ≡ Some e → kind (deed_of plan e) → HasDone plan es e.box_no kind i
 done_here plan es kind i e at done = record { entry = e; at = at; box_no = refl; done = done }
@@ -67,6 +68,7 @@ code_same code = elim (eqb_tells code code) [ inl same ↦ same.0 | inr differ �
 bell_same : (one : BellEntry) → same_bell one one ≡ true
 bell_same one = rw (kind_same one.kind) (code_same one.code)
 
+-- the test of a bell entry tells whether it is that one
 pub bell_tells : (one : Option BellEntry) (bell : BellEntry) → (is_bell one bell ≡ true ↔ one ≡ Some bell)
 bell_tells None bell = (λ e. absurd cc, λ e. absurd cc)
 bell_tells (Some one) bell = (
@@ -84,6 +86,7 @@ IsBellAt plan es b side i bell = (x : BellEntry) → (bell ≡ Some x ↔ IsBell
 abbrev pub IsLastBefore : PlanFields → List Entry → ℕ → Way → ℕ → Option BellEntry → Type 0
 IsLastBefore plan es b side i last = (x : BellEntry) → (last ≡ Some x ↔ IsLastBell plan es b side x i)
 
+-- an entry of the box is the bell entry that it tells of
 pub bell_here : (plan : PlanFields) (es : List Entry) (side : Way) (i : ℕ) (e : Entry) → slice_get es i ≡ Some e
     → IsBellAt plan es e.box_no side i (bell_on side (deed_of plan e))
 bell_here plan es side i e at x = (
@@ -91,6 +94,7 @@ bell_here plan es side i e at x = (
   λ h. (done_there plan es e.box_no (λ deed. bell_on side deed ≡ Some x) i e at h).1,
 )
 
+-- an entry of another box is no bell entry of this one
 pub bell_elsewhere : (plan : PlanFields) (es : List Entry) (b : ℕ) (side : Way) (i : ℕ) (e : Entry)
     → slice_get es i ≡ Some e → e.box_no ≢ b → IsBellAt plan es b side i None
 bell_elsewhere plan es b side i e at other x =
@@ -153,11 +157,13 @@ last_more plan es b side i (Some bell) last here before x = (
   ],
 )
 
+-- before the first entry there was no bell entry
 pub last_none : (plan : PlanFields) (es : List Entry) (b : ℕ) (side : Way) → IsLastBefore plan es b side 0 None
 last_none plan es b side x = (λ f. absurd cc, λ h. absurd (let e = h.earlier in omega (arith, e)))
 
 -- ---- which one is no answer
 
+-- an unprompted bell entry is found by the last one before it
 pub unprompted_is : (plan : PlanFields) (es : List Entry) (b : ℕ) (side : Way) (i : ℕ) (bell last : Option BellEntry)
     → IsBellAt plan es b side i bell → IsLastBefore plan es b side i last → (x : BellEntry)
     → (unprompted last bell ≡ Some x ↔ IsUnprompted plan es b side x i)

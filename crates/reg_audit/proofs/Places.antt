@@ -21,6 +21,7 @@ pub record IsEntryAt (plan : PlanFields) (es : List Entry) (i : ℕ) (e : Entry)
   pub box_no : e.box_no < length plan.boxes
   pub shape : IsStateOf plan (state_of plan (take i es))
 
+-- an entry of a legal history stands at its place
 pub entry_at : (plan : PlanFields) (es : List Entry) (i : ℕ) (d : Entry) → IsLegal plan es → i < length es
     → IsEntryAt plan es i (get_or es i d)
 entry_at plan es i d legal within =
@@ -51,6 +52,7 @@ pub record IsNext (plan : PlanFields) (es : List Entry) (e : Entry) : Type 0 whe
   pub told : e.reply ≡ (step plan (state_of plan es) e.box_no e.call).reply
   pub box_no : e.box_no < length plan.boxes
 
+-- the last entry of a legal history is the next one of those before it
 pub is_next : (plan : PlanFields) (es : List Entry) (e : Entry) → IsLegal plan (es ++ e ∷ []) → IsNext plan es e
 is_next plan es e legal =
     let found = entry_determined plan es [] e legal in

@@ -321,6 +321,7 @@ release_tells : (deed : Deed) → (is_release deed ≡ true ↔ deed ≡ deeds.R
 release_tells deeds.Released = (λ f. refl, λ f. refl)
 release_tells deed = (λ f. absurd cc, λ f. absurd cc)
 
+-- the test of a rule tells whether the entry breaks it
 pub rule_tells : (plan : PlanFields) (es : List Entry) (i : ℕ) (e : Entry) (marks : ByWay SideMarks) (held : ℕ)
     (rule : Rule) → slice_get es i ≡ Some e → HasMarks plan es e.box_no i marks
     → held ≡ held_beside plan (state_of plan (take (i + 1) es)) e.box_no (deed_of plan e)

@@ -37,6 +37,7 @@ neither false false e f = refl
 neither true other e f = absurd (true≢false e)
 neither false true e f = absurd (true≢false f)
 
+-- no rules are broken by a deed but those that are tested on it
 pub only_these : (plan : PlanFields) (marks : ByWay SideMarks) (held : ℕ) (deed : Deed)
     → filter (is_broken plan marks held deed) (rules_on deed) ≡ filter (is_broken plan marks held deed) all_rules
 only_these plan marks held (deeds.Rang side code) = refl

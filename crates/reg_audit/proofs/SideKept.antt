@@ -59,12 +59,14 @@ positions_same shows.TrainOnLine shows.Normal e = absurd cc
 positions_same shows.TrainOnLine shows.LineClear e = absurd cc
 positions_same shows.TrainOnLine shows.TrainOnLine e = refl
 
+-- the test of two positions tells whether they are the same
 pub position_tells : (one other : Position) → (same_position one other ≡ true ↔ one ≡ other)
 position_tells one other = (
   λ e. positions_same one other e,
   λ e. subst (λ (p : Position). same_position one p ≡ true) e (position_itself one),
 )
 
+-- where two tests hold together, each does
 pub both_true : (a b : Bool) → (a && b) ≡ true → (a ≡ true) × (b ≡ true)
 both_true true true e = (refl, refl)
 both_true true false e = absurd cc
@@ -91,6 +93,7 @@ clear_itself : (way : Way) → gives_clear way (deeds.Turned way shows.LineClear
 clear_itself Up = refl
 clear_itself Down = refl
 
+-- the test of a deed tells whether it gives Line Clear
 pub clear_tells : (way : Way) (deed : Deed) → (gives_clear way deed ≡ true ↔ deed ≡ deeds.Turned way shows.LineClear)
 clear_tells way deed = (
   λ e. clear_is way deed e,
@@ -123,6 +126,7 @@ kind_itself kinds.Heard = refl
 abbrev entry_of_kind : ℕ → BellKind → BellEntry
 entry_of_kind code kind = record { kind = kind; code = code }
 
+-- a bell entry that is tested to be of a class is of it
 pub of_class : (plan : PlanFields) (kind : BellKind) (bell : Option BellEntry) → is_of_class plan kind bell ≡ true
     → IsOfClass plan kind bell
 of_class plan kind None e = absurd cc
@@ -134,6 +138,7 @@ of_class plan kind (Some bell) e =
       is = ap (λ (k : BellKind). Some (entry_of_kind bell.code k)) (kinds_same bell.kind kind parts.0);
     }
 
+-- and one that is of it is tested so
 pub class_of : (plan : PlanFields) (kind : BellKind) (bell : Option BellEntry) → IsOfClass plan kind bell
     → is_of_class plan kind bell ≡ true
 class_of plan kind bell h =

@@ -47,6 +47,7 @@ since_back mark such i false before such_is before_is h = elim (cases_lt h.there
       absurd (let f = such_is.1 (subst such same h.is) in cc)
 ]
 
+-- whether such a thing was done since the mark, after one entry more
 pub since_more : (mark such : ℕ → Type 0) (i : ℕ) (m s before : Bool) → (m ≡ true ↔ mark i) → (s ≡ true ↔ such i)
     → (before ≡ true ↔ HasSince mark such i) → (since_after m s before ≡ true ↔ HasSince mark such (i + 1))
 since_more mark such i true s before mark_is such_is before_is = (

@@ -32,6 +32,7 @@ parts_printable plan es registers parts spelled =
       spelled = rw (parts.entries b in_line) (All-filter (λ (e : Entry). e.box_no == b) (IsSpelled plan) es spelled);
     })
 
+-- registers that are filled by entries of a line can be printed
 pub filled_printable : (plan : PlanFields) (es : List Entry) (registers : List RegisterFields)
     → length registers ≡ length plan.boxes → AreFilling es [] registers → All (IsSpelled plan) es
     → All (IsPrintable plan) registers
@@ -50,6 +51,7 @@ same_texts f g first (register ∷ registers) same =
     (λ b lt. let moved : first + suc b ≡ first + 1 + b = omega arith in same (suc b) (omega arith) ∙ ap g moved) in
     ap (λ (t : List ℕ). t ++ flat_map f registers) head ∙ ap (λ (t : List ℕ). g first ++ t) rest
 
+-- the registers that are the parts of a journal are printed as the parts are
 pub parts_text : (plan : PlanFields) (es : List Entry) (registers : List RegisterFields) → AreParts plan es registers
     → flat_map (λ register. register_text plan register.box_no register.entries) registers ≡ registers_text plan es
 unfolding registers_text

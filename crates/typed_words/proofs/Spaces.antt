@@ -9,6 +9,7 @@ use Rattle.typed_words.specs.Lines.{spaced_word}
 some_is : (n : ℕ) → nat_eq (suc n) 0 ≡ false
 some_is n = grind (arith, nat_tests)
 
+-- an empty word is one of no bytes
 pub empty_is : (word : List ℕ) → is_empty_word word ≡ nat_eq (length word) 0
 empty_is [] = refl
 empty_is (b ∷ bs) = sym (some_is (length bs))

@@ -254,6 +254,7 @@ known kind at typed word u = go (bytes_eq word typed) refl where
       (among_fits kind typed word word_rows u.begins_so u.stands) differs
       (λ other h. let k = fits_among kind typed other word_rows h in u.only other k.1 k.0 differs)
 
+-- a typed word is taken in full exactly where it is understood so
 pub understood_is : (kind : WordKind) (at : ℕ) (typed word : List ℕ)
     → (word_in_full (Some kind) at typed ≡ Ok word) ↔ IsUnderstood kind typed word
 understood_is kind at typed word = (understood kind at typed word, known kind at typed word)
