@@ -397,7 +397,7 @@ all_acts plan b a w rest =
 
       hear : w ≡ codes "hear" → TellsAct plan b a w rest names.Hear
       hear =
-          one_act plan b w _ rest _ way_word (λ side. acts.Hear side) _ (λ x. refl) (λ x. refl) (one_side_is plan b a w rest)
+          one_act plan b w _ rest _ way_word acts.Hear _ (λ x. refl) (λ x. refl) (one_side_is plan b a w rest)
 
       await_bell : w ≡ codes "await_bell" → TellsAct plan b a w rest names.AwaitBell
       await_bell =
@@ -434,27 +434,27 @@ all_acts plan b a w rest =
 
       await_train : w ≡ codes "await_train" → TellsAct plan b a w rest (names.Line lines.AwaitTrain)
       await_train =
-          one_act plan b w _ rest _ way_word (λ way. acts.AwaitTrain way) _ (λ x. refl) (λ x. refl) (one_berth_is plan b a w rest)
+          one_act plan b w _ rest _ way_word acts.AwaitTrain _ (λ x. refl) (λ x. refl) (one_berth_is plan b a w rest)
 
       berth : w ≡ codes "berth" → TellsAct plan b a w rest (names.Line lines.Berth)
       berth =
-          one_act plan b w _ rest _ way_word (λ way. acts.Berth way) _ (λ x. refl) (λ x. refl) (one_berth_is plan b a w rest)
+          one_act plan b w _ rest _ way_word acts.Berth _ (λ x. refl) (λ x. refl) (one_berth_is plan b a w rest)
 
       berth_part : w ≡ codes "berth_part" → TellsAct plan b a w rest (names.Line lines.BerthPart)
       berth_part =
-          one_act plan b w _ rest _ way_word (λ way. acts.BerthPart way) _ (λ x. refl) (λ x. refl) (one_berth_is plan b a w rest)
+          one_act plan b w _ rest _ way_word acts.BerthPart _ (λ x. refl) (λ x. refl) (one_berth_is plan b a w rest)
 
       clear_portion : w ≡ codes "clear_portion" → TellsAct plan b a w rest (names.Line lines.ClearPortion)
       clear_portion =
-          one_act plan b w _ rest _ way_word (λ way. acts.ClearPortion way) _ (λ x. refl) (λ x. refl) (one_berth_is plan b a w rest)
+          one_act plan b w _ rest _ way_word acts.ClearPortion _ (λ x. refl) (λ x. refl) (one_berth_is plan b a w rest)
 
       wind : w ≡ codes "wind" → TellsAct plan b a w rest (names.Line lines.Wind)
       wind =
-          one_act plan b w _ rest _ way_word (λ way. acts.Wind way) _ (λ x. refl) (λ x. refl) (one_berth_is plan b a w rest)
+          one_act plan b w _ rest _ way_word acts.Wind _ (λ x. refl) (λ x. refl) (one_berth_is plan b a w rest)
 
       release : w ≡ codes "release" → TellsAct plan b a w rest (names.Line lines.Release)
       release =
-          one_act plan b w _ rest _ way_word (λ way. acts.Release way) _ (λ x. refl) (λ x. refl) (one_berth_is plan b a w rest)
+          one_act plan b w _ rest _ way_word acts.Release _ (λ x. refl) (λ x. refl) (one_berth_is plan b a w rest)
 
 act_of_is : (plan : PlanFields) (b : ℕ) (a : List ℕ) (rest : List (List ℕ))
     → OfOk (IsAct plan b rest) (act_of plan b (a ∷ rest))
@@ -557,8 +557,8 @@ short_triple word other last e f g h =
           omega (arith, length-append word (32 ∷ other ++ 32 ∷ last), length-append other (32 ∷ last), h);
     }
 
-short_code : (plan : PlanFields) (b : ℕ) (word : List ℕ) (side : Way) (code : ℕ) → IsPlan plan → is_plain_word word ≡ true
-    → length word ≤ 10 → knows_side plan b side && is_code_no plan code ≡ true
+short_code : (plan : PlanFields) (b : ℕ) (word : List ℕ) (side : Way) (code : ℕ) → IsPlan plan
+    → is_plain_word word ≡ true → length word ≤ 10 → knows_side plan b side && is_code_no plan code ≡ true
     → IsShort (word ∷ way_word side ∷ code_no_text plan.codes code ∷ [])
 short_code plan b word side code p e few h =
     let known = both (knows_side plan b side) (is_code_no plan code) h in

@@ -62,8 +62,8 @@ number_is_plain n h =
 pub code_is_plain : (plan : PlanFields) (code : ℕ) → IsPlan plan → is_code_no plan code ≡ true
     → is_plain_word (code_no_text plan.codes code) ≡ true
 code_is_plain plan code p h =
-    both_hold (is_word (code_no_text plan.codes code)) (plain (code_no_text plan.codes code)) (code_is_word plan code p h)
-    (not_from_false _ (no_code plan code (codes "->") p h refl))
+    both_hold (is_word (code_no_text plan.codes code)) (plain (code_no_text plan.codes code))
+    (code_is_word plan code p h) (not_from_false _ (no_code plan code (codes "->") p h refl))
 
 -- a train's name is a word, and not `->`
 pub train_is_plain : (plan : PlanFields) (train : ℕ) → IsPlan plan → is_train plan.trains train ≡ true

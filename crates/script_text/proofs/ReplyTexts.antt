@@ -1,7 +1,7 @@
 -- What a text is read as is a reply that it spells, and each reply has one spelling.
-use Rattle.std.proofs.Common.{◌≡◌, ℕ, ◌*◌, ◌^◌, ◌<◌, ◌≤◌, Bool, true, false, cond, ltb, ◌&&◌, ◌||◌, List, [], ◌∷◌, length, Option}
-use Rattle.std.proofs.Common.{Some, None, option_map, Result, Ok, Err, IsTrue, IfOk, IsErr, ◌↔◌, refl, sym, ap, subst}
-use Rattle.std.proofs.Common.{◌∙◌, arith, codes, bytes_eq, decimal}
+use Rattle.std.proofs.Common.{◌≡◌, ℕ, ◌*◌, ◌^◌, ◌<◌, ◌≤◌, Bool, true, false, cond, ltb, ◌&&◌, ◌||◌, List, [], ◌∷◌}
+use Rattle.std.proofs.Common.{length, Option, Some, None, option_map, Result, Ok, Err, IsTrue, IfOk, IsErr, ◌↔◌, refl}
+use Rattle.std.proofs.Common.{sym, ap, subst, ◌∙◌, arith, codes, bytes_eq, decimal}
 use Rattle.std.specs.List.{join_with_byte, list_all}
 use Rattle.std.proofs.lemmas.Bool.Decides.{nat_tests}
 use Rattle.block_words.specs.declared.Position.{Position}

@@ -223,7 +223,7 @@ trained : (plan : PlanFields) (b : ℕ) (w : List ℕ) (train : ℕ) (reply : Re
     → shaped_reply plan b (w ∷ train_text plan train ∷ []) ≡ Some reply) → is_train plan.trains train ≡ true
     → Reads plan b (w ∷ train_text plan train ∷ []) reply
 trained plan b w train reply p e s h =
-    record { are = two w (train_text plan train) e (train_is_short plan train p h); shape = s (train_read plan train p h) }
+    record { are = two w _ e (train_is_short plan train p h); shape = s (train_read plan train p h) }
 
 -- a word, a number and a train
 moved : (plan : PlanFields) (b : ℕ) (w : List ℕ) (n train : ℕ) (reply : Reply) → IsPlan plan → is_short_word w ≡ true

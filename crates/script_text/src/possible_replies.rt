@@ -1,10 +1,11 @@
 //! Which replies a call may have.
 
 ghost use Rattle.std.specs.Prelude.{◌≡◌};
-ghost use Rattle.script_text.specs.PossibleReplies.{answers_await_bell, answers_await_block, answers_await_train, answers_berth};
-ghost use Rattle.script_text.specs.PossibleReplies.{answers_berth_part, answers_bring, answers_clear_portion, answers_hear};
-ghost use Rattle.script_text.specs.PossibleReplies.{answers_move, answers_overrun, answers_pass, answers_pull, answers_put};
-ghost use Rattle.script_text.specs.PossibleReplies.{answers_release, answers_ring, answers_turn, answers_wind, may_answer};
+ghost use Rattle.script_text.specs.PossibleReplies.{answers_await_bell, answers_await_block, answers_await_train};
+ghost use Rattle.script_text.specs.PossibleReplies.{answers_berth, answers_berth_part, answers_bring};
+ghost use Rattle.script_text.specs.PossibleReplies.{answers_clear_portion, answers_hear, answers_move, answers_overrun};
+ghost use Rattle.script_text.specs.PossibleReplies.{answers_pass, answers_pull, answers_put, answers_release};
+ghost use Rattle.script_text.specs.PossibleReplies.{answers_ring, answers_turn, answers_wind, may_answer};
 ghost use Rattle.script_text.specs.PossibleReplies.{refuses_berth};
 
 use line_law::{Act, Reply};
