@@ -64,10 +64,10 @@ use Rattle.line_law.proofs.Found.{both}
 use Rattle.line_law.proofs.Keeping.{stays}
 use Rattle.line_law.proofs.Opens.{opens}
 use Rattle.line_law.proofs.Sides.{known_parts}
-use Rattle.script_text.specs.PossibleReplies.{answers_await_bell, answers_await_block, answers_await_train, answers_berth}
-use Rattle.script_text.specs.PossibleReplies.{answers_berth_part, answers_bring, answers_clear_portion, answers_hear}
-use Rattle.script_text.specs.PossibleReplies.{answers_overrun, answers_pass, answers_pull, answers_put, answers_release}
-use Rattle.script_text.specs.PossibleReplies.{answers_ring, answers_turn, answers_wind, may_answer}
+use Rattle.script_text.specs.PossibleReplies.{answers_await_bell, answers_await_block, answers_await_train}
+use Rattle.script_text.specs.PossibleReplies.{answers_berth, answers_berth_part, answers_bring, answers_clear_portion}
+use Rattle.script_text.specs.PossibleReplies.{answers_hear, answers_overrun, answers_pass, answers_pull, answers_put}
+use Rattle.script_text.specs.PossibleReplies.{answers_release, answers_ring, answers_turn, answers_wind, may_answer}
 use Rattle.line_report.specs.Spelled.{IsAnswered}
 
 -- ---- refusals of a row
