@@ -57,24 +57,18 @@ went_past box_plan signal at_danger (replies.Entered train k) =
     deeds.WentPast (starter_way signal) (homes_by box_plan signal) at_danger
 went_past box_plan signal at_danger reply = deeds.Nothing
 
--- what was done at a box with this plan, by the call and its reply
+-- what was done at a box with this plan, by the call and its reply; nothing by the calls that aren't named
 abbrev pub deed_by : BoxFields → Act → Reply → Deed
 deed_by box_plan (acts.Ring side code) reply = done_if (is_rung reply) (deeds.Rang side code)
 deed_by box_plan (acts.Hear side) reply = heard_from side reply
 deed_by box_plan (acts.AwaitBell side code) reply = heard_from side reply
 deed_by box_plan (acts.Turn way position) reply = done_if (is_turned reply) (deeds.Turned way position)
-deed_by box_plan (acts.AwaitBlock way position) reply = deeds.Nothing
-deed_by box_plan (acts.Pull lever) reply = deeds.Nothing
-deed_by box_plan (acts.Put lever) reply = deeds.Nothing
-deed_by box_plan (acts.Bring train) reply = deeds.Nothing
 deed_by box_plan (acts.Pass lever) reply = went_past box_plan (signal_of box_plan lever) false reply
 deed_by box_plan (acts.Overrun lever) reply = went_past box_plan (signal_of box_plan lever) true reply
-deed_by box_plan (acts.AwaitTrain way) reply = deeds.Nothing
 deed_by box_plan (acts.Berth way) reply = done_if (is_berthed reply) (deeds.Berthed way)
 deed_by box_plan (acts.BerthPart way) reply = done_if (is_part_berthed reply) (deeds.PartBerthed way)
-deed_by box_plan (acts.ClearPortion way) reply = deeds.Nothing
-deed_by box_plan (acts.Wind way) reply = deeds.Nothing
 deed_by box_plan (acts.Release way) reply = done_if (is_released reply) deeds.Released
+deed_by box_plan act reply = deeds.Nothing
 
 -- what was done by an entry
 abbrev pub deed_of : PlanFields → Entry → Deed

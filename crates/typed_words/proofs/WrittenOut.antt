@@ -110,23 +110,10 @@ act_full plan version last (acts.Wind Down) = (refl, refl)
 act_full plan version last (acts.Release Up) = (refl, refl)
 act_full plan version last (acts.Release Down) = (refl, refl)
 
-some_words : (plan : PlanFields) (act : Act) → 0 < length (act_words plan act)
-some_words plan (acts.Ring side code) = omega arith
-some_words plan (acts.Hear side) = omega arith
-some_words plan (acts.AwaitBell side code) = omega arith
-some_words plan (acts.Turn way position) = omega arith
-some_words plan (acts.AwaitBlock way position) = omega arith
-some_words plan (acts.Pull lever) = omega arith
-some_words plan (acts.Put lever) = omega arith
-some_words plan (acts.Bring train) = omega arith
-some_words plan (acts.Pass lever) = omega arith
-some_words plan (acts.Overrun lever) = omega arith
-some_words plan (acts.AwaitTrain way) = omega arith
-some_words plan (acts.Berth way) = omega arith
-some_words plan (acts.BerthPart way) = omega arith
-some_words plan (acts.ClearPortion way) = omega arith
-some_words plan (acts.Wind way) = omega arith
-some_words plan (acts.Release way) = omega arith
+-- no words are no call in full
+some_words : (words : List (List ℕ)) → timed_in_full words ≡ Ok words → 0 < length words
+some_words [] full = absurd cc
+some_words (word ∷ words) full = omega arith
 
 all_kept : (words : List (List ℕ)) → list_all is_word words ≡ true
     → filter (λ word. not (is_empty_word word)) words ≡ words
@@ -173,7 +160,8 @@ untimed_line plan b call p h =
     (both (is_word (moment_text plan.version call.moment)) _ (call_words_are plan b call p h)).1 in
     let words : typed_words (act_text plan call.act) ≡ act_words plan call.act =
     ap (filter (λ word. not (is_empty_word word)))
-    (words_joined (act_words plan call.act) (some_words plan call.act) are)
+    (words_joined (act_words plan call.act)
+    (some_words (act_words plan call.act) (act_full plan plan.version call.moment call.act).0) are)
     ∙ all_kept (act_words plan call.act) are in
     ap (line_in_full plan.version call.moment) words ∙ (act_full plan plan.version call.moment call.act).1
 
