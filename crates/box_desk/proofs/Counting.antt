@@ -342,6 +342,7 @@ outcome_counts plan box_plan n m here act d (Winds way free) fits is =
 outcome_counts plan box_plan n m here act d (Releases way free) fits is =
     let more = later n m here is in line_after (n + 1) m here way _ (more.turns way) (more.taken way) more
 
+-- a call leaves the counts in range, with one call more
 pub call_counts : (plan : PlanFields) (box_plan : BoxFields) (n m : ℕ) (here : BoxState) (act : Act) → BringsNo act
     → IsCounted n m here → LeavesCounted (n + 1) m (link_of box_plan act) here (decide plan box_plan act here)
 call_counts plan box_plan n m here act fits is =

@@ -16,12 +16,14 @@ pub incoming_at : (lines : ByWay IncomingLine) (way : Way)
 incoming_at lines Up = refl
 incoming_at lines Down = refl
 
+-- the turns of an incoming line leave room for one more
 pub few_turns : (box : Equipment) (way : Way) → AreFew (here_of box) → (of_way box.lines way).turns < 2 ^ 32
 few_turns box way few =
     let limit : (of_way box.lines way).turns ≤ 4294967295 =
     subst (λ (line : Incoming). line.turns ≤ 4294967295) (incoming_at box.lines way) (few.turns way) in
     omega (arith, limit)
 
+-- and so do the trains that it took
 pub few_taken : (box : Equipment) (way : Way) → AreFew (here_of box) → (of_way box.lines way).taken < 2 ^ 32
 few_taken box way few =
     let limit : (of_way box.lines way).taken ≤ 4294967295 =

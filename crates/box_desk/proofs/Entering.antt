@@ -58,6 +58,7 @@ found k word here way line taken packs is read =
     ap (λ (w : ℕ). lane w (of_way here.sent way + 1)) packs
     ∙ ap (λ (n : ℕ). lane word (n + 1)) (sym is) ∙ sym read
 
+-- where the lane of the next train is taken the section is full
 pub full_by_word : (here left : BoxState) (way : Way) (train : ℕ) (line : List Passage) (k word taken : ℕ)
     → PlainLineAgrees (Out way) here line → plain_line_number line ≡ word → k ≡ of_way here.sent way
     → taken ≡ lane word (k + 1) → taken ≢ 0
@@ -67,6 +68,7 @@ full_by_word here left way train line k word taken agrees packs is read some =
     (full_told here left way train line agrees (λ none. some (sym (found k word here way line taken packs is read)
     ∙ none)))
 
+-- and where it is empty the train enters it
 pub entered_by_word : (here left : BoxState) (way : Way) (train : ℕ) (line : List Passage) (k word taken gone : ℕ)
     (after : BoxState) (sent : ByWay ℕ) (stands : Option ℕ) → PlainLineAgrees (Out way) here line
     → plain_line_number line ≡ word → k ≡ of_way here.sent way → taken ≡ lane word (k + 1) → taken ≡ 0

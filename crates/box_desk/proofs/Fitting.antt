@@ -45,6 +45,7 @@ use Rattle.box_desk.proofs.Standings.{as_law, way_is}
 
 -- ---- what the plan names
 
+-- a berth of the plan fits the equipment
 pub berth_fits : (box_plan : BoxFields) (box : Equipment) (way : Way) (berth : Berth) → IsSound box_plan
     → IsFitted box_plan box → berth_of box_plan way ≡ Some berth
     → BerthFits (length box.frame.ends) (length box.tracks) berth
@@ -97,11 +98,13 @@ turns_free shows.LineClear here berth line suits none =
     control_free berth.permissive line.control here berth refl suits
     (both_none _ _ (both_none _ _ clear).1).1
 
+-- a call that is decided on a word isn't refused in its box
 pub unrefused : (r : Option Reply) (here : BoxState) (rest : Decision) → IsOnWord (kind_of (unless r here rest))
     → r ≡ None
 unrefused None here rest on = refl
 unrefused (Some reply) here rest on = absurd on
 
+-- a turn that isn't refused is one that the control lets be
 pub lets_turn : (box : Equipment) (berth : Berth) (way : Way) (position : Position)
     → Suits berth.permissive (of_way box.lines way).control
     → turn_refusal (here_of box) berth (of_way (here_of box).incoming way) position ≡ None
@@ -137,6 +140,7 @@ way_empty here signal none =
     none_stands here.places (entered_by signal)
     (none_there (first_met here.places (entered_by signal)) (way_is here signal ∙ none))
 
+-- where a train's move is decided on a word its way is empty
 pub moves_free : (overrun : Bool) (box_plan : BoxFields) (here : BoxState) (signal : Signal)
     → IsOnWord (kind_of (move_signal overrun signal box_plan here)) → AreEmpty here.places (entered_by signal)
 moves_free false box_plan here signal on =

@@ -18,6 +18,7 @@ use Rattle.box_desk.specs.Desks.{Answers, DeskFields, IsAsked, IsDeskOf, WordMee
 use Rattle.box_desk.specs.Steps.{Finishes, Prepares, WordAgrees, ask_of}
 use Rattle.box_desk.proofs.Counting.{LeavesCounted}
 
+-- the moment of a call is no count
 pub moment_counts : (n m moment : ℕ) (here : BoxState) → IsCounted n m here → IsCounted n m (at_moment here moment)
 moment_counts n m moment here is =
     record {
@@ -81,6 +82,7 @@ word_answers (OnBlock act) asked asks old moment step after is prepares =
 word_answers (OnPlainLine act) asked asks old moment step after is prepares =
     (prepares.0, ap (λ (h : BoxState). record old { here = h }) prepares.1)
 
+-- a call that asks for its word leaves the desk but for the moment
 pub answers_word : (plan : PlanFields) (b : ℕ) (old : DeskFields) (call : Call) (step : Step) (after : BoxState)
     (asks : WordAsk) → IsDeskOf plan b old → step ≡ NeedsWord asks
     → Prepares (decide plan old.box_plan call.act (at_moment old.here call.moment))

@@ -24,22 +24,9 @@ use Rattle.box_desk.proofs.Counting.{BringsNo}
 use Rattle.box_desk.proofs.Looking.{AwaitsCode}
 
 lever_at : (plan : PlanFields) (box_plan : BoxFields) (act : Act) → FitsHere plan box_plan act → FitsLever box_plan act
-lever_at plan box_plan (acts.Ring side code) fits = tt
-lever_at plan box_plan (acts.Hear side) fits = tt
-lever_at plan box_plan (acts.AwaitBell side code) fits = tt
-lever_at plan box_plan (acts.Turn way position) fits = tt
-lever_at plan box_plan (acts.AwaitBlock way position) fits = tt
 lever_at plan box_plan (acts.Pull lever) fits = fits
 lever_at plan box_plan (acts.Put lever) fits = fits
-lever_at plan box_plan (acts.Bring train) fits = tt
-lever_at plan box_plan (acts.Pass lever) fits = tt
-lever_at plan box_plan (acts.Overrun lever) fits = tt
-lever_at plan box_plan (acts.AwaitTrain way) fits = tt
-lever_at plan box_plan (acts.Berth way) fits = tt
-lever_at plan box_plan (acts.BerthPart way) fits = tt
-lever_at plan box_plan (acts.ClearPortion way) fits = tt
-lever_at plan box_plan (acts.Wind way) fits = tt
-lever_at plan box_plan (acts.Release way) fits = tt
+lever_at plan box_plan act fits = tt
 
 place_kept : (trains : List TrainPlan) (t : ℕ) → t - 1 < length trains
     → slice_index_or (map (λ train. train.place) trains) (t - 1) 0 ≡ (train_at trains t).place
@@ -62,43 +49,15 @@ train_here plan box_plan places delay train kept fits =
 
 train_fits : (plan : PlanFields) (box_plan : BoxFields) (places : List ℕ) (delay : ℕ) (act : Act)
     → IsKeptOf plan places delay → FitsHere plan box_plan act → FitsTrain box_plan places act
-train_fits plan box_plan places delay (acts.Ring side code) kept fits = tt
-train_fits plan box_plan places delay (acts.Hear side) kept fits = tt
-train_fits plan box_plan places delay (acts.AwaitBell side code) kept fits = tt
-train_fits plan box_plan places delay (acts.Turn way position) kept fits = tt
-train_fits plan box_plan places delay (acts.AwaitBlock way position) kept fits = tt
-train_fits plan box_plan places delay (acts.Pull lever) kept fits = tt
-train_fits plan box_plan places delay (acts.Put lever) kept fits = tt
 train_fits plan box_plan places delay (acts.Bring train) kept fits =
     train_here plan box_plan places delay train kept fits
-train_fits plan box_plan places delay (acts.Pass lever) kept fits = tt
-train_fits plan box_plan places delay (acts.Overrun lever) kept fits = tt
-train_fits plan box_plan places delay (acts.AwaitTrain way) kept fits = tt
-train_fits plan box_plan places delay (acts.Berth way) kept fits = tt
-train_fits plan box_plan places delay (acts.BerthPart way) kept fits = tt
-train_fits plan box_plan places delay (acts.ClearPortion way) kept fits = tt
-train_fits plan box_plan places delay (acts.Wind way) kept fits = tt
-train_fits plan box_plan places delay (acts.Release way) kept fits = tt
+train_fits plan box_plan places delay act kept fits = tt
 
 -- the train that a call brings fits a lane
 pub brings_no : (box_plan : BoxFields) (places : List ℕ) (act : Act) → length places < 65536
     → FitsTrain box_plan places act → BringsNo act
-brings_no box_plan places (acts.Ring side code) few fits = tt
-brings_no box_plan places (acts.Hear side) few fits = tt
-brings_no box_plan places (acts.AwaitBell side code) few fits = tt
-brings_no box_plan places (acts.Turn way position) few fits = tt
-brings_no box_plan places (acts.AwaitBlock way position) few fits = tt
-brings_no box_plan places (acts.Pull lever) few fits = tt
-brings_no box_plan places (acts.Put lever) few fits = tt
 brings_no box_plan places (acts.Bring train) few fits = (fits.0, omega (arith, few, fits.0, fits.1))
-brings_no box_plan places (acts.Pass lever) few fits = tt
-brings_no box_plan places (acts.Overrun lever) few fits = tt
-brings_no box_plan places (acts.AwaitTrain way) few fits = tt
-brings_no box_plan places (acts.Berth way) few fits = tt
-brings_no box_plan places (acts.BerthPart way) few fits = tt
-brings_no box_plan places (acts.ClearPortion way) few fits = tt
-brings_no box_plan places (acts.Wind way) few fits = tt
-brings_no box_plan places (acts.Release way) few fits = tt
+brings_no box_plan places act few fits = tt
 
 code_there : (plan : PlanFields) (b : ℕ) (side : Way) (code : ℕ)
     → IsTrue (knows_side plan b side && is_code_no plan code) → 0 < code
@@ -108,39 +67,28 @@ code_there plan b side code known =
     let one = least.0 in grind (arith, nat_tests)
 
 code_awaited : (plan : PlanFields) (b : ℕ) (act : Act) → IsTrue (knows_act plan b act) → AwaitsCode act
-code_awaited plan b (acts.Ring side code) known = tt
-code_awaited plan b (acts.Hear side) known = tt
 code_awaited plan b (acts.AwaitBell side code) known = code_there plan b side code known
-code_awaited plan b (acts.Turn way position) known = tt
-code_awaited plan b (acts.AwaitBlock way position) known = tt
-code_awaited plan b (acts.Pull lever) known = tt
-code_awaited plan b (acts.Put lever) known = tt
-code_awaited plan b (acts.Bring train) known = tt
-code_awaited plan b (acts.Pass lever) known = tt
-code_awaited plan b (acts.Overrun lever) known = tt
-code_awaited plan b (acts.AwaitTrain way) known = tt
-code_awaited plan b (acts.Berth way) known = tt
-code_awaited plan b (acts.BerthPart way) known = tt
-code_awaited plan b (acts.ClearPortion way) known = tt
-code_awaited plan b (acts.Wind way) known = tt
-code_awaited plan b (acts.Release way) known = tt
+code_awaited plan b act known = tt
 
 -- a code that is awaited is one of the plan's
 pub awaits_code : (plan : PlanFields) (b : ℕ) (call : Call) → KnowsCall plan b call → AwaitsCode call.act
 awaits_code plan b call known = code_awaited plan b call.act (known_parts plan b call known).act
 
+-- either of two limits is within a third
 pub one_limit : (t : Bool) (m n k : ℕ) → m ≤ k → n ≤ k → cond t m n ≤ k
 one_limit true m n k h g = h
 one_limit false m n k h g = g
 
 -- ---- by the desk
 
+-- the lever of a known call is one of the frame
 pub knows_lever_of : (plan : PlanFields) (b : ℕ) (desk : DeskFields) (call : Call) → IsDeskOf plan b desk
     → KnowsCall plan b call → FitsLever desk.box_plan call.act
 knows_lever_of plan b desk call is known =
     subst (λ (box_plan : BoxFields). FitsLever box_plan call.act) (sym is.box_plan)
     (lever_at plan (box_plan_of plan b) call.act (known_fits plan b call is.is_plan known))
 
+-- the train of a known call is one of the line, with its place in the box
 pub knows_train_of : (plan : PlanFields) (b : ℕ) (desk : DeskFields) (call : Call) → IsDeskOf plan b desk
     → KnowsCall plan b call → FitsTrain desk.box_plan desk.train_places call.act
 knows_train_of plan b desk call is known =
@@ -148,6 +96,7 @@ knows_train_of plan b desk call is known =
     (train_fits plan (box_plan_of plan b) desk.train_places desk.delay call.act is.kept
     (known_fits plan b call is.is_plan known))
 
+-- the moment of a known call, with a delay, is a number of the machine
 pub few_moments_of : (plan : PlanFields) (b : ℕ) (desk : DeskFields) (call : Call) → IsDeskOf plan b desk
     → KnowsCall plan b call → call.moment + desk.delay < 2 ^ 32
 few_moments_of plan b desk call is known =

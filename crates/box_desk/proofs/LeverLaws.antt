@@ -181,6 +181,7 @@ is_free box_frame lever tracks none =
           (track_reply tracks (plan_at box_frame.levers lever).places) planned.1;
     }
 
+-- a lever that the law lets be pulled is free in the frame
 pub free_here : (box_plan : BoxFields) (box : Equipment) (lever : ℕ)
     → pull_reply box.frame lever box.tracks
     ≡ pull_answer (lever_plan_of box_plan lever) box_plan.rows box.frame.ends lever box.tracks
@@ -197,6 +198,7 @@ refused None reply here rest is = absurd cc
 refused (Some other) reply here rest is =
     let same : other ≡ reply = cc in ap (λ (x : Reply). Here x here) same
 
+-- a lever that the frame doesn't put back stays, with the law's reply
 pub put_refused : (box_plan : BoxFields) (box : Equipment) (lever : ℕ) (answer : LeverReply) (reply : Reply)
     (new : LeverFrameFields) → refusal_of AlreadyNormal answer ≡ put_refusal box_plan (here_of box) lever
     → refusal_of AlreadyNormal answer ≡ Some reply
@@ -211,6 +213,7 @@ allowed : (r : Option Reply) (here : BoxState) (rest : Decision) → r ≡ None 
 allowed None here rest none = refl
 allowed (Some reply) here rest none = absurd cc
 
+-- and one that it puts back is back in the law
 pub put_done : (box_plan : BoxFields) (box : Equipment) (lever : ℕ) (answer : LeverReply) (new : LeverFrameFields)
     → refusal_of AlreadyNormal answer ≡ put_refusal box_plan (here_of box) lever
     → refusal_of AlreadyNormal answer ≡ None → new ≡ moved_by answer (frame_put_back box.frame lever) box.frame

@@ -221,6 +221,7 @@ outcome_short plan box_plan act here word d (Clears way free) code on = λ pair 
 outcome_short plan box_plan act here word d (Winds way free) code on = absurd on
 outcome_short plan box_plan act here word d (Releases way free) code on = absurd on
 
+-- whether a word satisfies a call is told by the law's reply at it
 pub met_tells : (plan : PlanFields) (box_plan : BoxFields) (act : Act) (here : BoxState) (word : ℕ) → AwaitsCode act
     → IsOnWord (kind_of (decide plan box_plan act here))
     → TellsShort box_plan act here word (decide plan box_plan act here)

@@ -78,6 +78,7 @@ stopped_overrunning (Some t) false (Some there) way box_plan here signal place t
     let by : there.train ≡ train = cc in
     rw (sym is, at, by) refl
 
+-- a train is stopped by another on its way
 pub move_stopped : (overrun : Bool) (box_plan : BoxFields) (here : BoxState) (signal : Signal) (place train : ℕ)
     → move_test here.places signal (is_off here.off signal.lever) overrun ≡ test.Occupied place train
     → move_signal overrun signal box_plan here ≡ Here (Occupied place train) here
@@ -92,6 +93,7 @@ move_stopped true box_plan here signal place train told =
 
 -- ---- in the box alone
 
+-- what the law decides in the box
 pub locally_is : (d : Decision) (old new : BoxState) (reply : Reply) → d ≡ Here reply new
     → Locally d old (Some reply) new
 locally_is d old new reply is = subst (λ (e : Decision). Locally e old (Some reply) new) (sym is) (refl, refl)

@@ -64,6 +64,7 @@ opening_counted trains box_plan =
     taken Up = omega arith
     taken Down = omega arith
 
+-- a desk that opens keeps what its type says
 pub opens : (plan : PlanFields) (b : ℕ) (box_plan : BoxFields) (places : List ℕ) (delay : ℕ) (box : Equipment)
     → IsPlan plan → b < length plan.boxes → box_plan ≡ box_plan_of plan b
     → places ≡ map (λ train. train.place) plan.trains → delay ≡ plan.delay

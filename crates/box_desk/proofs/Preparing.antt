@@ -40,6 +40,7 @@ asked_on d box_plan call here =
       awaits = awaits_of call.act;
     }
 
+-- where nothing is decided in the box the first step asks for the word
 pub asks : (d : Decision) (box_plan : BoxFields) (call : Call) (old new : BoxState) (told : Option Reply)
     (asked : WordAsk) → told ≡ None → Locally d old told new → asked ≡ asked_in box_plan call new
     → Prepares d (asked_on d box_plan call old) old (NeedsWord asked) new
@@ -51,6 +52,7 @@ asks (OnBlock act) box_plan call old new told asked none locally is =
 asks (OnPlainLine act) box_plan call old new told asked none locally is =
     (ap (λ (a : WordAsk). NeedsWord a) (is ∙ ap (λ (h : BoxState). asked_in box_plan call h) locally.1), locally.1)
 
+-- and else it has the law's reply
 pub decides : (d : Decision) (asked : WordAsk) (old new : BoxState) (told : Option Reply) (reply : Reply)
     → told ≡ Some reply → Locally d old told new → Prepares d asked old (Local reply) new
 decides (Here other after) asked old new told reply some locally =
@@ -100,19 +102,6 @@ overrun_stands (Some signal) box_plan here on =
 -- a train that is let pass or overrun on a word stands at its signal
 pub has_train : (line : PlanFields) (box_plan : BoxFields) (act : Act) (here : BoxState)
     → IsOnWord (kind_of (decide line box_plan act here)) → HasItsTrain box_plan act here
-has_train line box_plan (acts.Ring side code) here on = tt
-has_train line box_plan (acts.Hear side) here on = tt
-has_train line box_plan (acts.AwaitBell side code) here on = tt
-has_train line box_plan (acts.Turn way position) here on = tt
-has_train line box_plan (acts.AwaitBlock way position) here on = tt
-has_train line box_plan (acts.Pull lever) here on = tt
-has_train line box_plan (acts.Put lever) here on = tt
-has_train line box_plan (acts.Bring train) here on = tt
 has_train line box_plan (acts.Pass lever) here on = pass_stands (signal_of box_plan lever) box_plan here on
 has_train line box_plan (acts.Overrun lever) here on = overrun_stands (signal_of box_plan lever) box_plan here on
-has_train line box_plan (acts.AwaitTrain way) here on = tt
-has_train line box_plan (acts.Berth way) here on = tt
-has_train line box_plan (acts.BerthPart way) here on = tt
-has_train line box_plan (acts.ClearPortion way) here on = tt
-has_train line box_plan (acts.Wind way) here on = tt
-has_train line box_plan (acts.Release way) here on = tt
+has_train line box_plan act here on = tt

@@ -25,6 +25,7 @@ alike_at : (t : Option ℕ) (place : ℕ) (law : Option Standing) (met : Option 
 alike_at (Some train) place law met same = refl
 alike_at None place law met same = same
 
+-- the first train that stands there is the law's
 pub first_is : (tracks : List (Option ℕ)) (places : List ℕ)
     → first_standing tracks places ≡ as_law (first_met tracks places)
 first_is tracks [] = refl

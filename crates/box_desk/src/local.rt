@@ -33,14 +33,6 @@ impl Equipment {
         ensures fitted { IsFitted plan.now self.new }
     {
         match act {
-            Act::Ring { side: _, code: _ }
-            | Act::Hear { side: _ }
-            | Act::AwaitBell { side: _, code: _ }
-            | Act::AwaitBlock {
-                way: _,
-                position: _,
-            }
-            | Act::AwaitTrain { way: _ } => None,
             Act::Turn { way, position } => match plan.berth(way) {
                 Some(berth) => self.turn_refusal(berth, way, position),
                 None => Some(Reply::AlreadyThere),
@@ -63,6 +55,8 @@ impl Equipment {
             Act::ClearPortion { way } => self.clear_portion_refusal(way),
             Act::Wind { way } => Some(self.wind(way, delay)),
             Act::Release { way } => Some(self.release(way)),
+            // a code that is rung or heard, and a look, are decided on a word
+            _ => None,
         }
     }
 }

@@ -25,16 +25,6 @@ fn pull_op(starter: Option<Way>) -> WordOp
     }
 }
 
-// A train at a starter looks at the section; any other move is the box's own.
-fn look_op(starter: Option<Way>) -> WordOp
-    ensures { result ≡ look_op starter }
-{
-    match starter {
-        Some(way) => WordOp::LookSection { way },
-        None => WordOp::Local,
-    }
-}
-
 // Whether a call looks until it is satisfied.
 fn awaits(act: Act) -> bool
     ensures { result ≡ awaits_of act }
@@ -51,73 +41,64 @@ fn awaits(act: Act) -> bool
 }
 
 impl Equipment {
-    // The first operation of a call, past what its box refuses.
-    fn first_op(&self, plan: &BoxPlan, act: Act) -> WordOp
-        requires { AreFew (here_of self.now) }
-        ensures { result ≡ first_by plan.now act (here_of self.now) }
-    {
-        match act {
-            Act::Ring { side, code } => {
-                let k = self.rung.get(side);
-                WordOp::Ring {
-                    side,
-                    expect: bell_word(k, 0),
-                    new: bell_word(k + 1, code),
-                }
-            }
-            Act::Hear { side } => WordOp::Hear { side },
-            Act::AwaitBell { side, code: _ } => WordOp::LookBell { side },
-            Act::Turn { way, position } => WordOp::Turn {
-                way,
-                new: block_word(self.lines.get(way).turns + 1, false, position),
-            },
-            Act::AwaitBlock { way, position: _ } => WordOp::LookBlock { way },
-            Act::Pull { lever } => pull_op(starter_way(plan.signal(lever))),
-            Act::Pass { lever } | Act::Overrun { lever } => {
-                look_op(starter_way(plan.signal(lever)))
-            }
-            Act::AwaitTrain { way } | Act::BerthPart { way } => WordOp::LookSection { way },
-            Act::Berth { way } | Act::ClearPortion { way } => WordOp::TakeOut {
-                way,
-                mask: lane_mask(self.next_number(way)),
-            },
-            Act::Put { lever: _ }
-            | Act::Bring { train: _ }
-            | Act::Wind { way: _ }
-            | Act::Release { way: _ } => WordOp::Local,
-        }
-    }
-
-    // A train at a starter enters its lane, once that is empty.
-    fn enter_op(&self, signal: &Signal) -> Option<WordOp>
+    // A train at a starter looks at the section, and then enters its lane, once that is empty; any other move is the
+    // box's own.
+    fn move_ops(&self, signal: &Signal) -> (WordOp, Option<WordOp>)
         requires few { AreFew (here_of self.now) }
         requires stands { IsSome (train_on self.now.tracks signal.now.from) }
-        ensures { result ≡ enter_op (here_of self.now)
+        ensures first { result.0 ≡ look_op (starter_way (Some signal.now)) }
+        ensures second { result.1 ≡ enter_op (here_of self.now)
             (train_or_none (train_on self.now.tracks signal.now.from)) (starter_way (Some signal.now)) }
     {
         match signal.to {
             To::Section(way) => {
                 let train = self.tracks.occupant(signal.from).unwrap();
                 let bits = lane_bits(self.sent.get(way) + 1, train as u16);
-                Some(WordOp::Enter { way, bits })
+                let enter = WordOp::Enter { way, bits };
+                (WordOp::LookSection { way }, Some(enter))
             }
-            To::Place(_) | To::Away => None,
+            To::Place(_) | To::Away => (WordOp::Local, None),
         }
     }
 
-    // Its second operation, if it may have one.
-    fn second_op(&self, plan: &BoxPlan, act: Act) -> Option<WordOp>
+    // The operations of a call, past what its box refuses: the first, and the second one, if it may have one.
+    fn ops(&self, plan: &BoxPlan, act: Act) -> (WordOp, Option<WordOp>)
         requires few { AreFew (here_of self.now) }
         requires stands { HasItsTrain plan.now act (here_of self.now) }
-        ensures { result ≡ second_by plan.now act (here_of self.now) }
+        ensures first { result.0 ≡ first_by plan.now act (here_of self.now) }
+        ensures second { result.1 ≡ second_by plan.now act (here_of self.now) }
     {
         match act {
-            Act::AwaitBell { side, code: _ } => Some(WordOp::Hear { side }),
+            Act::Ring { side, code } => {
+                let k = self.rung.get(side);
+                let (expect, new) = (bell_word(k, 0), bell_word(k + 1, code));
+                (WordOp::Ring { side, expect, new }, None)
+            }
+            Act::Hear { side } => (WordOp::Hear { side }, None),
+            Act::AwaitBell { side, code: _ } => {
+                (WordOp::LookBell { side }, Some(WordOp::Hear { side }))
+            }
+            Act::Turn { way, position } => {
+                let new = block_word(self.lines.get(way).turns + 1, false, position);
+                (WordOp::Turn { way, new }, None)
+            }
+            Act::AwaitBlock { way, position: _ } => (WordOp::LookBlock { way }, None),
+            Act::Pull { lever } => (pull_op(starter_way(plan.signal(lever))), None),
             Act::Pass { lever } | Act::Overrun { lever } => match plan_move(plan, lever) {
-                Some(signal) => self.enter_op(signal),
-                None => None,
+                Some(signal) => self.move_ops(signal),
+                None => (WordOp::Local, None),
             },
-            _ => None,
+            Act::AwaitTrain { way } | Act::BerthPart { way } => {
+                (WordOp::LookSection { way }, None)
+            }
+            Act::Berth { way } | Act::ClearPortion { way } => {
+                let mask = lane_mask(self.next_number(way));
+                (WordOp::TakeOut { way, mask }, None)
+            }
+            Act::Put { lever: _ }
+            | Act::Bring { train: _ }
+            | Act::Wind { way: _ }
+            | Act::Release { way: _ } => (WordOp::Local, None),
         }
     }
 
@@ -132,10 +113,11 @@ impl Equipment {
           awaits = awaits_of call.now.act;
         } }
     {
+        let (first, second) = self.ops(plan, call.act);
         WordAsk {
             call: *call,
-            first: self.first_op(plan, call.act),
-            second: self.second_op(plan, call.act),
+            first,
+            second,
             awaits: awaits(call.act),
         }
     }
