@@ -237,8 +237,6 @@ module _ (plan : PlanFields) (is : IsPlan plan) (call : Call) (v : View) (log : 
       → second_by (box_plan_of plan (caller_of v.posts)) act here ≡ Some op → WasSeen plan (caller_of v.posts) v act
       → SecondDecides (box_plan_of plan (caller_of v.posts)) act here
       (number_after plan log (op_word (caller_of v.posts) act op))
-  ready (acts.Ring side code) here op same knows e seen = absurd seen
-  ready (acts.Hear side) here op same knows e seen = absurd seen
   ready (acts.AwaitBell side code) here op same knows e seen =
       let word : op_word (caller_of v.posts) (acts.AwaitBell side code) op ≡ bell_on (caller_of v.posts)
       (In (opposite side)) = some_second (caller_of v.posts) (acts.AwaitBell side code) (ops.Hear side)
@@ -246,23 +244,13 @@ module _ (plan : PlanFields) (is : IsPlan plan) (call : Call) (v : View) (log : 
       subst (λ (w : Word). bell_code (number_after plan log w) ≡ code) (sym word)
       (let parts = both (knows_side plan (caller_of v.posts) side) (is_code_no plan code) knows in
       code_stands side code parts.0 (code_some plan code parts.1) seen)
-  ready (acts.Turn way p) here op same knows e seen = absurd seen
-  ready (acts.AwaitBlock way p) here op same knows e seen = absurd seen
-  ready (acts.Pull lever) here op same knows e seen = absurd seen
-  ready (acts.Put lever) here op same knows e seen = absurd seen
-  ready (acts.Bring train) here op same knows e seen = absurd seen
   ready (acts.Pass lever) here op same knows e seen =
       let s = signal_of (box_plan_of plan (caller_of v.posts)) lever in lane_ready (acts.Pass lever) here
       (train_at_signal here s) (starter_way s) op same e seen
   ready (acts.Overrun lever) here op same knows e seen =
       let s = signal_of (box_plan_of plan (caller_of v.posts)) lever in lane_ready (acts.Overrun lever) here
       (train_at_signal here s) (starter_way s) op same e seen
-  ready (acts.AwaitTrain way) here op same knows e seen = absurd seen
-  ready (acts.Berth way) here op same knows e seen = absurd seen
-  ready (acts.BerthPart way) here op same knows e seen = absurd seen
-  ready (acts.ClearPortion way) here op same knows e seen = absurd seen
-  ready (acts.Wind way) here op same knows e seen = absurd seen
-  ready (acts.Release way) here op same knows e seen = absurd seen
+  ready act here op same knows e seen = absurd seen
 
 -- ---- one operation for a call, of a post that may make it
 

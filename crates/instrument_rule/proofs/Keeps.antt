@@ -36,6 +36,7 @@ use Rattle.instrument_rule.proofs.Views.{holders_two, longer_prefix, set_same, w
 abbrev pub St : Type 0
 St = State (Unit {0}) View
 
+-- what a seat at the table knows
 abbrev pub M : Type 0
 M = Me (Unit {0}) View
 

@@ -277,6 +277,7 @@ module _ (plan : PlanFields) (es : List Entry) (e : Entry) (is : IsPlan plan) (l
 
 -- ---- a code on a bell
 
+-- a code that stands unheard on a bell stays there while other boxes than the hearer call
 pub code_lasts : (plan : PlanFields) (es : List Entry) (e : Entry) (b : ℕ) (way : Way) (code : ℕ) → IsPlan plan
     → IsLegal plan (es ++ e ∷ []) → length es < 2 ^ 32 → e.box_no ≢ b
     → IsTrue (comes_in (length plan.boxes) b way) → 0 < code
@@ -331,6 +332,7 @@ free_then : (sent : ℕ) (ts : List Passage) (taken : ℕ) → AreNumbered taken
 free_then sent ts taken numbered each few = lane-plain_line_number ts (sent + 1) each
     ∙ few_free taken sent ts numbered few
 
+-- an empty lane stays empty while other boxes than the one that sends call
 pub room_lasts : (plan : PlanFields) (es : List Entry) (e : Entry) (b : ℕ) (way : Way) → IsPlan plan
     → IsLegal plan (es ++ e ∷ []) → length es + 1 < 2 ^ 32 → e.box_no ≢ b
     → IsTrue (leaves (length plan.boxes) b way) → LaneFree plan es b way → LaneFree plan (es ++ e ∷ []) b way

@@ -59,6 +59,7 @@ pub starter_is : (box_plan : BoxFields) (lever : ℕ) (signal : Signal) (way : W
     → starter_way (signal_of box_plan lever) ≡ Some way
 starter_is box_plan lever signal way is to = ap starter_way is ∙ to
 
+-- the first operation is on the word on which the call is decided
 pub first_word : (plan : PlanFields) (box_plan : BoxFields) (b : ℕ) (act : Act) (here : BoxState) (d : Decision)
     → Outcome plan box_plan here act d
     → op_word b act (first_on (kind_of d) (first_by box_plan act here)) ≡ decided_on box_plan b act d
@@ -96,15 +97,18 @@ SecondWord b act o word = (op : WordOp) → o ≡ Some op → op_word b act op �
 none_second : (b : ℕ) (act : Act) (word : Word) → SecondWord b act None word
 none_second b act word op e = absurd cc
 
+-- a second operation that is on a word
 pub some_second : (b : ℕ) (act : Act) (mine : WordOp) (word : Word) → op_word b act mine ≡ word
     → SecondWord b act (Some mine) word
 some_second b act mine word h op e = let same : mine ≡ op = cc in ap (op_word b act) (sym same) ∙ h
 
+-- a train that enters does so on the line that its starter leads to
 pub enter_word : (b train : ℕ) (act : Act) (here : BoxState) (w : Option Way)
     → SecondWord b act (enter_op here train w) (line_on b (starter_link w))
 enter_word b train act here None op e = absurd cc
 enter_word b train act here (Some way) op e = some_second b act _ (line_on b (Out way)) refl op e
 
+-- the second operation, if there is one, is on the word on which the call is decided
 pub second_word : (plan : PlanFields) (box_plan : BoxFields) (b : ℕ) (act : Act) (here : BoxState) (d : Decision)
     → Outcome plan box_plan here act d
     → SecondWord b act (second_on (kind_of d) (second_by box_plan act here)) (decided_on box_plan b act d)
@@ -142,6 +146,7 @@ not_equal false m n h same = absurd cc
 some_there : (n : ℕ) → nat_lt 0 n ≡ true → 0 < n
 some_there n h = grind (arith, nat_tests)
 
+-- a number that isn't above 0 is 0
 pub none_there : (n : ℕ) → nat_lt 0 n ≡ false → n ≡ 0
 none_there n h = grind (arith, nat_tests)
 
@@ -160,6 +165,7 @@ overrun_decides box_plan lever here last n None way e h = absurd cc
 overrun_decides box_plan lever here last n (Some v) way e h = some_there
     (next_lane here (way_of (link_of box_plan (acts.Overrun lever))) n) h
 
+-- where the first operation tests as deciding its call, the call is decided there
 pub first_decides : (plan : PlanFields) (box_plan : BoxFields) (act : Act) (here : BoxState) (d : Decision)
     (last : Bool) (n : ℕ)
     → Outcome plan box_plan here act d
@@ -206,7 +212,7 @@ undecided_stays box_plan act here (ops.LookSection way) last n h = refl
 undecided_stays box_plan act here (ops.Enter way bits) last n h = absurd cc
 undecided_stays box_plan act here (ops.TakeOut way mask) last n h = absurd cc
 
--- a second operation decides its call, whatever it meets
+-- what the table has past what the box refuses
 pub on_kind : (k : Kind) (o : Option WordOp) (op : WordOp) → second_on k o ≡ Some op → o ≡ Some op
 on_kind Tally o op e = absurd cc
 on_kind BellWord o op e = e
@@ -221,28 +227,18 @@ enter_always box_plan act here there train n last (Some way) op e =
     let same : ops.Enter way (lane_bits (of_way here.sent way + 1) train) ≡ op = cc in ap
     (λ (o : WordOp). op_decides box_plan act there o last n) (sym same)
 
+-- a second operation decides its call, whatever it meets
 pub second_always : (box_plan : BoxFields) (act : Act) (here there : BoxState) (n : ℕ) (last : Bool) (op : WordOp)
     → second_by box_plan act here ≡ Some op → op_decides box_plan act there op last n ≡ true
-second_always box_plan (acts.Ring side code) here there n last op e = absurd cc
-second_always box_plan (acts.Hear side) here there n last op e = absurd cc
 second_always box_plan (acts.AwaitBell side code) here there n last op e = let same : ops.Hear side ≡ op = cc in ap
     (λ (o : WordOp). op_decides box_plan (acts.AwaitBell side code) there o last n) (sym same)
-second_always box_plan (acts.Turn way p) here there n last op e = absurd cc
-second_always box_plan (acts.AwaitBlock way p) here there n last op e = absurd cc
-second_always box_plan (acts.Pull lever) here there n last op e = absurd cc
-second_always box_plan (acts.Put lever) here there n last op e = absurd cc
-second_always box_plan (acts.Bring train) here there n last op e = absurd cc
 second_always box_plan (acts.Pass lever) here there n last op e = enter_always box_plan
     (acts.Pass lever) here there _ n last (starter_way (signal_of box_plan lever)) op e
 second_always box_plan (acts.Overrun lever) here there n last op e = enter_always box_plan
     (acts.Overrun lever) here there _ n last (starter_way (signal_of box_plan lever)) op e
-second_always box_plan (acts.AwaitTrain way) here there n last op e = absurd cc
-second_always box_plan (acts.Berth way) here there n last op e = absurd cc
-second_always box_plan (acts.BerthPart way) here there n last op e = absurd cc
-second_always box_plan (acts.ClearPortion way) here there n last op e = absurd cc
-second_always box_plan (acts.Wind way) here there n last op e = absurd cc
-second_always box_plan (acts.Release way) here there n last op e = absurd cc
+second_always box_plan act here there n last op e = absurd cc
 
+-- a second operation is that of the table, past what the box refuses
 pub second_is : (k : Kind) (o : Option WordOp) (op : WordOp) → second_on k o ≡ Some op → o ≡ Some op
 second_is = on_kind
 

@@ -23,10 +23,12 @@ cond_no : (t : Bool) (e : Entry) (es : List Entry) → t ≡ false → cond t (e
 cond_no true e es h = absurd cc
 cond_no false e es h = refl
 
+-- equal numbers test as equal
 pub eqb_yes : (a b : ℕ) → a ≡ b → (a == b) ≡ true
 eqb_yes a b e = ⊎_elim (λ (t : ((a == b) ≡ true) × (a ≡ b)). t.0) (λ (t : ((a == b) ≡ false) × (a ≢ b)). absurd (t.1 e))
     (eqb_tells a b)
 
+-- and others don't
 pub eqb_no : (a b : ℕ) → a ≢ b → (a == b) ≡ false
 eqb_no a b ne = ⊎_elim (λ (t : ((a == b) ≡ true) × (a ≡ b)). absurd (ne t.1))
     (λ (t : ((a == b) ≡ false) × (a ≢ b)). t.0) (eqb_tells a b)
@@ -43,15 +45,18 @@ cond_append : (t : Bool) (e : Entry) (xs ys : List Entry)
 cond_append true e xs ys = refl
 cond_append false e xs ys = refl
 
+-- the part of a box in two lists, one after the other
 pub part-append : (b : ℕ) (xs ys : List Entry) → part_of b (xs ++ ys) ≡ part_of b xs ++ part_of b ys
 part-append b [] ys = refl
 part-append b (e ∷ xs) ys = ap (λ (l : List Entry). cond (e.box_no == b) (e ∷ l) l) (part-append b xs ys) ∙ cond_append
     (e.box_no == b) e (part_of b xs) (part_of b ys)
 
+-- an entry of the box makes its part longer
 pub part_grows : (b : ℕ) (es : List Entry) (e : Entry) → e.box_no ≡ b
     → part_of b (es ++ e ∷ []) ≡ part_of b es ++ e ∷ []
 part_grows b es e is = part-append b es (e ∷ []) ∙ ap (λ (l : List Entry). part_of b es ++ l) (part_own b e [] is)
 
+-- and one of another box leaves it
 pub part_stays : (b : ℕ) (es : List Entry) (e : Entry) → e.box_no ≢ b → part_of b (es ++ e ∷ []) ≡ part_of b es
 part_stays b es e ne = part-append b es (e ∷ []) ∙ ap (λ (l : List Entry). part_of b es ++ l) (part_other b e [] ne)
     ∙ append-nil (part_of b es)

@@ -12,11 +12,13 @@ use Rattle.word_laws.specs.WordNumbers.{one_if}
 use Rattle.instrument_rule.specs.Views.{held, holders}
 use Rattle.instrument_rule.proofs.Parts.{eqb_no, eqb_yes}
 
+-- a number that is set where it stands changes nothing
 pub set_same : (ns : List ℕ) (i : ℕ) → set ns i (get_or ns i 0) ≡ ns
 set_same [] i = refl
 set_same (n ∷ ns) zero = refl
 set_same (n ∷ ns) (suc i) = λ j. n ∷ set_same ns i j
 
+-- a view that is set stands there
 pub at_here : (views : List View) (id : ℕ) (v w : View) → get_elem? views id ≡ some v
     → get_elem? (set views id w) id ≡ some w
 at_here [] id v w at = absurd (some-ne-none v (sym at))
@@ -25,6 +27,7 @@ at_here (x ∷ xs) (suc id) v w at = at_here xs id v w at
 
 -- ---- who holds a box
 
+-- how often a box is held once one view is another
 pub holders_set : (p : ℕ) (views : List View) (id : ℕ) (v w : View) → get_elem? views id ≡ some v
     → holders p (set views id w) + held p v.posts ≡ holders p views + held p w.posts
 holders_set p [] id v w at = absurd (some-ne-none v (sym at))
@@ -51,28 +54,34 @@ holders_two p (x ∷ xs) (suc j) zero u v ne at bt = let same : held p x.posts �
 holders_two p (x ∷ xs) (suc j) (suc id) u v ne at bt = let r = holders_two p xs j id u v
     (λ e. ne (ap suc e)) at bt in omega arith
 
+-- a box that no view holds is held by none
 pub holders_none : (p : ℕ) (views : List View) → ((j : ℕ) (v : View) → get_elem? views j ≡ some v → held p v.posts ≡ 0)
     → holders p views ≡ 0
 holders_none p [] h = refl
 holders_none p (x ∷ xs) h = let one = h 0 x refl in let r = holders_none p xs (λ j v at. h (suc j) v at) in omega arith
 
+-- how often a box is held with one view more
 pub holders_snoc : (p : ℕ) (views : List View) (w : View)
     → holders p (views ++ w ∷ []) ≡ holders p views + held p w.posts
 holders_snoc p [] w = omega arith
 holders_snoc p (x ∷ xs) w = let r = holders_snoc p xs w in omega arith
 
+-- how often a box stands among those of two seats
 pub held_append : (p : ℕ) (xs ys : List ℕ) → held p (xs ++ ys) ≡ held p xs + held p ys
 held_append p [] ys = omega arith
 held_append p (x ∷ xs) ys = let r = held_append p xs ys in omega arith
 
+-- what a seat of one box holds is that box
 pub held_one : (p b : ℕ) → 0 < held p (b ∷ []) → b ≡ p
 held_one p b h = ⊎_elim (λ (t : (eqb b p ≡ true) × (b ≡ p)). t.1)
     (λ (t : (eqb b p ≡ false) × (b ≢ p)). (let z : one_if (eqb b p) ≡ 0 = ap one_if t.0 in absurd (omega arith)))
     (eqb_tells b p)
 
+-- it holds no other
 pub held_not : (p b : ℕ) → b ≢ p → held p (b ∷ []) ≡ 0
 held_not p b ne = let z : one_if (eqb b p) ≡ 0 = ap one_if (eqb_no b p ne) in omega arith
 
+-- and it holds that once
 pub held_yes : (p b : ℕ) → b ≡ p → held p (b ∷ []) ≡ 1
 held_yes p b e = let z : one_if (eqb b p) ≡ 1 = ap one_if (eqb_yes b p e) in omega arith
 
@@ -96,6 +105,7 @@ whole_set log views id v w at whole no_less = let j : ℕ = whole.0 in ⊎_elim
     (λ (t : (eqb j id ≡ false) × (j ≢ id)). (j, whole.1, set_else views id j w t.1 ∙ whole.2, whole.3))
     (eqb_tells j id)
 
+-- a beginning of a history is one of the history with an entry more
 pub longer_prefix : (xs log : List Entry) (e : Entry) → IsPrefix xs log → IsPrefix xs (log ++ e ∷ [])
 longer_prefix xs log e pre =
     (pre.0 ++ e ∷ [], sym (append_assoc xs pre.0 (e ∷ [])) ∙ ap (λ (l : List Entry). l ++ e ∷ []) pre.1)

@@ -6,11 +6,13 @@
 
 mod line;
 mod merges;
+mod opening;
 mod plays;
 mod post;
 mod steps;
 mod view;
 
 pub use line::Line;
-pub use post::{Post, open_words};
+pub use opening::open_words;
+pub use post::Post;
 pub use view::{Old, OneHistory, View};

@@ -51,16 +51,18 @@ fn look_link(act: Act, way: Way) -> Link
 }
 
 impl Line {
+    ghost use Rattle.instrument_rule.specs.Posts.{plan_of};
+
     // The place of the bell of a box on one of its lines.
     fn bell(&self, box_no: u32, link: Link) -> usize
-        ensures { result ≡ word_place (length self.now.table.shared.key.boxes) (bell_on box_no link) }
+        ensures { result ≡ word_place (length (plan_of self.now).boxes) (bell_on box_no link) }
     {
         1 + self.boxes as usize + place_on(box_no, link)
     }
 
     // The place of its instrument there.
     pub(crate) fn block(&self, box_no: u32, link: Link) -> usize
-        ensures { result ≡ word_place (length self.now.table.shared.key.boxes) (block_on box_no link) }
+        ensures { result ≡ word_place (length (plan_of self.now).boxes) (block_on box_no link) }
     {
         let boxes = self.boxes as usize;
         1 + boxes + 2 * (boxes - 1) + place_on(box_no, link)
@@ -68,7 +70,7 @@ impl Line {
 
     // The place of its section there.
     fn section(&self, box_no: u32, link: Link) -> usize
-        ensures { result ≡ word_place (length self.now.table.shared.key.boxes) (line_on box_no link) }
+        ensures { result ≡ word_place (length (plan_of self.now).boxes) (line_on box_no link) }
     {
         let boxes = self.boxes as usize;
         1 + boxes + 4 * (boxes - 1) + place_on(box_no, link)
@@ -76,7 +78,7 @@ impl Line {
 
     // The place of the word on which a box does an operation for a call.
     pub(crate) fn place(&self, box_no: u32, act: Act, op: WordOp) -> usize
-        ensures { result ≡ word_place (length self.now.table.shared.key.boxes) (op_word box_no act op) }
+        ensures { result ≡ word_place (length (plan_of self.now).boxes) (op_word box_no act op) }
     {
         match op {
             WordOp::Local => 1 + box_no as usize,

@@ -1,6 +1,7 @@
 //! Splits and joins of posts.
 ghost use Rattle.std.specs.Prelude.{◌≡◌};
 ghost use Rattle.instrument_rule.specs.Calls.{Sits};
+ghost use Rattle.instrument_rule.specs.Posts.{plan_of, view_of};
 ghost use Rattle.instrument_rule.specs.Rule.{Seen};
 ghost use Rattle.instrument_rule.specs.Told.{LegalFor};
 ghost use Rattle.instrument_rule.specs.Views.{both_views, settled, twin_view};
@@ -14,11 +15,11 @@ impl Post {
     /// and waits for nobody.
     pub fn split(&mut self, line: &Line) -> Post
         requires line { self.old.seat.table_id ≡ line.now.table.shared.table_id }
-        requires sits { Sits line.now.table.shared.key self.old.seat.me.0 }
+        requires sits { Sits (plan_of line.now) (view_of self.old) }
         ensures same { (self.new.seat.table_id ≡ self.old.seat.table_id)
             × (result.seat.table_id ≡ self.old.seat.table_id) }
-        ensures kept { self.new.seat.me.0 ≡ self.old.seat.me.0 }
-        ensures twin { result.seat.me.0 ≡ twin_view self.old.seat.me.0 }
+        ensures kept { view_of self.new ≡ view_of self.old }
+        ensures twin { view_of result ≡ twin_view (view_of self.old) }
     {
         Post {
             seat: line.table.shared.split_seat::<Twin>(&mut self.seat),
@@ -31,13 +32,13 @@ impl Post {
     pub fn join(&mut self, line: &Line, other: Post)
         requires line { (self.old.seat.table_id ≡ line.now.table.shared.table_id)
             × (other.seat.table_id ≡ line.now.table.shared.table_id) }
-        requires sits { Sits line.now.table.shared.key self.old.seat.me.0 }
-        requires theirs { Sits line.now.table.shared.key other.seat.me.0 }
+        requires sits { Sits (plan_of line.now) (view_of self.old) }
+        requires theirs { Sits (plan_of line.now) (view_of other) }
         ensures same { self.new.seat.table_id ≡ self.old.seat.table_id }
-        ensures view { self.new.seat.me.0 ≡ settled (both_views self.old.seat.me.0 other.seat.me.0) }
-        ensures mine { Seen self.new.seat.me.0.seen self.old.seat.me.0.posts self.old.seat.me.0.seen }
-        ensures others { Seen self.new.seat.me.0.seen other.seat.me.0.posts other.seat.me.0.seen }
-        ensures legal { LegalFor self.new.seat.me.0.plan self.new.seat.me.0.seen }
+        ensures view { view_of self.new ≡ settled (both_views (view_of self.old) (view_of other)) }
+        ensures mine { Seen (view_of self.new).seen (view_of self.old).posts (view_of self.old).seen }
+        ensures others { Seen (view_of self.new).seen (view_of other).posts (view_of other).seen }
+        ensures legal { LegalFor (view_of self.new).plan (view_of self.new).seen }
     {
         let Post { seat, first } = other;
         if self.first.is_none() {

@@ -4,6 +4,7 @@ ghost use Rattle.line_plan.specs.Sections.{IsSection};
 ghost use Rattle.word_laws.specs.WordPlaces.{word_place};
 ghost use Rattle.line_law.specs.declared.link.Link.TheVariants.{Out};
 ghost use Rattle.instrument_rule.specs.Calls.{MayStep, OpFits, Sits, block_on, looks_by, op_word};
+ghost use Rattle.instrument_rule.specs.Posts.{plan_of, view_of};
 ghost use Rattle.instrument_rule.specs.Told.{Saw, Tells};
 ghost use Rattle.instrument_rule.specs.Views.{caller_of};
 
@@ -26,17 +27,17 @@ impl Post {
         last: bool,
     ) -> u64
         requires line { self.old.seat.table_id ≡ line.now.table.shared.table_id }
-        requires plan { J.plan ≡ line.now.table.shared.key }
-        requires box_no { box_no ≡ caller_of self.old.seat.me.0.posts }
+        requires plan { J.plan ≡ plan_of line.now }
+        requires box_no { box_no ≡ caller_of (view_of self.old).posts }
         requires call { J.call ≡ call.now }
         requires op { J.op ≡ op }
         requires last { J.last ≡ last }
-        requires sits { Sits J.plan self.old.seat.me.0 }
-        requires may { MayStep J.plan J.call self.old.seat.me.0 }
-        requires fits { OpFits J.plan (caller_of self.old.seat.me.0.posts) J.call J.op self.old.seat.me.0 }
+        requires sits { Sits J.plan (view_of self.old) }
+        requires may { MayStep J.plan J.call (view_of self.old) }
+        requires fits { OpFits J.plan (caller_of (view_of self.old).posts) J.call J.op (view_of self.old) }
         ensures same { self.new.seat.table_id ≡ self.old.seat.table_id }
-        ensures posts { self.new.seat.me.0.posts ≡ self.old.seat.me.0.posts }
-        ensures told { Tells J.plan J.call J.op J.last self.old.seat.me.0 result self.new.seat.me.0 }
+        ensures posts { (view_of self.new).posts ≡ (view_of self.old).posts }
+        ensures told { Tells J.plan J.call J.op J.last (view_of self.old) result (view_of self.new) }
     {
         let _last = last;
         let word = line.place(box_no, call.act, op);
@@ -66,14 +67,12 @@ impl Post {
     /// and waits for nobody.
     pub fn step(&mut self, line: &Line, call: &Call, op: WordOp, last: bool) -> u64
         requires line { self.old.seat.table_id ≡ line.now.table.shared.table_id }
-        requires sits { Sits line.now.table.shared.key self.old.seat.me.0 }
-        requires may { MayStep line.now.table.shared.key call.now self.old.seat.me.0 }
-        requires op { OpFits line.now.table.shared.key (caller_of self.old.seat.me.0.posts) call.now op
-            self.old.seat.me.0 }
+        requires sits { Sits (plan_of line.now) (view_of self.old) }
+        requires may { MayStep (plan_of line.now) call.now (view_of self.old) }
+        requires op { OpFits (plan_of line.now) (caller_of (view_of self.old).posts) call.now op (view_of self.old) }
         ensures same { self.new.seat.table_id ≡ self.old.seat.table_id }
-        ensures posts { self.new.seat.me.0.posts ≡ self.old.seat.me.0.posts }
-        ensures told { Tells line.now.table.shared.key call.now op last self.old.seat.me.0 result
-            self.new.seat.me.0 }
+        ensures posts { (view_of self.new).posts ≡ (view_of self.old).posts }
+        ensures told { Tells (plan_of line.now) call.now op last (view_of self.old) result (view_of self.new) }
     {
         let box_no = or_zero(self.first);
         self.step_as::<Brand>(line, box_no, call, op, last)
@@ -81,8 +80,8 @@ impl Post {
 
     /// The place of the word on which the post's first box does an operation for a call.
     pub fn place(&self, line: &Line, call: &Call, op: WordOp) -> usize
-        ensures { result ≡ word_place (length line.now.table.shared.key.boxes)
-            (op_word (caller_of self.now.seat.me.0.posts) call.now.act op) }
+        ensures { result ≡ word_place (length (plan_of line.now).boxes)
+            (op_word (caller_of (view_of self.now).posts) call.now.act op) }
     {
         line.place(or_zero(self.first), call.act, op)
     }
@@ -90,18 +89,18 @@ impl Post {
     // A look of an await at the word that has this place.
     fn look_as<J: Asking>(&mut self, line: &Line, place: usize, call: &Call, op: WordOp) -> u64
         requires line { self.old.seat.table_id ≡ line.now.table.shared.table_id }
-        requires plan { J.plan ≡ line.now.table.shared.key }
+        requires plan { J.plan ≡ plan_of line.now }
         requires call { J.call ≡ call.now }
         requires op { J.op ≡ op }
         requires look { looks_by J.call.act J.op ≡ 1 }
-        requires place { place ≡ word_place (length line.now.table.shared.key.boxes)
-            (op_word (caller_of self.old.seat.me.0.posts) J.call.act J.op) }
-        requires sits { Sits J.plan self.old.seat.me.0 }
-        requires may { MayStep J.plan J.call self.old.seat.me.0 }
-        requires fits { OpFits J.plan (caller_of self.old.seat.me.0.posts) J.call J.op self.old.seat.me.0 }
+        requires place { place ≡ word_place (length (plan_of line.now).boxes)
+            (op_word (caller_of (view_of self.old).posts) J.call.act J.op) }
+        requires sits { Sits J.plan (view_of self.old) }
+        requires may { MayStep J.plan J.call (view_of self.old) }
+        requires fits { OpFits J.plan (caller_of (view_of self.old).posts) J.call J.op (view_of self.old) }
         ensures same { self.new.seat.table_id ≡ self.old.seat.table_id }
-        ensures posts { self.new.seat.me.0.posts ≡ self.old.seat.me.0.posts }
-        ensures told { Tells J.plan J.call J.op J.last self.old.seat.me.0 result self.new.seat.me.0 }
+        ensures posts { (view_of self.new).posts ≡ (view_of self.old).posts }
+        ensures told { Tells J.plan J.call J.op J.last (view_of self.old) result (view_of self.new) }
     {
         let (_call, _op) = (*call, op);
         line.table.shared.load::<Do<J>>(&mut self.seat, place)
@@ -113,16 +112,14 @@ impl Post {
     pub fn look_at(&mut self, line: &Line, place: usize, call: &Call, op: WordOp) -> u64
         requires line { self.old.seat.table_id ≡ line.now.table.shared.table_id }
         requires look { looks_by call.now.act op ≡ 1 }
-        requires place { place ≡ word_place (length line.now.table.shared.key.boxes)
-            (op_word (caller_of self.old.seat.me.0.posts) call.now.act op) }
-        requires sits { Sits line.now.table.shared.key self.old.seat.me.0 }
-        requires may { MayStep line.now.table.shared.key call.now self.old.seat.me.0 }
-        requires op { OpFits line.now.table.shared.key (caller_of self.old.seat.me.0.posts) call.now op
-            self.old.seat.me.0 }
+        requires place { place ≡ word_place (length (plan_of line.now).boxes)
+            (op_word (caller_of (view_of self.old).posts) call.now.act op) }
+        requires sits { Sits (plan_of line.now) (view_of self.old) }
+        requires may { MayStep (plan_of line.now) call.now (view_of self.old) }
+        requires op { OpFits (plan_of line.now) (caller_of (view_of self.old).posts) call.now op (view_of self.old) }
         ensures same { self.new.seat.table_id ≡ self.old.seat.table_id }
-        ensures posts { self.new.seat.me.0.posts ≡ self.old.seat.me.0.posts }
-        ensures told { Tells line.now.table.shared.key call.now op false self.old.seat.me.0 result
-            self.new.seat.me.0 }
+        ensures posts { (view_of self.new).posts ≡ (view_of self.old).posts }
+        ensures told { Tells (plan_of line.now) call.now op false (view_of self.old) result (view_of self.new) }
     {
         self.look_as::<Brand>(line, place, call, op)
     }
@@ -130,13 +127,13 @@ impl Post {
     // A look at the instrument of a section.
     fn glance_as<J: Glancing>(&mut self, line: &Line, section: Section) -> u64
         requires line { self.old.seat.table_id ≡ line.now.table.shared.table_id }
-        requires plan { J.plan ≡ line.now.table.shared.key }
+        requires plan { J.plan ≡ plan_of line.now }
         requires word { J.word ≡ block_on section.rear (Out section.way) }
-        requires sits { Sits J.plan self.old.seat.me.0 }
-        requires section { IsSection line.now.table.shared.key section }
+        requires sits { Sits J.plan (view_of self.old) }
+        requires section { IsSection (plan_of line.now) section }
         ensures same { self.new.seat.table_id ≡ self.old.seat.table_id }
-        ensures posts { self.new.seat.me.0.posts ≡ self.old.seat.me.0.posts }
-        ensures told { Saw J.plan J.word 1 1 self.old.seat.me.0.room self.old.seat.me.0 result self.new.seat.me.0 }
+        ensures posts { (view_of self.new).posts ≡ (view_of self.old).posts }
+        ensures told { Saw J.plan J.word 1 1 (view_of self.old).room (view_of self.old) result (view_of self.new) }
     {
         let word = line.block(section.rear, Link::Out(section.way));
         line.table.shared.load::<Glance<J>>(&mut self.seat, word)
@@ -148,12 +145,12 @@ impl Post {
     /// and waits for nobody.
     pub fn glance(&mut self, line: &Line, section: Section) -> u64
         requires line { self.old.seat.table_id ≡ line.now.table.shared.table_id }
-        requires sits { Sits line.now.table.shared.key self.old.seat.me.0 }
-        requires section { IsSection line.now.table.shared.key section }
+        requires sits { Sits (plan_of line.now) (view_of self.old) }
+        requires section { IsSection (plan_of line.now) section }
         ensures same { self.new.seat.table_id ≡ self.old.seat.table_id }
-        ensures posts { self.new.seat.me.0.posts ≡ self.old.seat.me.0.posts }
-        ensures told { Saw line.now.table.shared.key (block_on section.rear (Out section.way)) 1 1
-            self.old.seat.me.0.room self.old.seat.me.0 result self.new.seat.me.0 }
+        ensures posts { (view_of self.new).posts ≡ (view_of self.old).posts }
+        ensures told { Saw (plan_of line.now) (block_on section.rear (Out section.way)) 1 1
+            (view_of self.old).room (view_of self.old) result (view_of self.new) }
     {
         self.glance_as::<Brand>(line, section)
     }

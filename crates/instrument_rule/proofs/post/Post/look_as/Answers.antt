@@ -4,6 +4,7 @@ use Rattle.block_words.specs.declared.WordOp.{WordOp}
 use Rattle.block_words.specs.declared.WordOp.TheVariants as ops
 use Rattle.line_law.specs.declared.call.Act.{Act}
 use Rattle.instrument_rule.specs.Calls.{looks_by}
+use Rattle.instrument_rule.specs.Posts.{plan_of}
 use Rattle.instrument_rule.specs.Views.{caller_of}
 use Rattle.instrument_rule.proofs.Doing.{hands, no_step}
 use Rattle.instrument_rule.proofs.post.Post.look_as.Goals as goal
@@ -27,7 +28,7 @@ load-requires g c =
     let line = c.args.line.now in
     let id = line.table.shared.table_id in
     let seat = c.args.self.now.seat in
-    let h = hands J.plan line.table.shared.key id.words id.slots seat.id (caller_of seat.me.0.posts) seat.me J.call J.op
+    let h = hands J.plan (plan_of line) id.words id.slots seat.id (caller_of seat.me.0.posts) seat.me J.call J.op
     J.op J.call.act J.last c.args.place (λ n. n) no_step
     c.requires.plan line.is_plan refl refl refl c.requires.sits c.requires.may c.requires.fits line.wide
     c.requires.place (a_look J.call.act J.op c.requires.look) in

@@ -8,6 +8,7 @@ use Rattle.block_words.specs.declared.Way.{Way}
 use Rattle.block_words.specs.declared.WordOp.{WordOp}
 use Rattle.block_words.specs.declared.WordOp.TheVariants as ops
 use Rattle.line_law.specs.declared.call.Call.{Call}
+use Rattle.instrument_rule.specs.Posts.{plan_of}
 use Rattle.instrument_rule.proofs.Doing.{hands, no_step}
 use Rattle.instrument_rule.proofs.post.Post.step_as.Goals as goal
 
@@ -33,7 +34,7 @@ fetch_add-requires g c =
     let line = c.args.line.now in
     let id = line.table.shared.table_id in
     let seat = c.args.self.now.seat in
-    let h = hands J.plan line.table.shared.key id.words id.slots seat.id c.args.box_no seat.me J.call J.op c.args.op
+    let h = hands J.plan (plan_of line) id.words id.slots seat.id c.args.box_no seat.me J.call J.op c.args.op
     c.args.call.now.act J.last c.place-word.result (λ n. (n + 1) % 2 ^ 64) no_step
     c.requires.plan line.is_plan c.requires.box_no c.requires.op (ap (λ (x : Call). x.act) c.requires.call)
     c.requires.sits c.requires.may c.requires.fits line.wide c.place-word.ensures
@@ -46,7 +47,7 @@ compare_exchange-requires g c =
     let line = c.args.line.now in
     let id = line.table.shared.table_id in
     let seat = c.args.self.now.seat in
-    let h = hands J.plan line.table.shared.key id.words id.slots seat.id c.args.box_no seat.me J.call J.op c.args.op
+    let h = hands J.plan (plan_of line) id.words id.slots seat.id c.args.box_no seat.me J.call J.op c.args.op
     c.args.call.now.act J.last c.place-word.result (λ n. either (eqb n c.in-Ring.expect) c.in-Ring.new n) no_step
     c.requires.plan line.is_plan c.requires.box_no c.requires.op (ap (λ (x : Call). x.act) c.requires.call)
     c.requires.sits c.requires.may c.requires.fits line.wide c.place-word.ensures
@@ -59,7 +60,7 @@ fetch_and-requires g c =
     let line = c.args.line.now in
     let id = line.table.shared.table_id in
     let seat = c.args.self.now.seat in
-    let h = hands J.plan line.table.shared.key id.words id.slots seat.id c.args.box_no seat.me J.call J.op c.args.op
+    let h = hands J.plan (plan_of line) id.words id.slots seat.id c.args.box_no seat.me J.call J.op c.args.op
     c.args.call.now.act J.last c.place-word.result (λ n. bit_and n COUNT_MASK) no_step
     c.requires.plan line.is_plan c.requires.box_no c.requires.op (ap (λ (x : Call). x.act) c.requires.call)
     c.requires.sits c.requires.may c.requires.fits line.wide c.place-word.ensures
@@ -72,7 +73,7 @@ swap-requires g c =
     let line = c.args.line.now in
     let id = line.table.shared.table_id in
     let seat = c.args.self.now.seat in
-    let h = hands J.plan line.table.shared.key id.words id.slots seat.id c.args.box_no seat.me J.call J.op c.args.op
+    let h = hands J.plan (plan_of line) id.words id.slots seat.id c.args.box_no seat.me J.call J.op c.args.op
     c.args.call.now.act J.last c.place-word.result (λ _. c.in-Turn.new) no_step
     c.requires.plan line.is_plan c.requires.box_no c.requires.op (ap (λ (x : Call). x.act) c.requires.call)
     c.requires.sits c.requires.may c.requires.fits line.wide c.place-word.ensures
@@ -85,7 +86,7 @@ fetch_or-requires g c =
     let line = c.args.line.now in
     let id = line.table.shared.table_id in
     let seat = c.args.self.now.seat in
-    let h = hands J.plan line.table.shared.key id.words id.slots seat.id c.args.box_no seat.me J.call J.op c.args.op
+    let h = hands J.plan (plan_of line) id.words id.slots seat.id c.args.box_no seat.me J.call J.op c.args.op
     c.args.call.now.act J.last c.place-word.result (λ n. bit_or n SPENT_BIT) no_step
     c.requires.plan line.is_plan c.requires.box_no c.requires.op (ap (λ (x : Call). x.act) c.requires.call)
     c.requires.sits c.requires.may c.requires.fits line.wide c.place-word.ensures
@@ -98,7 +99,7 @@ fetch_or-requires-in-Enter g c =
     let line = c.args.line.now in
     let id = line.table.shared.table_id in
     let seat = c.args.self.now.seat in
-    let h = hands J.plan line.table.shared.key id.words id.slots seat.id c.args.box_no seat.me J.call J.op c.args.op
+    let h = hands J.plan (plan_of line) id.words id.slots seat.id c.args.box_no seat.me J.call J.op c.args.op
     c.args.call.now.act J.last c.place-word.result (λ n. bit_or n c.in-Enter.bits) no_step
     c.requires.plan line.is_plan c.requires.box_no c.requires.op (ap (λ (x : Call). x.act) c.requires.call)
     c.requires.sits c.requires.may c.requires.fits line.wide c.place-word.ensures
@@ -111,7 +112,7 @@ fetch_and-requires-in-TakeOut g c =
     let line = c.args.line.now in
     let id = line.table.shared.table_id in
     let seat = c.args.self.now.seat in
-    let h = hands J.plan line.table.shared.key id.words id.slots seat.id c.args.box_no seat.me J.call J.op c.args.op
+    let h = hands J.plan (plan_of line) id.words id.slots seat.id c.args.box_no seat.me J.call J.op c.args.op
     c.args.call.now.act J.last c.place-word.result (λ n. bit_and n c.in-TakeOut.mask) no_step
     c.requires.plan line.is_plan c.requires.box_no c.requires.op (ap (λ (x : Call). x.act) c.requires.call)
     c.requires.sits c.requires.may c.requires.fits line.wide c.place-word.ensures
@@ -124,7 +125,7 @@ load-requires g c =
     let line = c.args.line.now in
     let id = line.table.shared.table_id in
     let seat = c.args.self.now.seat in
-    let h = hands J.plan line.table.shared.key id.words id.slots seat.id c.args.box_no seat.me J.call J.op c.args.op
+    let h = hands J.plan (plan_of line) id.words id.slots seat.id c.args.box_no seat.me J.call J.op c.args.op
     c.args.call.now.act J.last c.place-word.result (λ n. n) no_step
     c.requires.plan line.is_plan c.requires.box_no c.requires.op (ap (λ (x : Call). x.act) c.requires.call)
     c.requires.sits c.requires.may c.requires.fits line.wide c.place-word.ensures
