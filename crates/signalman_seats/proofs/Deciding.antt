@@ -52,27 +52,16 @@ move_undecided box_plan act here train n last (Some way) op e h = h way
 by_act : (box_plan : BoxFields) (act : Act) (here : BoxState) (n : ℕ) (last : Bool) (op : WordOp)
     → second_by box_plan act here ≡ Some op → met_by box_plan act here n ≡ true
     → op_decides box_plan act here (first_by box_plan act here) last n ≡ false
-by_act box_plan (acts.Ring side code) here n last op e h = absurd cc
-by_act box_plan (acts.Hear side) here n last op e h = absurd cc
 by_act box_plan (acts.AwaitBell side code) here n last op e h = not_there last (bell_code n) code h
-by_act box_plan (acts.Turn way p) here n last op e h = absurd cc
-by_act box_plan (acts.AwaitBlock way p) here n last op e h = absurd cc
-by_act box_plan (acts.Pull lever) here n last op e h = absurd cc
-by_act box_plan (acts.Put lever) here n last op e h = absurd cc
-by_act box_plan (acts.Bring train) here n last op e h = absurd cc
 by_act box_plan (acts.Pass lever) here n last op e h = move_undecided box_plan (acts.Pass lever) here _ n last
     (starter_way (signal_of box_plan lever)) op e (λ way. zero_lane
     (next_lane here (way_of (link_of box_plan (acts.Pass lever))) n) h)
 by_act box_plan (acts.Overrun lever) here n last op e h = move_undecided box_plan (acts.Overrun lever) here _ n last
     (starter_way (signal_of box_plan lever)) op e (λ way. zero_lane
     (next_lane here (way_of (link_of box_plan (acts.Overrun lever))) n) h)
-by_act box_plan (acts.AwaitTrain way) here n last op e h = absurd cc
-by_act box_plan (acts.Berth way) here n last op e h = absurd cc
-by_act box_plan (acts.BerthPart way) here n last op e h = absurd cc
-by_act box_plan (acts.ClearPortion way) here n last op e h = absurd cc
-by_act box_plan (acts.Wind way) here n last op e h = absurd cc
-by_act box_plan (acts.Release way) here n last op e h = absurd cc
+by_act box_plan act here n last op e h = absurd cc
 
+-- a first operation that has met what it was for, with a second one due, decides nothing
 pub undecided : (box_plan : BoxFields) (act : Act) (here : BoxState) (k : Kind) (n : ℕ) (last : Bool) (op : WordOp)
     → second_on k (second_by box_plan act here) ≡ Some op → met_by box_plan act here n ≡ true
     → op_decides box_plan act here (first_on k (first_by box_plan act here)) last n ≡ false
@@ -99,26 +88,18 @@ pull_decides box_plan act here n last (Some way) = refl
 alone_by : (box_plan : BoxFields) (act : Act) (here : BoxState) (n : ℕ) (last : Bool)
     → second_by box_plan act here ≡ None → met_by box_plan act here n ≡ true
     → op_decides box_plan act here (first_by box_plan act here) last n ≡ true
-alone_by box_plan (acts.Ring side code) here n last e h = refl
-alone_by box_plan (acts.Hear side) here n last e h = refl
 alone_by box_plan (acts.AwaitBell side code) here n last e h = absurd cc
-alone_by box_plan (acts.Turn way p) here n last e h = refl
 alone_by box_plan (acts.AwaitBlock way p) here n last e h = or_yes last (same_position (block_position n) p) h
 alone_by box_plan (acts.Pull lever) here n last e h = pull_decides box_plan (acts.Pull lever) here n last
     (starter_way (signal_of box_plan lever))
-alone_by box_plan (acts.Put lever) here n last e h = refl
-alone_by box_plan (acts.Bring train) here n last e h = refl
 alone_by box_plan (acts.Pass lever) here n last e h = move_alone box_plan (acts.Pass lever) here _ n last
     (starter_way (signal_of box_plan lever)) e
 alone_by box_plan (acts.Overrun lever) here n last e h = move_alone box_plan (acts.Overrun lever) here _ n last
     (starter_way (signal_of box_plan lever)) e
 alone_by box_plan (acts.AwaitTrain way) here n last e h = or_yes last (nat_lt 0 (lane n (next_number here way))) h
-alone_by box_plan (acts.Berth way) here n last e h = refl
-alone_by box_plan (acts.BerthPart way) here n last e h = refl
-alone_by box_plan (acts.ClearPortion way) here n last e h = refl
-alone_by box_plan (acts.Wind way) here n last e h = refl
-alone_by box_plan (acts.Release way) here n last e h = refl
+alone_by box_plan act here n last e h = refl
 
+-- one that has met what it was for, with no second one, decides its call
 pub alone : (box_plan : BoxFields) (act : Act) (here : BoxState) (k : Kind) (n : ℕ) (last : Bool)
     → second_on k (second_by box_plan act here) ≡ None → met_by box_plan act here n ≡ true
     → op_decides box_plan act here (first_on k (first_by box_plan act here)) last n ≡ true
@@ -139,28 +120,18 @@ move_last box_plan act here n (Some way) h = h way
 
 last_by : (box_plan : BoxFields) (act : Act) (here : BoxState) (n : ℕ) → met_by box_plan act here n ≡ false
     → op_decides box_plan act here (first_by box_plan act here) true n ≡ true
-last_by box_plan (acts.Ring side code) here n h = refl
-last_by box_plan (acts.Hear side) here n h = refl
 last_by box_plan (acts.AwaitBell side code) here n h = not_equal (bell_code n) code h
-last_by box_plan (acts.Turn way p) here n h = refl
-last_by box_plan (acts.AwaitBlock way p) here n h = refl
 last_by box_plan (acts.Pull lever) here n h = pull_decides box_plan (acts.Pull lever) here n true
     (starter_way (signal_of box_plan lever))
-last_by box_plan (acts.Put lever) here n h = refl
-last_by box_plan (acts.Bring train) here n h = refl
 last_by box_plan (acts.Pass lever) here n h = move_last box_plan (acts.Pass lever) here n
     (starter_way (signal_of box_plan lever)) (λ way. some_lane
     (next_lane here (way_of (link_of box_plan (acts.Pass lever))) n) h)
 last_by box_plan (acts.Overrun lever) here n h = move_last box_plan (acts.Overrun lever) here n
     (starter_way (signal_of box_plan lever)) (λ way. some_lane
     (next_lane here (way_of (link_of box_plan (acts.Overrun lever))) n) h)
-last_by box_plan (acts.AwaitTrain way) here n h = refl
-last_by box_plan (acts.Berth way) here n h = refl
-last_by box_plan (acts.BerthPart way) here n h = refl
-last_by box_plan (acts.ClearPortion way) here n h = refl
-last_by box_plan (acts.Wind way) here n h = refl
-last_by box_plan (acts.Release way) here n h = refl
+last_by box_plan act here n h = refl
 
+-- a last look that has not met what it was for decides its call
 pub at_last : (box_plan : BoxFields) (act : Act) (here : BoxState) (k : Kind) (n : ℕ)
     → met_by box_plan act here n ≡ false → op_decides box_plan act here (first_on k (first_by box_plan act here)) true
     n ≡ true
@@ -175,76 +146,34 @@ pub record Waits (plan : PlanFields) (box_plan : BoxFields) (act : Act) (here : 
       (first_by box_plan act here)) false n ≡ false
   pub one : looks_by act (first_on (kind_of (decide plan box_plan act here)) (first_by box_plan act here)) ≡ 1
 
+-- an await that has not met what it was for waits on
 pub waits : (plan : PlanFields) (box_plan : BoxFields) (act : Act) (here : BoxState) (n : ℕ) → awaits_of act ≡ true
     → met_by box_plan act here n ≡ false → Waits plan box_plan act here n
-waits plan box_plan (acts.Ring side code) here n a h = absurd cc
-waits plan box_plan (acts.Hear side) here n a h = absurd cc
 waits plan box_plan (acts.AwaitBell side code) here n a h = record { undecided = refl; one = refl }
-waits plan box_plan (acts.Turn way p) here n a h = absurd cc
 waits plan box_plan (acts.AwaitBlock way p) here n a h = record { undecided = h; one = refl }
-waits plan box_plan (acts.Pull lever) here n a h = absurd cc
-waits plan box_plan (acts.Put lever) here n a h = absurd cc
-waits plan box_plan (acts.Bring train) here n a h = absurd cc
-waits plan box_plan (acts.Pass lever) here n a h = absurd cc
-waits plan box_plan (acts.Overrun lever) here n a h = absurd cc
 waits plan box_plan (acts.AwaitTrain way) here n a h = record { undecided = h; one = refl }
-waits plan box_plan (acts.Berth way) here n a h = absurd cc
-waits plan box_plan (acts.BerthPart way) here n a h = absurd cc
-waits plan box_plan (acts.ClearPortion way) here n a h = absurd cc
-waits plan box_plan (acts.Wind way) here n a h = absurd cc
-waits plan box_plan (acts.Release way) here n a h = absurd cc
+waits plan box_plan act here n a h = absurd cc
 
 -- ---- how many looks an operation is
 
 -- a look of an await is one look, and any operation one at most
 pub look_one : (plan : PlanFields) (box_plan : BoxFields) (act : Act) (here : BoxState) → awaits_of act ≡ true
     → looks_by act (first_on (kind_of (decide plan box_plan act here)) (first_by box_plan act here)) ≡ 1
-look_one plan box_plan (acts.Ring side code) here a = absurd cc
-look_one plan box_plan (acts.Hear side) here a = absurd cc
 look_one plan box_plan (acts.AwaitBell side code) here a = refl
-look_one plan box_plan (acts.Turn way p) here a = absurd cc
 look_one plan box_plan (acts.AwaitBlock way p) here a = refl
-look_one plan box_plan (acts.Pull lever) here a = absurd cc
-look_one plan box_plan (acts.Put lever) here a = absurd cc
-look_one plan box_plan (acts.Bring train) here a = absurd cc
-look_one plan box_plan (acts.Pass lever) here a = absurd cc
-look_one plan box_plan (acts.Overrun lever) here a = absurd cc
 look_one plan box_plan (acts.AwaitTrain way) here a = refl
-look_one plan box_plan (acts.Berth way) here a = absurd cc
-look_one plan box_plan (acts.BerthPart way) here a = absurd cc
-look_one plan box_plan (acts.ClearPortion way) here a = absurd cc
-look_one plan box_plan (acts.Wind way) here a = absurd cc
-look_one plan box_plan (acts.Release way) here a = absurd cc
+look_one plan box_plan act here a = absurd cc
 
 count_few : (act : Act) → look_count act ≤ 1
-count_few (acts.Ring side code) = omega arith
-count_few (acts.Hear side) = omega arith
 count_few (acts.AwaitBell side code) = omega arith
-count_few (acts.Turn way p) = omega arith
-count_few (acts.AwaitBlock way p) = omega arith
-count_few (acts.Pull lever) = omega arith
-count_few (acts.Put lever) = omega arith
-count_few (acts.Bring train) = omega arith
-count_few (acts.Pass lever) = omega arith
-count_few (acts.Overrun lever) = omega arith
-count_few (acts.AwaitTrain way) = omega arith
-count_few (acts.Berth way) = omega arith
-count_few (acts.BerthPart way) = omega arith
-count_few (acts.ClearPortion way) = omega arith
-count_few (acts.Wind way) = omega arith
-count_few (acts.Release way) = omega arith
+count_few act = omega arith
 
+-- an operation is one look at most
 pub looks_few : (act : Act) (op : WordOp) → looks_by act op ≤ 1
-looks_few act ops.Local = omega arith
-looks_few act (ops.Ring side expect new) = omega arith
-looks_few act (ops.Hear side) = omega arith
 looks_few act (ops.LookBell side) = count_few act
-looks_few act (ops.Turn way new) = omega arith
-looks_few act (ops.Pull way) = omega arith
 looks_few act (ops.LookBlock way) = count_few act
 looks_few act (ops.LookSection way) = count_few act
-looks_few act (ops.Enter way bits) = omega arith
-looks_few act (ops.TakeOut way mask) = omega arith
+looks_few act op = omega arith
 
 -- a second operation is none
 enter_none : (act : Act) (here : BoxState) (train : ℕ) (w : Option Way) (op : WordOp) → enter_op here train w ≡ Some op
@@ -253,27 +182,16 @@ enter_none act here train None op e = absurd cc
 enter_none act here train (Some way) op e = let same : ops.Enter way (lane_bits (of_way here.sent way + 1) train) ≡ op =
     cc in ap (looks_by act) (sym same)
 
+-- a second operation is no look
 pub second_none : (box_plan : BoxFields) (act : Act) (here : BoxState) (op : WordOp)
     → second_by box_plan act here ≡ Some op → looks_by act op ≡ 0
-second_none box_plan (acts.Ring side code) here op e = absurd cc
-second_none box_plan (acts.Hear side) here op e = absurd cc
 second_none box_plan (acts.AwaitBell side code) here op e = let same : ops.Hear side ≡ op = cc in
     ap (looks_by (acts.AwaitBell side code)) (sym same)
-second_none box_plan (acts.Turn way p) here op e = absurd cc
-second_none box_plan (acts.AwaitBlock way p) here op e = absurd cc
-second_none box_plan (acts.Pull lever) here op e = absurd cc
-second_none box_plan (acts.Put lever) here op e = absurd cc
-second_none box_plan (acts.Bring train) here op e = absurd cc
 second_none box_plan (acts.Pass lever) here op e = enter_none (acts.Pass lever) here _
     (starter_way (signal_of box_plan lever)) op e
 second_none box_plan (acts.Overrun lever) here op e = enter_none (acts.Overrun lever) here _
     (starter_way (signal_of box_plan lever)) op e
-second_none box_plan (acts.AwaitTrain way) here op e = absurd cc
-second_none box_plan (acts.Berth way) here op e = absurd cc
-second_none box_plan (acts.BerthPart way) here op e = absurd cc
-second_none box_plan (acts.ClearPortion way) here op e = absurd cc
-second_none box_plan (acts.Wind way) here op e = absurd cc
-second_none box_plan (acts.Release way) here op e = absurd cc
+second_none box_plan act here op e = absurd cc
 
 -- the looks of a first operation of an ask, and of a second
 -- an await that was decided at its second operation has met what it was for
@@ -283,41 +201,13 @@ yes_equal m n h = grind (arith, nat_tests)
 second_met : (plan : PlanFields) (box_plan : BoxFields) (act : Act) (here : BoxState) (op : WordOp) (n : ℕ)
     → awaits_of act ≡ true → second_op plan box_plan act here ≡ Some op → AtSecond plan box_plan act here n
     → met_by box_plan act here n ≡ true
-second_met plan box_plan (acts.Ring side code) here op n a e h = absurd cc
-second_met plan box_plan (acts.Hear side) here op n a e h = absurd cc
 second_met plan box_plan (acts.AwaitBell side code) here op n a e h = yes_equal (bell_code n) code h
-second_met plan box_plan (acts.Turn way p) here op n a e h = absurd cc
-second_met plan box_plan (acts.AwaitBlock way p) here op n a e h = absurd cc
-second_met plan box_plan (acts.Pull lever) here op n a e h = absurd cc
-second_met plan box_plan (acts.Put lever) here op n a e h = absurd cc
-second_met plan box_plan (acts.Bring train) here op n a e h = absurd cc
-second_met plan box_plan (acts.Pass lever) here op n a e h = absurd cc
-second_met plan box_plan (acts.Overrun lever) here op n a e h = absurd cc
-second_met plan box_plan (acts.AwaitTrain way) here op n a e h = absurd cc
-second_met plan box_plan (acts.Berth way) here op n a e h = absurd cc
-second_met plan box_plan (acts.BerthPart way) here op n a e h = absurd cc
-second_met plan box_plan (acts.ClearPortion way) here op n a e h = absurd cc
-second_met plan box_plan (acts.Wind way) here op n a e h = absurd cc
-second_met plan box_plan (acts.Release way) here op n a e h = absurd cc
+second_met plan box_plan act here op n a e h = absurd cc
 
 two_ops : (plan : PlanFields) (box_plan : BoxFields) (act : Act) (here : BoxState) (op : WordOp) → awaits_of act ≡ true
     → first_op plan box_plan act here ≡ op → second_op plan box_plan act here ≡ Some op → ⊥
-two_ops plan box_plan (acts.Ring side code) here op a e h = absurd cc
-two_ops plan box_plan (acts.Hear side) here op a e h = absurd cc
 two_ops plan box_plan (acts.AwaitBell side code) here op a e h = let other : ops.Hear side ≡ op = cc in absurd cc
-two_ops plan box_plan (acts.Turn way p) here op a e h = absurd cc
-two_ops plan box_plan (acts.AwaitBlock way p) here op a e h = absurd cc
-two_ops plan box_plan (acts.Pull lever) here op a e h = absurd cc
-two_ops plan box_plan (acts.Put lever) here op a e h = absurd cc
-two_ops plan box_plan (acts.Bring train) here op a e h = absurd cc
-two_ops plan box_plan (acts.Pass lever) here op a e h = absurd cc
-two_ops plan box_plan (acts.Overrun lever) here op a e h = absurd cc
-two_ops plan box_plan (acts.AwaitTrain way) here op a e h = absurd cc
-two_ops plan box_plan (acts.Berth way) here op a e h = absurd cc
-two_ops plan box_plan (acts.BerthPart way) here op a e h = absurd cc
-two_ops plan box_plan (acts.ClearPortion way) here op a e h = absurd cc
-two_ops plan box_plan (acts.Wind way) here op a e h = absurd cc
-two_ops plan box_plan (acts.Release way) here op a e h = absurd cc
+two_ops plan box_plan act here op a e h = absurd cc
 
 -- so it has where the law decided it at a second operation
 pub sure_met : (plan : PlanFields) (box_plan : BoxFields) (act : Act) (here : BoxState) (op : WordOp) (n : ℕ)
@@ -333,45 +223,15 @@ sure_met plan box_plan act here op n a e h = ⊎_elim
 
 -- a first operation adds a look exactly where its call is an await
 not_counted : (act : Act) (op : WordOp) → look_count act ≡ 0 → looks_by act op ≡ 0
-not_counted act ops.Local h = refl
-not_counted act (ops.Ring side expect new) h = refl
-not_counted act (ops.Hear side) h = refl
 not_counted act (ops.LookBell side) h = h
-not_counted act (ops.Turn way new) h = refl
-not_counted act (ops.Pull way) h = refl
 not_counted act (ops.LookBlock way) h = h
 not_counted act (ops.LookSection way) h = h
-not_counted act (ops.Enter way bits) h = refl
-not_counted act (ops.TakeOut way mask) h = refl
+not_counted act op h = refl
 
+-- a first operation is a look exactly where its call is an await
 pub first_counted : (plan : PlanFields) (box_plan : BoxFields) (act : Act) (here : BoxState)
     → looks_by act (first_op plan box_plan act here) ≡ one_if (awaits_of act)
-first_counted plan box_plan (acts.Ring side code) here = not_counted (acts.Ring side code)
-    (first_op plan box_plan (acts.Ring side code) here) refl
-first_counted plan box_plan (acts.Hear side) here = not_counted (acts.Hear side)
-    (first_op plan box_plan (acts.Hear side) here) refl
 first_counted plan box_plan (acts.AwaitBell side code) here = refl
-first_counted plan box_plan (acts.Turn way p) here = not_counted (acts.Turn way p)
-    (first_op plan box_plan (acts.Turn way p) here) refl
 first_counted plan box_plan (acts.AwaitBlock way p) here = refl
-first_counted plan box_plan (acts.Pull lever) here = not_counted (acts.Pull lever)
-    (first_op plan box_plan (acts.Pull lever) here) refl
-first_counted plan box_plan (acts.Put lever) here = not_counted (acts.Put lever)
-    (first_op plan box_plan (acts.Put lever) here) refl
-first_counted plan box_plan (acts.Bring train) here = not_counted (acts.Bring train)
-    (first_op plan box_plan (acts.Bring train) here) refl
-first_counted plan box_plan (acts.Pass lever) here = not_counted (acts.Pass lever)
-    (first_op plan box_plan (acts.Pass lever) here) refl
-first_counted plan box_plan (acts.Overrun lever) here = not_counted (acts.Overrun lever)
-    (first_op plan box_plan (acts.Overrun lever) here) refl
 first_counted plan box_plan (acts.AwaitTrain way) here = refl
-first_counted plan box_plan (acts.Berth way) here = not_counted (acts.Berth way)
-    (first_op plan box_plan (acts.Berth way) here) refl
-first_counted plan box_plan (acts.BerthPart way) here = not_counted (acts.BerthPart way)
-    (first_op plan box_plan (acts.BerthPart way) here) refl
-first_counted plan box_plan (acts.ClearPortion way) here = not_counted (acts.ClearPortion way)
-    (first_op plan box_plan (acts.ClearPortion way) here) refl
-first_counted plan box_plan (acts.Wind way) here = not_counted (acts.Wind way) (first_op plan box_plan (acts.Wind way)
-    here) refl
-first_counted plan box_plan (acts.Release way) here = not_counted (acts.Release way)
-    (first_op plan box_plan (acts.Release way) here) refl
+first_counted plan box_plan act here = not_counted act (first_op plan box_plan act here) refl

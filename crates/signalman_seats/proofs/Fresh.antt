@@ -17,6 +17,7 @@ use Rattle.signalman_seats.specs.declared.notes.PlanNotes.{PlanNotes}
 use Rattle.signalman_seats.specs.Men.{AreFittings, IsAtDesk, IsDrawn, IsMan, Man}
 use Rattle.signalman_seats.specs.Notes.{AreNotesOf}
 
+-- a man with a post that was just drawn and fittings that were just opened
 pub new_man : (plan : PlanFields) (b room : ℕ) (v : View) (desk : DeskFields) (register : RegisterFields)
     (notes : PlanNotes) → b < length plan.boxes → room ≤ 10000 → IsDrawn plan b v
     → AreFittings plan b room desk register notes → IsMan v b desk register 0 notes

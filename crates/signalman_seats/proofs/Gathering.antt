@@ -29,6 +29,7 @@ pub legal_there : (plan : PlanFields) (o : Option PlanFields) (seen : List Entry
     → IsLegal plan seen
 legal_there plan o seen e h = subst (λ (p : Option PlanFields). LegalFor p seen) e h
 
+-- what holds of a plan, if there is one, holds of the one that is there
 pub desk_there : (plan : PlanFields) (o : Option PlanFields) (P : PlanFields → Type 0) → o ≡ Some plan → IfSome o P
     → P plan
 desk_there plan o P e h = subst (λ (p : Option PlanFields). IfSome p P) e h
@@ -102,6 +103,7 @@ still v w man new g s posts = record {
   glances = g.glances;
 }
 
+-- one man more is gathered
 pub gathers : (v w : View) (men : List Man) (registers : List RegisterFields) (man : Man) (register : RegisterFields)
     → Joined v men registers → length registers ≡ length men
     → Seen w.seen v.posts v.seen → Seen w.seen man.view.posts man.view.seen → w.posts ≡ v.posts ++ man.view.posts
@@ -139,6 +141,7 @@ some_man : (men : List Man) → 0 < length men → Man
 some_man [] h = absurd (omega arith)
 some_man (man ∷ men) h = man
 
+-- all men are gathered: the line is closed
 pub closes : (table_id : TableId) (plan : PlanFields) (v : View) (men : List Man) (registers : List RegisterFields)
     → IsPlan plan → AreMen table_id plan men → Joined v men registers → length registers ≡ length men
     → v.plan ≡ Some plan → LegalFor v.plan v.seen → Closed plan men registers
@@ -178,6 +181,7 @@ one_of table_id plan men before man later are e =
     let k : length (before ++ man ∷ later) ≡ length men = ap length e in omega arith) in
     subst (λ (m : Man). IsOf table_id plan m) there (are.of_line (length before) man lt)
 
+-- no men are left where there are none
 pub none_left : (men : List Man) → length men ≡ 0 → men ≡ []
 none_left [] h = refl
 none_left (man ∷ men) h = absurd (omega arith)

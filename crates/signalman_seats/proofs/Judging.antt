@@ -137,12 +137,15 @@ shows_then plan desk ask last v w x l n sits may at once h told = record {
 
 -- ---- what a result tells
 
+-- what holds of a word that was met
 pub of_ok : (P : ℕ → Type 0) (r : Result ℕ ℕ) (n : ℕ) → r ≡ Ok n → IfOk r P → P n
 of_ok P r n e h = subst (λ (q : Result ℕ ℕ). IfOk q P) e h
 
+-- what holds of a number that a look showed in vain
 pub of_err : (P : ℕ → Type 0) (r : Result ℕ ℕ) (n : ℕ) → r ≡ Err n → IfErr r P → P n
 of_err P r n e h = subst (λ (q : Result ℕ ℕ). IfErr q P) e h
 
+-- what holds of a number holds of what is kept of it
 pub of_same : (P : ℕ → Type 0) (o : Option ℕ) (n : ℕ) → P n → IfSome o (λ m. m ≡ n) → IfSome o P
 of_same P None n p h = tt
 of_same P (Some m) n p h = subst P (sym h) p

@@ -45,6 +45,7 @@ use Rattle.signalman_seats.proofs.Deciding.{undecided, waits}
 
 -- ---- the ask of a call, in the box as its post has seen it
 
+-- the operations of an ask are those of the table in the box as its post has seen it
 pub record IsAsk (plan : PlanFields) (v : View) (ask : WordAsk) : Type 0 where
   pub first : first_op plan (box_plan_of plan (caller_of v.posts)) ask.call.act (here_at plan v.seen (caller_of v.posts)
       ask.call) ≡ ask.first
@@ -52,6 +53,7 @@ pub record IsAsk (plan : PlanFields) (v : View) (ask : WordAsk) : Type 0 where
       (here_at plan v.seen (caller_of v.posts) ask.call) ≡ ask.second
   pub awaits : awaits_of ask.call.act ≡ ask.awaits
 
+-- as the desk asks
 pub is_ask : (plan : PlanFields) (v : View) (desk : DeskFields) (ask : WordAsk) → AsksAt plan v desk ask
     → IsAsk plan v ask
 is_ask plan v desk ask at = record {
@@ -67,6 +69,7 @@ pub await_told : (plan : PlanFields) (v : View) (desk : DeskFields) (ask : WordA
     → awaits_of ask.call.act ≡ true → ask.awaits ≡ true
 await_told plan v desk ask at e = sym (is_ask plan v desk ask at).awaits ∙ e
 
+-- yes isn't no
 pub differ : true ≡ false → ⊥
 differ e = cc
 
@@ -80,6 +83,7 @@ same_test plan v desk ask n t at is = sym (is ∙ (λ i. met_by (at.asked.desk_o
 
 -- ---- what was seen, and what follows
 
+-- a beginning of a beginning is a beginning
 pub prefix_trans : (xs ys zs : List Entry) → IsPrefix xs ys → IsPrefix ys zs → IsPrefix xs zs
 prefix_trans xs ys zs a b = (a.0 ++ b.0, sym (append_assoc xs a.0 b.0) ∙ ap (λ (l : List Entry). l ++ b.0) a.1 ∙ b.1)
 
@@ -95,6 +99,7 @@ pub made_is : (plan : PlanFields) (call : Call) (op : WordOp) (last : Bool) (v :
     n ≡ true → MadeOrSaw true plan call op v n w
 made_is plan call op last v n w told h = subst (λ (d : Bool). MadeOrSaw d plan call op v n w) h told
 
+-- a seat that looked has watched
 pub watched : (plan : PlanFields) (word : Word) (l : ℕ) (room : Option Way) (v : View) (n : ℕ) (w : View) → IsPlan plan
     → v.posts ≢ [] → Saw plan word l 0 room v n w → Watched plan v l w
 watched plan word l room v n w is holds s = subst (Watched plan v l) (sym s.now) record {
@@ -112,11 +117,13 @@ watched plan word l room v n w is holds s = subst (Watched plan v l) (sym s.now)
 pub sits_after : (plan : PlanFields) (v w : View) (l : ℕ) → Watched plan v l w → Sits plan v → Sits plan w
 sits_after plan v w l h sits = (h.same_plan ∙ sits.0, h.olds)
 
+-- while a man watches his box stays as it was
 pub same_here : (plan : PlanFields) (v w : View) (l : ℕ) (call : Call) → Watched plan v l w
     → here_at plan v.seen (caller_of v.posts) call ≡ here_at plan w.seen (caller_of w.posts) call
 same_here plan v w l call h = ap (λ (x : BoxState). at_moment x call.moment) (sym h.same_box)
     ∙ ap (λ (ps : List ℕ). here_at plan w.seen (caller_of ps) call) (sym h.posts)
 
+-- and he may still make his call
 pub may_after : (plan : PlanFields) (v w : View) (l : ℕ) (call : Call) → Watched plan v l w → MayStep plan call v
     → MayStep plan call w
 may_after plan v w l call h may = record {
@@ -151,23 +158,11 @@ was_seen_by : (plan : PlanFields) (b : ℕ) (v : View) (act : Act) (here : BoxSt
     (op : WordOp) → second_by (box_plan_of plan b) act here ≡ Some op → met_by (box_plan_of plan b) act here n ≡ true
     → n ≡ number_after plan log (op_word b act (first_by (box_plan_of plan b) act here))
     → WasSeen plan b (seeing v log l 0 (room_seen (box_plan_of plan b) act v.room)) act
-was_seen_by plan b v (acts.Ring side code) here n log l op e h found = absurd cc
-was_seen_by plan b v (acts.Hear side) here n log l op e h found = absurd cc
 was_seen_by plan b v (acts.AwaitBell side code) here n log l op e h found = ap bell_code (sym found)
     ∙ same_code (bell_code n) code h
-was_seen_by plan b v (acts.Turn way p) here n log l op e h found = absurd cc
-was_seen_by plan b v (acts.AwaitBlock way p) here n log l op e h found = absurd cc
-was_seen_by plan b v (acts.Pull lever) here n log l op e h found = absurd cc
-was_seen_by plan b v (acts.Put lever) here n log l op e h found = absurd cc
-was_seen_by plan b v (acts.Bring train) here n log l op e h found = absurd cc
 was_seen_by plan b v (acts.Pass lever) here n log l op e h found = refl
 was_seen_by plan b v (acts.Overrun lever) here n log l op e h found = refl
-was_seen_by plan b v (acts.AwaitTrain way) here n log l op e h found = absurd cc
-was_seen_by plan b v (acts.Berth way) here n log l op e h found = absurd cc
-was_seen_by plan b v (acts.BerthPart way) here n log l op e h found = absurd cc
-was_seen_by plan b v (acts.ClearPortion way) here n log l op e h found = absurd cc
-was_seen_by plan b v (acts.Wind way) here n log l op e h found = absurd cc
-was_seen_by plan b v (acts.Release way) here n log l op e h found = absurd cc
+was_seen_by plan b v act here n log l op e h found = absurd cc
 
 was_seen : (plan : PlanFields) (b : ℕ) (v : View) (act : Act) (here : BoxState) (k : Kind) (n : ℕ) (log : List Entry)
     (l : ℕ) (op : WordOp) → second_on k (second_by (box_plan_of plan b) act here) ≡ Some op
@@ -305,6 +300,7 @@ second_decides plan ask v op n asked two =
     (kind_of (decide plan box_plan ask.call.act here)) (second_by box_plan ask.call.act here) op (asked.second
     ∙ two))
 
+-- a look that isn't the last of its call is an await's
 pub await_yes : (t a l : Bool) → t ≡ a → (a ≡ false → l ≡ true) → l ≡ false → t ≡ true
 await_yes true a l e h more = refl
 await_yes false a l e h more = let must : l ≡ true = h (sym e) in absurd cc

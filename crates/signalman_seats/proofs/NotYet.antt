@@ -44,53 +44,10 @@ use Rattle.box_desk.specs.Steps.{awaits_of}
 
 -- a call that was decided in its box alone isn't told so
 tally_ends : (reply : Reply) → kind_told reply ≡ Tally → is_not_yet reply ≡ false
-tally_ends (replies.Rung k) h = refl
-tally_ends (replies.BellBusy code k) h = refl
-tally_ends (replies.Heard code k) h = refl
-tally_ends (replies.Silent k) h = refl
 tally_ends (replies.BellNotYet shown k) h = absurd cc
-tally_ends (replies.Turned v) h = refl
-tally_ends replies.AlreadyThere h = refl
-tally_ends replies.NotFromNormal h = refl
-tally_ends (replies.HomeReversed lever) h = refl
-tally_ends (replies.TrackOccupied place train) h = refl
-tally_ends (replies.WelwynHolds state) h = refl
-tally_ends (replies.CountFull out) h = refl
-tally_ends (replies.Seen v) h = refl
 tally_ends (replies.BlockNotYet shown v) h = absurd cc
-tally_ends replies.Pulled h = refl
-tally_ends (replies.PulledUnder v) h = refl
-tally_ends replies.AlreadyReversed h = refl
-tally_ends replies.Spare h = refl
-tally_ends (replies.HeldByLever lever row) h = refl
-tally_ends (replies.HeldByTrack place train) h = refl
-tally_ends (replies.HeldByInstrument way shown spent v) h = refl
-tally_ends replies.Put h = refl
-tally_ends replies.AlreadyNormal h = refl
-tally_ends replies.Brought h = refl
-tally_ends replies.AlreadyBrought h = refl
-tally_ends (replies.Occupied place train) h = refl
-tally_ends (replies.Passed train) h = refl
-tally_ends (replies.Entered train k) h = refl
-tally_ends replies.NoTrain h = refl
-tally_ends replies.AtDanger h = refl
-tally_ends replies.ArmOff h = refl
-tally_ends (replies.SectionFull k) h = refl
-tally_ends (replies.Approaching train j) h = refl
 tally_ends (replies.TrainNotYet j) h = absurd cc
-tally_ends (replies.Berthed train j) h = refl
-tally_ends (replies.PartBerthed train j) h = refl
-tally_ends (replies.NoTrainAt j) h = refl
-tally_ends (replies.BerthOccupied train) h = refl
-tally_ends (replies.PortionAhead train) h = refl
-tally_ends (replies.Cleared train j) h = refl
-tally_ends replies.NoPortion h = refl
-tally_ends (replies.Winding ready_at) h = refl
-tally_ends replies.AlreadyWinding h = refl
-tally_ends replies.NotAtNormal h = refl
-tally_ends replies.Released h = refl
-tally_ends replies.NotWinding h = refl
-tally_ends (replies.TooSoon ready_at) h = refl
+tally_ends reply h = refl
 
 -- nor is one with two replies of which neither is
 of_two : {W : Type 0} (b : Bool) (x y : Told W) → is_not_yet x.reply ≡ false → is_not_yet y.reply ≡ false
@@ -189,6 +146,7 @@ not_so : {A : Type 0} (b : Bool) → b ≡ false → b ≡ true → A
 not_so true h e = absurd cc
 not_so false h e = absurd cc
 
+-- a reply that an await isn't satisfied yet tells that its word missed what it looks for
 pub not_yet_missed : (plan : PlanFields) (box_plan : BoxFields) (act : Act) (here : BoxState) (d : Decision)
     (pair : PairState) → Outcome plan box_plan here act d → TellsKind d → HasCode act
     → Agrees (kind_of d) (link_of box_plan act) here pair → is_not_yet (on_pair (way_of (link_of box_plan act)) d

@@ -47,11 +47,7 @@ act_by plan b notes (acts.AwaitBell side code) is = λ i. has_neighbour (is.boxe
 act_by plan b notes (acts.Turn way p) is = λ i. comes_in (is.boxes i) b way && is_some
     (berth_of (box_plan_of plan b) way)
 act_by plan b notes (acts.AwaitBlock way p) is = λ i. leaves (is.boxes i) b way
-act_by plan b notes (acts.Pull lever) is = refl
-act_by plan b notes (acts.Put lever) is = refl
 act_by plan b notes (acts.Bring train) is = train_by plan b notes train is
-act_by plan b notes (acts.Pass lever) is = refl
-act_by plan b notes (acts.Overrun lever) is = refl
 act_by plan b notes (acts.AwaitTrain way) is = λ i. comes_in (is.boxes i) b way && is_some
     (berth_of (box_plan_of plan b) way)
 act_by plan b notes (acts.Berth way) is = λ i. comes_in (is.boxes i) b way && is_some
@@ -63,7 +59,9 @@ act_by plan b notes (acts.ClearPortion way) is = λ i. comes_in (is.boxes i) b w
 act_by plan b notes (acts.Wind way) is = λ i. comes_in (is.boxes i) b way && is_some (berth_of (box_plan_of plan b) way)
 act_by plan b notes (acts.Release way) is = λ i. comes_in (is.boxes i) b way && is_some
     (berth_of (box_plan_of plan b) way)
+act_by plan b notes act is = refl
 
+-- the notes know a call exactly where the plan does
 pub known_by_notes : (plan : PlanFields) (b : ℕ) (notes : PlanNotes) (box_plan : BoxFields) (call : Call)
     → AreNotesOf plan b notes → box_plan ≡ box_plan_of plan b
     → notes_know notes box_plan b call ≡ knows_call plan b call

@@ -186,19 +186,7 @@ await_on_word : (plan : PlanFields) (box_plan : BoxFields) (act : Act) (here : B
 await_on_word plan box_plan (acts.AwaitBell side code) here e = tt
 await_on_word plan box_plan (acts.AwaitBlock way position) here e = tt
 await_on_word plan box_plan (acts.AwaitTrain way) here e = tt
-await_on_word plan box_plan (acts.Ring side code) here e = absurd cc
-await_on_word plan box_plan (acts.Hear side) here e = absurd cc
-await_on_word plan box_plan (acts.Turn way position) here e = absurd cc
-await_on_word plan box_plan (acts.Pull lever) here e = absurd cc
-await_on_word plan box_plan (acts.Put lever) here e = absurd cc
-await_on_word plan box_plan (acts.Bring train) here e = absurd cc
-await_on_word plan box_plan (acts.Pass lever) here e = absurd cc
-await_on_word plan box_plan (acts.Overrun lever) here e = absurd cc
-await_on_word plan box_plan (acts.Berth way) here e = absurd cc
-await_on_word plan box_plan (acts.BerthPart way) here e = absurd cc
-await_on_word plan box_plan (acts.ClearPortion way) here e = absurd cc
-await_on_word plan box_plan (acts.Wind way) here e = absurd cc
-await_on_word plan box_plan (acts.Release way) here e = absurd cc
+await_on_word plan box_plan act here e = absurd cc
 
 -- so an await is never decided at the desk alone
 pub never_here : (plan : PlanFields) (box_plan : BoxFields) (act : Act) (here : BoxState)
@@ -212,21 +200,7 @@ code_some plan code h = let p = both (nat_le 1 code) (nat_le code (length plan.c
 has_code : (plan : PlanFields) (b : ℕ) (act : Act) → IsTrue (knows_act plan b act) → HasCode act
 has_code plan b (acts.AwaitBell side code) h = code_some plan code (both (knows_side plan b side) (is_code_no plan code)
     h).1
-has_code plan b (acts.Ring side code) h = tt
-has_code plan b (acts.Hear side) h = tt
-has_code plan b (acts.Turn way position) h = tt
-has_code plan b (acts.AwaitBlock way position) h = tt
-has_code plan b (acts.Pull lever) h = tt
-has_code plan b (acts.Put lever) h = tt
-has_code plan b (acts.Bring train) h = tt
-has_code plan b (acts.Pass lever) h = tt
-has_code plan b (acts.Overrun lever) h = tt
-has_code plan b (acts.AwaitTrain way) h = tt
-has_code plan b (acts.Berth way) h = tt
-has_code plan b (acts.BerthPart way) h = tt
-has_code plan b (acts.ClearPortion way) h = tt
-has_code plan b (acts.Wind way) h = tt
-has_code plan b (acts.Release way) h = tt
+has_code plan b act h = tt
 
 -- ---- a call that was decided
 

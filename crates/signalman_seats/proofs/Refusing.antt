@@ -407,25 +407,15 @@ no_train n j h =
 
 missed_refused : (box_plan : BoxFields) (act : Act) (here : BoxState) (n : ℕ) → met_by box_plan act here n ≡ false
     → IsSome (word_refusal box_plan act here n)
-missed_refused box_plan (acts.Ring side code) here n h = absurd cc
-missed_refused box_plan (acts.Hear side) here n h = absurd cc
 missed_refused box_plan (acts.AwaitBell side code) here n h = bell_refused code (bell_count n) (bell_code n) h
-missed_refused box_plan (acts.Turn way p) here n h = absurd cc
 missed_refused box_plan (acts.AwaitBlock way p) here n h = none_or (same_position (block_position n) p) _ h
-missed_refused box_plan (acts.Pull lever) here n h = absurd cc
-missed_refused box_plan (acts.Put lever) here n h = absurd cc
-missed_refused box_plan (acts.Bring train) here n h = absurd cc
 missed_refused box_plan (acts.Pass lever) here n h = none_or
     (lane n (of_way here.sent (way_of (link_of box_plan (acts.Pass lever))) + 1) == 0) _ h
 missed_refused box_plan (acts.Overrun lever) here n h = none_or
     (lane n (of_way here.sent (way_of (link_of box_plan (acts.Overrun lever))) + 1) == 0) _ h
 missed_refused box_plan (acts.AwaitTrain way) here n h = no_train (lane n (next_number here way)) (next_number here way)
     h
-missed_refused box_plan (acts.Berth way) here n h = absurd cc
-missed_refused box_plan (acts.BerthPart way) here n h = absurd cc
-missed_refused box_plan (acts.ClearPortion way) here n h = absurd cc
-missed_refused box_plan (acts.Wind way) here n h = absurd cc
-missed_refused box_plan (acts.Release way) here n h = absurd cc
+missed_refused box_plan act here n h = absurd cc
 
 -- and so each look that was in vain
 each_refused : (plan : PlanFields) (b : ℕ) (call : Call) (word : Word) (before : List Entry) (logs : List (List Entry))

@@ -6,6 +6,7 @@ use Rattle.line_plan.specs.Plans.{PlanFields}
 use Rattle.line_law.specs.declared.call.Entry.{Entry}
 use Rattle.line_law.specs.History.{IsLegal}
 use Rattle.train_register.specs.Registers.{AreParts, RegisterFields, register_at}
+use Rattle.instrument_rule.specs.Posts.{view_of}
 use Rattle.signalman_seats.specs.declared.opening.OpenError.{OpenError}
 use Rattle.signalman_seats.specs.declared.opening.OpenError.TheVariants.{NoMemory, PostTaken}
 use Rattle.signalman_seats.specs.Men.{IsFresh, IsOf, Man}
@@ -23,7 +24,7 @@ pub record AreFresh (table_id : TableId) (plan : PlanFields) (rooms : List ℕ) 
 abbrev pub WasTaken : PlanFields → OpenError → Type 0
 WasTaken plan (PostTaken box_no found post) =
     (box_no < length plan.boxes) × (found ≢ box_no) × (found ≤ length plan.boxes)
-    × (post.seat.me.0.drawn ≡ Some found)
+    × ((view_of post).drawn ≡ Some found)
 WasTaken plan NoMemory = Unit {0}
 
 -- ---- the end

@@ -2,6 +2,7 @@
 
 ghost use Rattle.std.specs.Prelude.{◌≡◌, IfErr, IfOk};
 ghost use Rattle.signalman_seats.specs.Lines.{AreMen, Closed};
+ghost use Rattle.instrument_rule.specs.Posts.{plan_of};
 
 use crate::man::Signalman;
 use instrument_rule::Line;
@@ -23,8 +24,8 @@ pub struct CloseRefused {
 ///
 /// `CloseRefused` where memory runs out. It takes its memory before anything else.
 pub fn close_line(alloc: Global, line: Line, mut men: Vec<Signalman>) -> Result<Ended, CloseRefused>
-    requires { AreMen line.table.shared.table_id line.table.shared.key men.items }
-    ensures closed { IfOk result (λ ended. Closed line.table.shared.key men.items ended.registers) }
+    requires { AreMen line.table.shared.table_id (plan_of line) men.items }
+    ensures closed { IfOk result (λ ended. Closed (plan_of line) men.items ended.registers) }
     ensures refused { IfErr result (λ refused. (refused.line ≡ line) × (refused.men.items ≡ men.items)) }
 {
     let Ok(mut registers) = Vec::with_capacity(alloc, men.len()) else {

@@ -3,6 +3,7 @@
 ghost use Rattle.std.specs.Prelude.{◌≡◌, ◌<◌, ◌≤◌, ◌+◌, ◌^◌, true, false, IfSome};
 ghost use Rattle.instrument_rule.specs.declared.view.View.{View};
 ghost use Rattle.instrument_rule.specs.Calls.{MayStep, Sits};
+ghost use Rattle.instrument_rule.specs.Posts.{plan_of, view_of};
 ghost use Rattle.instrument_rule.specs.Views.{caller_of};
 ghost use Rattle.signalman_seats.specs.Asking.{AsksAt, CameTo, Decided, HasShown, IsMissed, LookedOn};
 ghost use Rattle.signalman_seats.specs.Men.{Answered, IsAtDesk};
@@ -26,10 +27,10 @@ fn judge(
 ) -> Result<u64, u64>
     requires line { post.old.seat.table_id ≡ line.now.table.shared.table_id }
     requires few { desk.now.calls < 2 ^ 32 }
-    requires shown { (v : View) × HasShown line.now.table.shared.key desk.now ask.now last v shown post.old.seat.me.0 }
+    requires shown { (v : View) × HasShown (plan_of line.now) desk.now ask.now last v shown (view_of post.old) }
     ensures same { post.new.seat.table_id ≡ post.old.seat.table_id }
-    ensures came { (v : View) → HasShown line.now.table.shared.key desk.now ask.now last v shown post.old.seat.me.0
-        → CameTo line.now.table.shared.key ask.now last v result post.new.seat.me.0 }
+    ensures came { (v : View) → HasShown (plan_of line.now) desk.now ask.now last v shown (view_of post.old)
+        → CameTo (plan_of line.now) ask.now last v result (view_of post.new) }
 {
     if desk.met(ask, shown) {
         match ask.second {
@@ -46,13 +47,13 @@ fn judge(
 // The first operation of a call, which may be a look, and the second where it is then due.
 fn look(post: &mut Post, line: &Line, desk: &Desk, ask: &WordAsk, last: bool) -> Result<u64, u64>
     requires line { post.old.seat.table_id ≡ line.now.table.shared.table_id }
-    requires sits { Sits line.now.table.shared.key post.old.seat.me.0 }
-    requires may { MayStep line.now.table.shared.key ask.now.call post.old.seat.me.0 }
-    requires ask { AsksAt line.now.table.shared.key post.old.seat.me.0 desk.now ask.now }
+    requires sits { Sits (plan_of line.now) (view_of post.old) }
+    requires may { MayStep (plan_of line.now) ask.now.call (view_of post.old) }
+    requires ask { AsksAt (plan_of line.now) (view_of post.old) desk.now ask.now }
     requires few { desk.now.calls < 2 ^ 32 }
     requires last { ask.now.awaits ≡ false → last ≡ true }
     ensures same { post.new.seat.table_id ≡ post.old.seat.table_id }
-    ensures came { CameTo line.now.table.shared.key ask.now last post.old.seat.me.0 result post.new.seat.me.0 }
+    ensures came { CameTo (plan_of line.now) ask.now last (view_of post.old) result (view_of post.new) }
 {
     let shown = post.step(line, &ask.call, ask.first, last);
     judge(post, line, desk, ask, shown, last)
@@ -69,17 +70,17 @@ fn look_on(
     most: u32,
 ) -> (u32, Result<u64, u64>)
     requires line { post.old.seat.table_id ≡ line.now.table.shared.table_id }
-    requires sits { Sits line.now.table.shared.key post.old.seat.me.0 }
-    requires may { MayStep line.now.table.shared.key ask.now.call post.old.seat.me.0 }
-    requires ask { AsksAt line.now.table.shared.key post.old.seat.me.0 desk.now ask.now }
+    requires sits { Sits (plan_of line.now) (view_of post.old) }
+    requires may { MayStep (plan_of line.now) ask.now.call (view_of post.old) }
+    requires ask { AsksAt (plan_of line.now) (view_of post.old) desk.now ask.now }
     requires few { desk.now.calls < 2 ^ 32 }
     requires awaits { ask.now.awaits ≡ true }
-    requires unmet { IsMissed line.now.table.shared.key ask.now.call post.old.seat.me.0 unmet }
+    requires unmet { IsMissed (plan_of line.now) ask.now.call (view_of post.old) unmet }
     requires most { 0 < most }
     ensures same { post.new.seat.table_id ≡ post.old.seat.table_id }
     ensures some { (0 < result.0) × (result.0 ≤ most) }
-    ensures came { LookedOn line.now.table.shared.key ask.now.call post.old.seat.me.0 result.0 result.1
-        post.new.seat.me.0 }
+    ensures came { LookedOn (plan_of line.now) ask.now.call (view_of post.old) result.0 result.1
+        (view_of post.new) }
 {
     let WordAsk { call, first, .. } = *ask;
     let place = post.place(line, &call, first);
@@ -103,17 +104,17 @@ fn look_next(
     most: u32,
 ) -> (u32, Result<u64, u64>)
     requires line { post.old.seat.table_id ≡ line.now.table.shared.table_id }
-    requires sits { Sits line.now.table.shared.key post.old.seat.me.0 }
-    requires may { MayStep line.now.table.shared.key ask.now.call post.old.seat.me.0 }
-    requires ask { AsksAt line.now.table.shared.key post.old.seat.me.0 desk.now ask.now }
+    requires sits { Sits (plan_of line.now) (view_of post.old) }
+    requires may { MayStep (plan_of line.now) ask.now.call (view_of post.old) }
+    requires ask { AsksAt (plan_of line.now) (view_of post.old) desk.now ask.now }
     requires few { desk.now.calls < 2 ^ 32 }
     requires awaits { ask.now.awaits ≡ true }
-    requires alone { IfSome alone (λ unmet. IsMissed line.now.table.shared.key ask.now.call post.old.seat.me.0 unmet) }
+    requires alone { IfSome alone (λ unmet. IsMissed (plan_of line.now) ask.now.call (view_of post.old) unmet) }
     requires most { 0 < most }
     ensures same { post.new.seat.table_id ≡ post.old.seat.table_id }
     ensures some { (0 < result.0) × (result.0 ≤ most) }
-    ensures came { LookedOn line.now.table.shared.key ask.now.call post.old.seat.me.0 result.0 result.1
-        post.new.seat.me.0 }
+    ensures came { LookedOn (plan_of line.now) ask.now.call (view_of post.old) result.0 result.1
+        (view_of post.new) }
 {
     match alone {
         Some(unmet) => look_on(post, line, desk, ask, unmet, most),
@@ -150,15 +151,15 @@ fn decide<P: Pauses>(
     pauses: &P,
 ) -> Met
     requires line { post.old.seat.table_id ≡ line.now.table.shared.table_id }
-    requires sits { Sits line.now.table.shared.key post.old.seat.me.0 }
-    requires may { MayStep line.now.table.shared.key ask.now.call post.old.seat.me.0 }
-    requires ask { AsksAt line.now.table.shared.key post.old.seat.me.0 desk.now ask.now }
+    requires sits { Sits (plan_of line.now) (view_of post.old) }
+    requires may { MayStep (plan_of line.now) ask.now.call (view_of post.old) }
+    requires ask { AsksAt (plan_of line.now) (view_of post.old) desk.now ask.now }
     requires few { desk.now.calls < 2 ^ 32 }
     requires looks { 0 < looks }
     ensures same { post.new.seat.table_id ≡ post.old.seat.table_id }
-    ensures counted { post.new.seat.me.0.looks ≡ post.old.seat.me.0.looks + result.looks }
-    ensures decided { Decided line.now.table.shared.key ask.now.call looks post.old.seat.me.0 result.word
-        post.new.seat.me.0 }
+    ensures counted { (view_of post.new).looks ≡ (view_of post.old).looks + result.looks }
+    ensures decided { Decided (plan_of line.now) ask.now.call looks (view_of post.old) result.word
+        (view_of post.new) }
 {
     let mut left = if ask.awaits { looks } else { 1 };
     let mut alone = None;
@@ -199,16 +200,16 @@ pub fn work<P: Pauses>(
     pauses: &P,
 ) -> Answer
     requires line { post.old.seat.table_id ≡ line.now.table.shared.table_id }
-    requires sits { Sits line.now.table.shared.key post.old.seat.me.0 }
-    requires may { MayStep line.now.table.shared.key call.now post.old.seat.me.0 }
-    requires desk { IsAtDesk line.now.table.shared.key (caller_of post.old.seat.me.0.posts) post.old.seat.me.0.seen
+    requires sits { Sits (plan_of line.now) (view_of post.old) }
+    requires may { MayStep (plan_of line.now) call.now (view_of post.old) }
+    requires desk { IsAtDesk (plan_of line.now) (caller_of (view_of post.old).posts) (view_of post.old).seen
         desk.old }
     requires few { desk.old.calls < 2 ^ 32 }
     requires looks { 0 < looks }
     ensures same { post.new.seat.table_id ≡ post.old.seat.table_id }
-    ensures counted { post.new.seat.me.0.looks ≡ post.old.seat.me.0.looks + result.looks }
-    ensures answered { Answered line.now.table.shared.key call.now looks result.reply post.old.seat.me.0
-        post.new.seat.me.0 desk.new }
+    ensures counted { (view_of post.new).looks ≡ (view_of post.old).looks + result.looks }
+    ensures answered { Answered (plan_of line.now) call.now looks result.reply (view_of post.old)
+        (view_of post.new) desk.new }
     ensures calls { desk.new.calls ≡ desk.old.calls + 1 }
 {
     match desk.prepare(call) {

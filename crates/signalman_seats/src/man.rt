@@ -6,6 +6,7 @@ ghost use Rattle.line_law.specs.History.{IsLegal, part_of};
 ghost use Rattle.line_plan.specs.Plans.{PlanFields};
 ghost use Rattle.line_law.specs.Known.{KnowsCall, knows_call};
 ghost use Rattle.instrument_rule.specs.Calls.{Sits};
+ghost use Rattle.instrument_rule.specs.Posts.{plan_of, view_of};
 ghost use Rattle.instrument_rule.specs.Rule.{Seen};
 ghost use Rattle.instrument_rule.specs.Views.{twin_view};
 ghost use Rattle.signalman_seats.specs.Men.{AreFittings, IsDrawn, IsFresh, IsOf, Performed};
@@ -35,30 +36,30 @@ pub struct Signalman {
 }
 
 impl Model for Signalman {
+    ghost use Rattle.instrument_rule.specs.Posts.{view_of};
     ghost use Rattle.signalman_seats.specs.Men.{IsMan, Man};
 
     ghost Value = { Man };
 
     ghost view = { λ man. record {
       table_id = man.post.seat.table_id;
-      view = man.post.seat.me.0;
+      view = view_of man.post;
       box_no = man.box_no;
       entries = man.register.entries;
       spare = man.register.spare;
       moment = man.desk.here.moment;
     } };
 
-    ghost invariant = { λ man. IsMan man.post.seat.me.0 man.box_no man.desk man.register
-        man.looks_taken man.notes };
+    ghost invariant = { λ man. IsMan (view_of man.post) man.box_no man.desk man.register man.looks_taken man.notes };
 }
 
 impl Signalman {
     // A man at a post that has just drawn his box, with what he works with there.
     pub(crate) fn at_post(post: Post, box_no: u32, fittings: Fittings) -> Signalman
         requires drawn { (plan : PlanFields) × (room : ℕ) × (box_no < length plan.boxes) × (room ≤ 10000)
-            × IsDrawn plan box_no post.seat.me.0
+            × IsDrawn plan box_no (view_of post)
             × AreFittings plan box_no room fittings.desk fittings.register fittings.notes }
-        ensures { (plan : PlanFields) (room : ℕ) → IsDrawn plan box_no post.seat.me.0
+        ensures { (plan : PlanFields) (room : ℕ) → IsDrawn plan box_no (view_of post)
             → AreFittings plan box_no room fittings.desk fittings.register fittings.notes
             → IsFresh post.seat.table_id plan box_no room result }
     {
@@ -79,7 +80,7 @@ impl Signalman {
 
     // His post and his register.
     pub(crate) fn into_parts(self) -> (Post, Register)
-        ensures post { (result.0.seat.table_id ≡ self.table_id) × (result.0.seat.me.0 ≡ self.view) }
+        ensures post { (result.0.seat.table_id ≡ self.table_id) × (view_of result.0 ≡ self.view) }
         ensures register { result.1 ≡ record { box_no = self.box_no; entries = self.entries; spare = self.spare } }
         ensures sits { (self.view.posts ≡ self.box_no ∷ []) × (self.view.olds ≡ []) }
         ensures part { self.entries ≡ part_of self.box_no self.view.seen }
@@ -162,14 +163,14 @@ impl Signalman {
     ///   none of them found what the call waits for.
     /// - Any other refusal: the state of his own box, whatever the others did.
     pub fn perform(&mut self, line: &Line, call: Call, looks: u32) -> Reply
-        requires line { IsOf line.now.table.shared.table_id line.now.table.shared.key self.old }
+        requires line { IsOf line.now.table.shared.table_id (plan_of line.now) self.old }
         requires spare { 0 < self.old.spare }
         requires looks { 1 ≤ looks }
-        requires known { KnowsCall line.now.table.shared.key self.old.box_no call }
+        requires known { KnowsCall (plan_of line.now) self.old.box_no call }
         requires later { self.old.moment ≤ call.moment }
-        ensures line { IsOf line.now.table.shared.table_id line.now.table.shared.key self.new }
+        ensures line { IsOf line.now.table.shared.table_id (plan_of line.now) self.new }
         ensures box_no { self.new.box_no ≡ self.old.box_no }
-        ensures performed { Performed line.now.table.shared.key self.old.box_no call looks result self.old.view
+        ensures performed { Performed (plan_of line.now) self.old.box_no call looks result self.old.view
             self.new.view }
         ensures entries { self.new.entries ≡ part_of self.old.box_no self.new.view.seen }
         ensures spare { self.new.spare + 1 ≡ self.old.spare }
@@ -188,14 +189,14 @@ impl Signalman {
         looks: u32,
         pauses: &P,
     ) -> Reply
-        requires line { IsOf line.now.table.shared.table_id line.now.table.shared.key self.old }
+        requires line { IsOf line.now.table.shared.table_id (plan_of line.now) self.old }
         requires spare { 0 < self.old.spare }
         requires looks { 1 ≤ looks }
-        requires known { KnowsCall line.now.table.shared.key self.old.box_no call }
+        requires known { KnowsCall (plan_of line.now) self.old.box_no call }
         requires later { self.old.moment ≤ call.moment }
-        ensures line { IsOf line.now.table.shared.table_id line.now.table.shared.key self.new }
+        ensures line { IsOf line.now.table.shared.table_id (plan_of line.now) self.new }
         ensures box_no { self.new.box_no ≡ self.old.box_no }
-        ensures performed { Performed line.now.table.shared.key self.old.box_no call looks result self.old.view
+        ensures performed { Performed (plan_of line.now) self.old.box_no call looks result self.old.view
             self.new.view }
         ensures entries { self.new.entries ≡ part_of self.old.box_no self.new.view.seen }
         ensures spare { self.new.spare + 1 ≡ self.old.spare }
@@ -222,11 +223,11 @@ impl Signalman {
 
     /// A post that has seen as much as he and holds no box, from which to watch the line. It takes no memory.
     pub fn lend_watch(&mut self, line: &Line) -> Post
-        requires { IsOf line.now.table.shared.table_id line.now.table.shared.key self.old }
+        requires { IsOf line.now.table.shared.table_id (plan_of line.now) self.old }
         ensures same { self.new ≡ self.old }
         ensures line { result.seat.table_id ≡ line.now.table.shared.table_id }
-        ensures watch { result.seat.me.0 ≡ twin_view self.old.view }
-        ensures legal { IsLegal line.now.table.shared.key self.old.view.seen }
+        ensures watch { view_of result ≡ twin_view self.old.view }
+        ensures legal { IsLegal (plan_of line.now) self.old.view.seen }
     {
         self.post.split(line)
     }
@@ -234,14 +235,14 @@ impl Signalman {
     /// Takes back a post that holds no box: what it had seen is then a beginning of what he has seen, and all else of
     /// his stays. It takes no memory.
     pub fn take_watch(&mut self, line: &Line, post: Post)
-        requires line { IsOf line.now.table.shared.table_id line.now.table.shared.key self.old }
+        requires line { IsOf line.now.table.shared.table_id (plan_of line.now) self.old }
         requires table { post.seat.table_id ≡ line.now.table.shared.table_id }
-        requires watch { Sits line.now.table.shared.key post.seat.me.0 × (post.seat.me.0.posts ≡ []) }
-        ensures line { IsOf line.now.table.shared.table_id line.now.table.shared.key self.new }
+        requires watch { Sits (plan_of line.now) (view_of post) × ((view_of post).posts ≡ []) }
+        ensures line { IsOf line.now.table.shared.table_id (plan_of line.now) self.new }
         ensures mine { Seen self.new.view.seen self.old.view.posts self.old.view.seen }
-        ensures others { IsPrefix post.seat.me.0.seen self.new.view.seen }
+        ensures others { IsPrefix (view_of post).seen self.new.view.seen }
         ensures kept { self.new ≡ record self.old { view = record self.old.view { seen = self.new.view.seen } } }
-        ensures legal { IsLegal line.now.table.shared.key self.new.view.seen }
+        ensures legal { IsLegal (plan_of line.now) self.new.view.seen }
     {
         self.post.join(line, post);
     }

@@ -1,6 +1,7 @@
 //! A line with a man at each box.
 
 ghost use Rattle.std.specs.Prelude.{◌≡◌, ◌<◌, ◌≤◌, All, IfErr, IfOk, length};
+ghost use Rattle.instrument_rule.specs.Posts.{plan_of, view_of};
 ghost use Rattle.instrument_rule.specs.Views.{first_view};
 ghost use Rattle.signalman_seats.specs.Lines.{AreFresh, WasTaken};
 ghost use Rattle.signalman_seats.specs.Men.{IsDrawn, IsFresh};
@@ -46,13 +47,13 @@ impl From<AllocError> for OpenError {
 // The post of a box of a line that opens, which is drawn next.
 fn draw(line: &Line, first: &mut Post, box_no: u32) -> Result<Post, OpenError>
     requires table { first.old.seat.table_id ≡ line.now.table.shared.table_id }
-    requires view { first.old.seat.me.0 ≡ first_view line.now.table.shared.key }
-    requires known { box_no < length line.now.table.shared.key.boxes }
+    requires view { view_of first.old ≡ first_view (plan_of line.now) }
+    requires known { box_no < length (plan_of line.now).boxes }
     ensures table { first.new.seat.table_id ≡ first.old.seat.table_id }
-    ensures view { first.new.seat.me.0 ≡ first.old.seat.me.0 }
+    ensures view { view_of first.new ≡ view_of first.old }
     ensures post { IfOk result (λ post. post.seat.table_id ≡ line.now.table.shared.table_id) }
-    ensures drawn { IfOk result (λ post. IsDrawn line.now.table.shared.key box_no post.seat.me.0) }
-    ensures taken { IfErr result (WasTaken line.now.table.shared.key) }
+    ensures drawn { IfOk result (λ post. IsDrawn (plan_of line.now) box_no (view_of post)) }
+    ensures taken { IfErr result (WasTaken (plan_of line.now)) }
 {
     let mut post = first.split(line);
     let found = post.take(line, box_no);
@@ -75,13 +76,13 @@ fn seat_man(
     box_no: u32,
     room: usize,
 ) -> Result<Signalman, OpenError>
-    requires plan { line.now.table.shared.key ≡ plan.now }
+    requires plan { plan_of line.now ≡ plan.now }
     requires table { first.old.seat.table_id ≡ line.now.table.shared.table_id }
-    requires view { first.old.seat.me.0 ≡ first_view plan.now }
+    requires view { view_of first.old ≡ first_view plan.now }
     requires known { box_no < length plan.now.boxes }
     requires room { room ≤ 10000 }
     ensures table { first.new.seat.table_id ≡ first.old.seat.table_id }
-    ensures view { first.new.seat.me.0 ≡ first.old.seat.me.0 }
+    ensures view { view_of first.new ≡ view_of first.old }
     ensures fresh { IfOk result (λ man. IsFresh line.now.table.shared.table_id plan.now box_no room man) }
     ensures taken { IfErr result (WasTaken plan.now) }
 {
@@ -103,9 +104,9 @@ fn seat_men(
     first: &mut Post,
     lengths: &[usize],
 ) -> Result<Vec<Signalman>, OpenError>
-    requires plan { line.now.table.shared.key ≡ plan.now }
+    requires plan { plan_of line.now ≡ plan.now }
     requires table { first.old.seat.table_id ≡ line.now.table.shared.table_id }
-    requires view { first.old.seat.me.0 ≡ first_view plan.now }
+    requires view { view_of first.old ≡ first_view plan.now }
     requires each { length lengths.now ≡ length plan.now.boxes }
     requires boxes { length plan.now.boxes ≤ 64 }
     requires rooms { All (λ n. n ≤ 10000) lengths.now }
@@ -142,7 +143,7 @@ pub fn open_line(
 ) -> Result<(Line, Vec<Signalman>), OpenError>
     requires each { length lengths.now ≡ length plan.now.boxes }
     requires rooms { All (λ n. n ≤ 10000) lengths.now }
-    ensures line { IfOk result (λ r. r.0.table.shared.key ≡ plan.now) }
+    ensures line { IfOk result (λ r. plan_of r.0 ≡ plan.now) }
     ensures men { IfOk result (λ r. AreFresh r.0.table.shared.table_id plan.now lengths.now r.1.items) }
     ensures taken { IfErr result (WasTaken plan.now) }
 {

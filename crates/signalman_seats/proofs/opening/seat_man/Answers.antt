@@ -2,6 +2,7 @@ use Rattle.std.proofs.Common.{subst}
 use Rattle.atomic_table.specs.Seated.{TableId}
 use Rattle.line_plan.specs.Plans.{PlanFields}
 use Rattle.signalman_seats.specs.Men.{IsDrawn, IsFresh}
+use Rattle.instrument_rule.specs.Posts.{view_of}
 use Rattle.signalman_seats.proofs.opening.seat_man.Goals as goal
 
 pub returns-in-Ok-clause-fresh : goal.returns-in-Ok-clause-fresh
@@ -10,5 +11,5 @@ returns-in-Ok-clause-fresh c =
     let b = c.args.box_no in
     subst (λ (t : TableId). IsFresh t plan b c.args.room c.at_post.result) c.in_ok-post.ensures.post
     (c.at_post.ensures plan c.args.room
-    (subst (λ (p : PlanFields). IsDrawn p b c.in_ok-post.post.seat.me.0) c.requires.plan c.in_ok-post.ensures.drawn)
+    (subst (λ (p : PlanFields). IsDrawn p b (view_of c.in_ok-post.post)) c.requires.plan c.in_ok-post.ensures.drawn)
     c.in-Ok.ensures)

@@ -2,6 +2,7 @@ use Rattle.std.proofs.Common.{◌≡◌, Some, ap, ◌∙◌}
 use Rattle.line_law.specs.Known.{knows_call}
 use Rattle.signalman_seats.specs.Men.{IsAtDesk, Man}
 use Rattle.signalman_seats.specs.Notes.{AreNotesOf}
+use Rattle.instrument_rule.specs.Posts.{view_of}
 use Rattle.signalman_seats.proofs.Gathering.{desk_there}
 use Rattle.signalman_seats.proofs.Noting.{known_by_notes}
 use Rattle.signalman_seats.proofs.man.Signalman.knows.Goals as goal
@@ -9,7 +10,7 @@ use Rattle.signalman_seats.proofs.man.Signalman.knows.Goals as goal
 pub returns : goal.returns
 returns c = λ plan has.
     let b = c.self.inside.box_no in
-    let v = c.self.inside.post.seat.me.0 in
+    let v = view_of c.self.inside.post in
     let there : v.plan ≡ Some plan = ap (λ (man : Man). man.view.plan) c.self.view_is ∙ has in
     let noted = desk_there plan v.plan (λ p. AreNotesOf p b c.self.inside.notes) there c.self.invariant.noted in
     let at = desk_there plan v.plan (λ p. IsAtDesk p b v.seen c.self.inside.desk) there c.self.invariant.at_desk in
