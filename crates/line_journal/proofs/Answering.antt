@@ -32,6 +32,7 @@ none_shut plan pairs lists b none was =
 
 -- ---- as the program has them
 
+-- the same of what the program has
 pub below_as : (plan : PlanFields) (pairs written : List PairState) (lists left : List (List Entry)) (n from : ℕ)
     → written ≡ pairs → left ≡ lists → from ≡ n → NoneOpenBelow plan pairs lists n
     → NoneOpenBelow plan written left from
@@ -69,14 +70,13 @@ none_awake plan pairs lists awake asked from same each asleep below none b was =
 -- ---- the loop of the merge
 
 -- an open box finds the space that its entry needs
-pub space_for : (plan : PlanFields) (all : List (List Entry)) (done : List Entry) (pairs read : List PairState)
-    (lists : List (List Entry)) (b : ℕ) → IsPlan plan → Merges plan all done pairs lists → read ≡ pairs
-    → NoneOpenBelow plan pairs lists b → IsOpen plan read lists b → HasSpaceFor plan read lists b
-space_for plan all done pairs read lists b is m same below was =
-    subst (λ (ps : List PairState). HasSpaceFor plan ps lists b) (sym same)
-    (has_space plan all done pairs lists b is m (lowest_set plan all done pairs lists (Some b) is m
-    (subst (λ (ps : List PairState). IsOpen plan ps lists b) same was, below)))
+pub space_for : (plan : PlanFields) (all : List (List Entry)) (done : List Entry) (pairs : List PairState)
+    (lists : List (List Entry)) (b : ℕ) → IsPlan plan → Merges plan all done pairs lists
+    → NoneOpenBelow plan pairs lists b → IsOpen plan pairs lists b → HasSpaceFor plan pairs lists b
+space_for plan all done pairs lists b is m below was =
+    has_space plan all done pairs lists b is m (lowest_set plan all done pairs lists (Some b) is m (was, below))
 
+-- a placing leaves as many lists
 pub placing_left : (plan : PlanFields) (pairs : List PairState) (lists : List (List Entry)) (b : ℕ) (e : Entry)
     (after : List PairState) (left : List (List Entry)) → IsPlacing plan pairs lists b e after left
     → length left ≡ length lists
@@ -84,16 +84,13 @@ placing_left plan pairs lists b e after left p =
     ap (λ (ls : List (List Entry)). length ls) p.rest ∙ length-set lists b _
 
 -- one more entry is done
-pub placing_merges : (plan : PlanFields) (all : List (List Entry)) (done : List Entry) (pairs read : List PairState)
+pub placing_merges : (plan : PlanFields) (all : List (List Entry)) (done : List Entry) (pairs : List PairState)
     (lists : List (List Entry)) (b : ℕ) (e : Entry) (after : List PairState) (left : List (List Entry))
-    (more : List Entry) → IsPlan plan → Merges plan all done pairs lists → read ≡ pairs
-    → NoneOpenBelow plan pairs lists b → IsPlacing plan read lists b e after left → more ≡ done ++ e ∷ []
-    → Merges plan all more after left
-placing_merges plan all done pairs read lists b e after left more is m same below p x =
+    (more : List Entry) → IsPlan plan → Merges plan all done pairs lists → NoneOpenBelow plan pairs lists b
+    → IsPlacing plan pairs lists b e after left → more ≡ done ++ e ∷ [] → Merges plan all more after left
+placing_merges plan all done pairs lists b e after left more is m below p x =
     grown_by plan all done pairs lists b e more after left is m
-    (lowest_set plan all done pairs lists (Some b) is m
-    (subst (λ (ps : List PairState). IsOpen plan ps lists b) same p.opens, below))
-    p.next x (p.words ∙ ap (λ (ps : List PairState). made plan ps e) same) p.rest
+    (lowest_set plan all done pairs lists (Some b) is m (p.opens, below)) p.next x p.words p.rest
 
 -- or none, where all is as it was
 pub same_merges : (plan : PlanFields) (all : List (List Entry)) (done : List Entry) (pairs back : List PairState)

@@ -357,6 +357,7 @@ same_end (In v) (Out u) q p at there is some e =
     let other : 0 < keeper_no p = omega (arith, is, some) in absurd (one_end p q there at (sym is) other)
 same_end (In v) (In u) q p at there is some e = ap (λ (w : Way). In w) e
 
+-- a number of keepers tells the kind and the way
 pub slot_parts : (a b : ℕ) (v u : Way) → 2 * a + way_number v ≡ 2 * b + way_number u → (a ≡ b) × (v ≡ u)
 slot_parts a b Up Up e = (omega (arith, e), refl)
 slot_parts a b Up Down e = absurd (omega (arith, e))

@@ -273,11 +273,13 @@ fits_word_so BellWord v a r p f = fits_bell_so r (of_way p.bells v) f
 fits_word_so BlockWord v a r p f = fits_block_so a r (of_way p.blocks v) f
 fits_word_so PlainLineWord v a r p f = fits_line_so r (of_way p.lines v) f
 
+-- what tests as fitting fits
 pub fits_if : (plan : PlanFields) (pairs : List PairState) (e : Entry) → IsTrue (fits_here plan pairs e)
     → Fits plan pairs e
 fits_if plan pairs e h =
     word_fits (kind_told e.reply) (way_at plan e.box_no e.call) e.call.act e.reply (found_at pairs (pair_for plan e)) h
 
+-- and what fits tests so
 pub if_fits : (plan : PlanFields) (pairs : List PairState) (e : Entry) → Fits plan pairs e
     → IsTrue (fits_here plan pairs e)
 if_fits plan pairs e f =

@@ -30,6 +30,7 @@ use Rattle.line_journal.proofs.PairMoves.{lost_stays, one_or_two, opposite_ends,
 abbrev pub AreOf : PlanFields → List PairState → Type 0
 AreOf plan pairs = length pairs ≡ length plan.boxes - 1
 
+-- an entry leaves as many pairs
 pub are_after : (plan : PlanFields) (pairs : List PairState) (e : Entry) → AreOf plan pairs
     → AreOf plan (made plan pairs e)
 are_after plan pairs e are = length-set pairs (pair_for plan e) _ ∙ are
@@ -245,15 +246,19 @@ lost_fits plan pairs e lost fits =
 
 -- ---- a box's entries in a history
 
+-- an entry of the box stands first in its part
 pub part_own : (x : Entry) (R : List Entry) (b : ℕ) → (x.box_no == b) ≡ true → part_of b (x ∷ R) ≡ x ∷ part_of b R
 part_own x R b e = rw e refl
 
+-- and one of another box isn't in it
 pub part_other : (x : Entry) (R : List Entry) (b : ℕ) → (x.box_no == b) ≡ false → part_of b (x ∷ R) ≡ part_of b R
 part_other x R b e = rw e refl
 
+-- the first entry of the box is taken out
 pub without_own : (x : Entry) (R : List Entry) (b : ℕ) → (x.box_no == b) ≡ true → without b (x ∷ R) ≡ R
 without_own x R b e = rw e refl
 
+-- and one of another box stays
 pub without_other : (x : Entry) (R : List Entry) (b : ℕ) → (x.box_no == b) ≡ false → without b (x ∷ R) ≡ x ∷ without b R
 without_other x R b e = rw e refl
 

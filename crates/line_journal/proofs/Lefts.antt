@@ -8,6 +8,7 @@ use Rattle.line_law.specs.History.{part_of}
 use Rattle.train_register.specs.Registers.{AreParts, RegisterFields, register_at}
 use Rattle.line_journal.specs.Order.{list_at, lists_of, placed_some}
 
+-- one more entry is dropped
 pub drop_next : (n : ℕ) (list : List Entry) → drop (n + 1) list ≡ drop 1 (drop n list)
 drop_next zero list = refl
 drop_next (suc n) [] = let e : suc n + 1 ≡ suc (n + 1) = omega arith in rw e refl

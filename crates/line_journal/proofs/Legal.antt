@@ -75,11 +75,13 @@ again_on plan e here p q told fits =
     (law_on plan e here p q).again (subst (λ (r : Reply). FitsWord (kind_told r) (way_at plan e.box_no e.call)
     e.call.act r q) told fits)
 
+-- a reply that the law gives fits its word
 pub fits_in : (plan : PlanFields) (state : LineState) (e : Entry) → e.reply ≡ (step plan state e.box_no e.call).reply
     → Fits plan state.pairs e
 fits_in plan state e told =
     fits_on plan e (box_at state e.box_no) (pair_at state (pair_for plan e)) (told ∙ step_reply plan state e)
 
+-- and makes of the pairs what it says
 pub pairs_after : (plan : PlanFields) (state : LineState) (e : Entry)
     → e.reply ≡ (step plan state e.box_no e.call).reply → (after_entry plan state e).pairs ≡ made plan state.pairs e
 pairs_after plan state e told =
@@ -93,6 +95,7 @@ own_after plan state e within =
     ap (λ (l : List BoxState). slice_index_or l e.box_no no_state) (step_boxes plan state e)
     ∙ get_or-set_same state.boxes e.box_no _ no_state within
 
+-- a call leaves every other box as it was
 pub other_after : (plan : PlanFields) (state : LineState) (e : Entry) (b : ℕ) → b ≢ e.box_no
     → box_at (after_entry plan state e) b ≡ box_at state b
 other_after plan state e b ne =
@@ -101,6 +104,7 @@ other_after plan state e b ne =
 
 -- ---- a legal history
 
+-- the entries of a legal history fit their words in turn
 pub words_fit : (plan : PlanFields) (state : LineState) (R : List Entry) → IsLegalFrom plan state R
     → FitFrom plan state.pairs R
 words_fit plan state [] h = tt
@@ -120,6 +124,7 @@ may_do plan state e may told =
       told = told ∙ step_reply plan state e;
     }
 
+-- and each box may do its part
 pub boxes_do : (plan : PlanFields) (state : LineState) (R : List Entry) → IsPlan plan → IsStateOf plan state
     → IsLegalFrom plan state R → (b : ℕ) → MayDoAll plan (box_at state b) (part_of b R)
 unfolding may_do
@@ -141,6 +146,7 @@ boxes_do plan state (e ∷ R) is are h b =
     (later b)))
     (eqb_tells e.box_no b)
 
+-- each of its entries stands in its plan
 pub all_stand : (plan : PlanFields) (state : LineState) (R : List Entry) → IsPlan plan → IsLegalFrom plan state R
     → Each (Stands plan) R
 all_stand plan state [] is h = tt
@@ -177,6 +183,7 @@ others_do plan state e J b ne all =
 differ : (e : Entry) (b : ℕ) → b ≢ e.box_no → (e.box_no == b) ≡ false
 differ e b ne = ⊎_elim (λ h. absurd (ne (sym h.1))) (λ h. h.0) (eqb_tells e.box_no b)
 
+-- where the words fit and each box may do its part the history is legal
 pub is_legal : (plan : PlanFields) (state : LineState) (J : List Entry) → IsPlan plan → IsStateOf plan state
     → ((b : ℕ) → MayDoAll plan (box_at state b) (part_of b J)) → FitFrom plan state.pairs J → IsLegalFrom plan state J
 is_legal plan state [] is are all fit = tt

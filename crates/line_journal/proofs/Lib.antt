@@ -20,5 +20,4 @@ pub mod Answering
 pub mod Tallies
 pub mod Steps
 pub mod Walks
-pub mod Levers
 pub mod OneOrder

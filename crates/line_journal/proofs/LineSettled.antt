@@ -183,6 +183,7 @@ kind_here : (plan : PlanFields) (state : LineState) (e : Entry) → e.reply ≡ 
     → kind_told e.reply ≡ PlainLineWord → kind_at plan state e.box_no e.call ≡ PlainLineWord
 kind_here plan state e told kind = sym (kind_is_told plan state e.box_no e.call) ∙ ap kind_told (sym told) ∙ kind
 
+-- a reply on a plain line tells its box's count there
 pub told_before : (plan : PlanFields) (state : LineState) (e : Entry) → IsPlan plan → IsStateOf plan state
     → KnowsCall plan e.box_no e.call → e.reply ≡ (step plan state e.box_no e.call).reply
     → kind_told e.reply ≡ PlainLineWord → count_before e.reply ≡ line_count plan e state
@@ -209,6 +210,7 @@ met_rises : (link : Link) (s t : LineState) (b : ℕ) → NeverFalls s t
 met_rises (Out way) s t b falls = falls.sent b way
 met_rises (In way) s t b falls = falls.taken b way
 
+-- one entry moves over from the second list
 pub append_one : (xs : List Entry) (x : Entry) (ys : List Entry) → (xs ++ x ∷ []) ++ ys ≡ xs ++ x ∷ ys
 append_one [] x ys = refl
 append_one (z ∷ xs) x ys = ap (λ (l : List Entry). z ∷ l) (append_one xs x ys)
@@ -219,6 +221,7 @@ same_line plan t x kind fits =
     subst (λ (k : Kind). FitsWord k (way_at plan x.box_no x.call) x.call.act x.reply (pair_at t (pair_for plan x))) kind
     fits
 
+-- equal ways test as the same
 pub is_same : (v u : Way) → v ≡ u → IsTrue (same_way v u)
 is_same Up Up e = refl
 is_same Up Down e = cc

@@ -1,11 +1,10 @@
 -- The loop of the merge: what it keeps, by the words alone.
 use Rattle.std.proofs.Common.{ℕ, zero, suc, ◌+◌, ◌-◌, ◌≡◌, ◌<◌, ◌≤◌, ◌⊎◌, inl, inr}
 use Rattle.std.proofs.Common.{⊎_elim, List, [], ◌∷◌, ◌++◌, Some, None, Bool, true, false, All}
-use Rattle.std.proofs.Common.{length, drop, take, replicate, IsTrue, refl, sym, ap, subst, ◌∙◌, arith}
+use Rattle.std.proofs.Common.{length, drop, replicate, IsTrue, refl, sym, ap, subst, ◌∙◌, arith}
 use Rattle.std.specs.Prelude.{nat_lt}
 use Rattle.std.proofs.lemmas.Bool.{ltb-false, ltb-true}
 use Rattle.std.proofs.lemmas.Bool.Decides.{eqb_tells}
-use Rattle.std.proofs.Math.Seq.{take-append_seam}
 use Rattle.std.proofs.lemmas.List.{length-map}
 use Rattle.std.proofs.lemmas.List.Elements.{All-cons, All-nil, All-weaker}
 use Rattle.std.proofs.lemmas.List.Sums.{sum_by-set}
@@ -71,6 +70,7 @@ stand_here : (plan : PlanFields) (done : List Entry) (state : LineState) (lists 
     → IsPlan plan → Remains plan done state lists R → Each (Stands plan) R
 stand_here plan done state lists R is r = all_stand plan state R is (legal_here plan done state lists R r)
 
+-- what remains are entries of their boxes
 pub of_boxes : (plan : PlanFields) (all : List (List Entry)) (done : List Entry) (pairs : List PairState)
     (lists : List (List Entry)) → IsPlan plan → Merges plan all done pairs lists → AreOfBoxes plan lists
 of_boxes plan all done pairs lists is m b =
@@ -81,6 +81,7 @@ of_boxes plan all done pairs lists is m b =
     (stand_here plan done (state_of plan done) lists R is r)) (each_own b R) in
     subst (λ (l : List Entry). All (IsOfBox plan b) l) (sym (r.parts b)) (each_all (IsOfBox plan b) (part_of b R) each)
 
+-- the pairs are as many as the plan's
 pub pair_count : (plan : PlanFields) (all : List (List Entry)) (done : List Entry) (pairs : List PairState)
     (lists : List (List Entry)) → Merges plan all done pairs lists → length pairs ≡ length plan.boxes - 1
 pair_count plan all done pairs lists m =
@@ -90,12 +91,14 @@ pair_count plan all done pairs lists m =
 pub head_is : (x e : Entry) (xs es : List Entry) → x ∷ xs ≡ e ∷ es → x ≡ e
 head_is x e xs es h = cc
 
+-- the next entry of a box is of that box
 pub own_box : (plan : PlanFields) (lists : List (List Entry)) (b : ℕ) (e : Entry) (rest : List Entry)
     → AreOfBoxes plan lists → list_at lists b ≡ e ∷ rest → IsOfBox plan b e
 own_box plan lists b e rest are next =
     let all : All (IsOfBox plan b) (e ∷ rest) = subst (λ (l : List Entry). All (IsOfBox plan b) l) next (are b) in
     all 0 e (omega arith)
 
+-- the entries of a box that remain are of boxes of the line
 pub in_line : (plan : PlanFields) (lists : List (List Entry)) (b : ℕ) → AreOfBoxes plan lists
     → All (λ x. x.box_no < length plan.boxes) (list_at lists b)
 in_line plan lists b are =
@@ -103,6 +106,7 @@ in_line plan lists b are =
 
 -- ---- a box whose next entry fits, and is free
 
+-- a box that fits and is free tests so by its next entry
 pub if_set : (plan : PlanFields) (pairs : List PairState) (lists : List (List Entry)) (b : ℕ) (e : Entry)
     (rest : List Entry) → list_at lists b ≡ e ∷ rest → IsBoxFree plan pairs lists b
     → IsTrue (fits_here plan pairs e) × IsFree plan lists b e
@@ -154,6 +158,7 @@ next_of plan all done pairs lists b e rest is m lowest next =
           (ready_set plan all done pairs lists c x later is m ready);
     }
 
+-- the lowest box that fits and is free: its next entry is done
 pub grows : (plan : PlanFields) (all : List (List Entry)) (done : List Entry) (pairs : List PairState)
     (lists : List (List Entry)) (b : ℕ) (e : Entry) → IsPlan plan → Merges plan all done pairs lists
     → IsLowestFree plan pairs lists (Some b) → list_at lists b ≡ e ∷ drop 1 (list_at lists b)
@@ -173,6 +178,7 @@ grows plan all done pairs lists b e is m lowest next =
           ∙ sym (ap (λ (s : LineState). s.pairs) grown);
     }
 
+-- where there is no such box all is done
 pub ends : (plan : PlanFields) (all : List (List Entry)) (done : List Entry) (pairs : List PairState)
     (lists : List (List Entry)) → IsPlan plan → Merges plan all done pairs lists → IsLowestFree plan pairs lists None
     → IsOrderFrom plan (opening_state plan) all done
@@ -189,6 +195,7 @@ one_fewer lists b e rest next =
     let left : length (drop 1 (list_at lists b)) ≡ length rest = ap (λ (l : List Entry). length (drop 1 l)) next in
     omega (arith, sum, mine, left)
 
+-- and fewer entries are left
 pub fewer : (lists : List (List Entry)) (b : ℕ) (e : Entry) (rest : List Entry) → list_at lists b ≡ e ∷ rest
     → count_left (placed lists b) < count_left lists
 fewer lists b e rest next = let h = one_fewer lists b e rest next in omega (arith, h)
@@ -239,6 +246,7 @@ is_tally BellWord = inr (λ e. cc e)
 is_tally BlockWord = inr (λ e. cc e)
 is_tally PlainLineWord = inr (λ e. cc e)
 
+-- the next entry of the lowest box finds the space that it needs
 pub has_space : (plan : PlanFields) (all : List (List Entry)) (done : List Entry) (pairs : List PairState)
     (lists : List (List Entry)) (b : ℕ) → IsPlan plan → Merges plan all done pairs lists
     → IsLowestFree plan pairs lists (Some b) → HasSpaceFor plan pairs lists b
@@ -276,6 +284,7 @@ none_part plan b (e ∷ es) is h stand =
     (λ other. part_other e es b other.0 ∙ none_part plan b es is h stand.1)
     (eqb_tells e.box_no b)
 
+-- a box past the line has no list
 pub no_list : (lists : List (List Entry)) (b : ℕ) → length lists ≤ b → list_at lists b ≡ []
 no_list [] b h = refl
 no_list (l ∷ ls) zero h = absurd (omega (arith, h))
@@ -292,11 +301,13 @@ parts_by plan es registers b false e is legal parts =
     no_list (lists_of registers) b (omega (arith, above, n, parts.each))
     ∙ sym (none_part plan b es is (omega (arith, above)) (all_stand plan (opening_state plan) es is legal))
 
+-- the registers' lists are the parts of the history
 pub lists_parts : (plan : PlanFields) (registers : List RegisterFields) → IsPlan plan
     → (ended : HaveEnded plan registers) → (b : ℕ) → list_at (lists_of registers) b ≡ part_of b ended.history
 lists_parts plan registers is ended b =
     parts_by plan ended.history registers b (nat_lt b (length plan.boxes)) refl is ended.legal ended.parts
 
+-- nothing is done, and the words are those of a line that opens
 pub opens : (plan : PlanFields) (registers : List RegisterFields) → IsPlan plan → HaveEnded plan registers
     → Merges plan (lists_of registers) [] (opening_state plan).pairs (lists_of registers)
 opens plan registers is ended =
@@ -305,12 +316,14 @@ opens plan registers is ended =
       words = refl;
     }
 
+-- the order of registers is a legal history
 pub order_legal : (plan : PlanFields) (registers : List RegisterFields) (J : List Entry) → IsPlan plan
     → HaveEnded plan registers → IsOrder plan registers J → IsLegal plan J
 order_legal plan registers J is ended order =
     order_is_legal plan [] (opening_state plan) (lists_of registers) ended.history J is
     (record { here = refl; legal = ended.legal; parts = lists_parts plan registers is ended }) order
 
+-- with the registers as its parts
 pub order_parts : (plan : PlanFields) (registers : List RegisterFields) (J : List Entry) → HaveEnded plan registers
     → IsOrder plan registers J → AreParts plan J registers
 order_parts plan registers J ended order =
@@ -336,6 +349,7 @@ opening_pairs : (plan : PlanFields) → (opening_state plan).pairs ≡ replicate
 unfolding opening_state
 opening_pairs plan = refl
 
+-- the same of what the program has
 pub opens_at : (plan : PlanFields) (registers : List RegisterFields) (done : List Entry) (pairs : List PairState)
     (lists : List (List Entry)) → IsPlan plan → HaveEnded plan registers → done ≡ []
     → pairs ≡ replicate (length plan.boxes - 1) opening_pair → lists ≡ lists_of registers
@@ -347,6 +361,7 @@ opens_at plan registers done pairs lists is ended d p l =
     (subst (λ (ls : List (List Entry)). Merges plan (lists_of registers) [] (opening_state plan).pairs ls) (sym l)
     (opens plan registers is ended)))
 
+-- and with one entry more
 pub grown_by : (plan : PlanFields) (all : List (List Entry)) (done : List Entry) (pairs : List PairState)
     (lists : List (List Entry)) (b : ℕ) (e : Entry) (more : List Entry) (written : List PairState)
     (left : List (List Entry)) → IsPlan plan → Merges plan all done pairs lists
@@ -357,6 +372,3 @@ grown_by plan all done pairs lists b e more written left is m lowest next x w l 
     (subst (λ (ps : List PairState). Merges plan all (done ++ e ∷ []) ps left) (sym w)
     (subst (λ (ls : List (List Entry)). Merges plan all (done ++ e ∷ []) (made plan pairs e) ls) (sym l)
     (grows plan all done pairs lists b e is m lowest next)))
-
-pub written_back : {A : Type 0} → (n : ℕ) (new rest : List A) → length new ≡ n → take n (new ++ rest) ≡ new
-written_back {A} n new rest e = subst (λ (k : ℕ). take k (new ++ rest) ≡ new) e (take-append_seam new rest)

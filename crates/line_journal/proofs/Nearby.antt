@@ -132,6 +132,7 @@ under c n less same = omega (arith, less, same)
 under_next : (c n : ℕ) → c < n → c ≢ n + 1
 under_next c n less same = omega (arith, less, same)
 
+-- once an open box is placed no box below its pair is open
 pub none_opens : (plan : PlanFields) (pairs : List PairState) (lists : List (List Entry)) (b : ℕ) (e : Entry)
     (rest : List Entry) → AreOfBoxes plan lists → list_at lists b ≡ e ∷ rest → e.box_no ≡ b
     → NoneOpenBelow plan pairs lists b → NoneOpenBelow plan (made plan pairs e) (placed lists b) (opens_from plan e)
@@ -166,6 +167,7 @@ set_awake awake n c asleep =
       no_set (x ∷ xs) zero e = absurd cc
       no_set (x ∷ xs) (suc n) e = no_set xs n e
 
+-- once it is placed, with its pair woken, none that is asleep is open
 pub none_wakes : (plan : PlanFields) (pairs : List PairState) (lists : List (List Entry)) (b : ℕ) (e : Entry)
     (rest : List Entry) (awake : List Bool) → AreOfBoxes plan lists → list_at lists b ≡ e ∷ rest
     → IsOpen plan pairs lists b → NoneAsleepOpen plan pairs lists awake
@@ -189,6 +191,7 @@ all_awake zero b e = absurd cc
 all_awake (suc n) zero e = absurd cc
 all_awake (suc n) (suc b) e = all_awake n b e
 
+-- the same of what the program has
 pub asleep_as : (plan : PlanFields) (pairs written : List PairState) (lists left : List (List Entry))
     (awake woke : List Bool) → written ≡ pairs → left ≡ lists → woke ≡ awake → NoneAsleepOpen plan pairs lists awake
     → NoneAsleepOpen plan written left woke

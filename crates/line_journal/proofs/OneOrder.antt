@@ -167,6 +167,7 @@ exists_from (suc many) plan all done pairs lists is m less =
     (omega (arith, left, less)))
     (lowest_below plan pairs lists (length lists))
 
+-- the registers of a line that has ended have one order
 pub have_one_order : (plan : PlanFields) (registers : List RegisterFields) → IsPlan plan → HaveEnded plan registers
     → HaveOneOrder plan registers
 have_one_order plan registers is ended =
@@ -202,6 +203,7 @@ remains_from plan done state lists left (e ∷ es) is r all =
     (remains_from plan (done ++ e ∷ []) (after_entry plan state e) (placed lists e.box_no) (without e.box_no left) es is
     (placing plan done state lists left e all.0.0 is r all.0.1) all.1)
 
+-- what remains of the history once some entries of the order are placed
 pub history_remains : (plan : PlanFields) (registers : List RegisterFields) (history es : List Entry) → IsPlan plan
     → IsLegal plan history → AreParts plan history registers
     → ArePlaced plan (opening_state plan) (lists_of registers) es
@@ -211,6 +213,7 @@ history_remains plan registers history es is legal parts all =
     remains_from plan [] (opening_state plan) (lists_of registers) history es is
     (record { here = refl; legal = legal; parts = lists_parts plan registers is ended }) all
 
+-- its first entry is ready
 pub first_ready : (plan : PlanFields) (registers : List RegisterFields) (history es later : List Entry) (e : Entry)
     → IsPlan plan → IsLegal plan history → AreParts plan history registers
     → ArePlaced plan (opening_state plan) (lists_of registers) es → history_behind history es ≡ e ∷ later

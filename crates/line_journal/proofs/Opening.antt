@@ -23,6 +23,7 @@ not_by : (b : Bool) → IsTrue (not b) → b ≡ false
 not_by true h = cc
 not_by false h = refl
 
+-- what is false is not true
 pub by_not : (b : Bool) → b ≡ false → IsTrue (not b)
 by_not true e = cc
 by_not false e = refl
@@ -117,6 +118,7 @@ set_open plan pairs lists b set =
       passed = λ c near. first_passes plan set.entry (list_at lists c) (set.free c (not_own b c near));
     }
 
+-- the lowest open box is the lowest that fits and is free
 pub lowest_set : (plan : PlanFields) (all : List (List Entry)) (done : List Entry) (pairs : List PairState)
     (lists : List (List Entry)) (o : Option ℕ) → IsPlan plan → Merges plan all done pairs lists
     → IsLowestOpen plan pairs lists o → IsLowestFree plan pairs lists o
@@ -129,6 +131,7 @@ lowest_set plan all done pairs lists (Some b) is m lowest = (
 
 -- ---- as the program has them
 
+-- what holds of no number below one, nor of that, holds of none below the next
 pub below_next : (P : ℕ → Type 0) (n : ℕ) → ((c : ℕ) → c < n → P c → ⊥) → (P n → ⊥) → (c : ℕ) → c < n + 1 → P c → ⊥
 below_next P n below here c less p =
     ⊎_elim

@@ -25,6 +25,7 @@ use Rattle.line_journal.proofs.Settled.{first_settles}
 
 -- ---- lists
 
+-- a box with an entry left is one of the line
 pub in_range : (lists : List (List Entry)) (b : ℕ) (e : Entry) (rest : List Entry) → list_at lists b ≡ e ∷ rest
     → b < length lists
 in_range [] b e rest h = absurd (cc h)
@@ -62,6 +63,7 @@ other_without b c (x ∷ R) ne =
     ∙ same_head (x.box_no == c) x _ _ (other_without b c R ne))
     (eqb_tells x.box_no b)
 
+-- what holds of each entry holds of each of a part
 pub each_part : (P : Entry → Type 0) (b : ℕ) (R : List Entry) → Each P R → Each P (part_of b R)
 each_part P b [] all = tt
 each_part P b (x ∷ R) all =
@@ -97,6 +99,7 @@ each_and : (P Q T : Entry → Type 0) → ((x : Entry) → P x → Q x → T x) 
 each_and P Q T f [] p q = tt
 each_and P Q T f (x ∷ R) p q = (f x p.0 q.0, each_and P Q T f R p.1 q.1)
 
+-- each entry of a box's part is of the box
 pub each_own : (c : ℕ) (R : List Entry) → Each (λ x. x.box_no ≡ c) (part_of c R)
 each_own c [] = tt
 each_own c (x ∷ R) =
@@ -315,6 +318,7 @@ none_there [] h = refl
 none_there (x ∷ R) h =
     let p : x ∷ part_of x.box_no R ≡ [] = sym (part_own x R x.box_no (eq-eqb _ _ refl)) ∙ h x.box_no in absurd (cc p)
 
+-- an order has as many entries as what it orders
 pub order_as_long : (plan : PlanFields) (done : List Entry) (state : LineState) (lists : List (List Entry))
     (R J : List Entry) → IsPlan plan → Remains plan done state lists R → IsOrderFrom plan state lists J
     → length J ≡ length R
@@ -369,11 +373,13 @@ append_nil : (xs : List Entry) → xs ++ [] ≡ xs
 append_nil [] = refl
 append_nil (x ∷ xs) = ap (λ (l : List Entry). x ∷ l) (append_nil xs)
 
+-- nothing is done yet
 pub begins : (plan : PlanFields) (all : List (List Entry)) (es : List Entry) → IsLegal plan es
     → ((b : ℕ) → list_at all b ≡ part_of b es) → IsMerged plan all [] (opening_state plan) all
 begins plan all es legal parts =
     record { so_far = λ later order. order; left = es; remains = record { here = refl; legal = legal; parts = parts } }
 
+-- one entry more is done
 pub one_more : (plan : PlanFields) (all : List (List Entry)) (done : List Entry) (state : LineState)
     (lists : List (List Entry)) (e : Entry) → IsPlan plan → IsMerged plan all done state lists
     → IsNext plan state lists e

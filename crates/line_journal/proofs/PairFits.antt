@@ -71,6 +71,7 @@ pub record CallLaw (way : Way) (act : Act) (d : Decision) (p q : PairState) : Ty
   pub again : FitsWord (kind_told (on_pair way d p).reply) way act (on_pair way d p).reply q
       → Alike (on_pair way d q) (on_pair way d p)
 
+-- a reply fits its word exactly where the law gives it there
 pub call_law : (plan : PlanFields) (box_plan : BoxFields) (act : Act) (here : BoxState) (way : Way) (p q : PairState)
     → CallLaw way act (decide plan box_plan act here) p q
 call_law plan box_plan act here way p q =
@@ -84,6 +85,7 @@ call_law plan box_plan act here way p q =
       again = λ h. law.again (subst (λ (k : Kind). FitsWord k way act (on_pair way d p).reply q) kind h);
     }
 
+-- so a call gets its reply again on another pair where that fits
 pub serves : (plan : PlanFields) (box_plan : BoxFields) (act : Act) (here : BoxState) (way : Way) (p q : PairState)
     → GivesAgain way act (decide plan box_plan act here) p q
 serves plan box_plan act here way p q =

@@ -128,6 +128,7 @@ in_moves v BlockWord a c r q p ne at there f g =
 in_moves v PlainLineWord a c r q p ne at there f g =
     lift_line v a c r q p (in_line_moves r q (of_way p.lines v) at there f g)
 
+-- two entries at the ends of one line: what each makes of the other's word
 pub pair_moves : (l m : Link) → OppositeEnds l m → (k : Kind) (a c : Act) (r q : Reply) (p : PairState)
     → (k ≡ Tally → ⊥) → IsReplyAt l r → IsReplyAt m q → FitsWord k (way_of l) a r p → FitsWord k (way_of m) c q p
     → PairMoves k (way_of l) a r c q p × (way_of l ≡ way_of m)
@@ -156,6 +157,7 @@ in_stays Down BellWord c r q p at there g lost = in_bell_stays c r q (of_way p.b
 in_stays Down BlockWord c r q p at there g lost = absurd (in_block_lost r (of_way p.blocks Down) at lost)
 in_stays Down PlainLineWord c r q p at there g lost = in_line_stays r q (of_way p.lines Down) at there lost
 
+-- what is lost stays lost
 pub lost_stays : (l m : Link) → OppositeEnds l m → (k : Kind) (c : Act) (r q : Reply) (p : PairState) → IsReplyAt l r
     → IsReplyAt m q → FitsWord k (way_of m) c q p → IsLostOnWord k (way_of l) r p
     → IsLostOnWord k (way_of l) r (word_made k (way_of m) c q p)
@@ -201,6 +203,7 @@ apart_fits PlainLineWord Up a r PlainLineWord Down c q p apart f = f
 apart_fits PlainLineWord Down a r PlainLineWord Up c q p apart f = f
 apart_fits PlainLineWord Down a r PlainLineWord Down c q p apart f = absurd apart
 
+-- so it does by an entry on another word
 pub apart_lost : (k : Kind) (v : Way) (r : Reply) (l : Kind) (u : Way) (c : Act) (q : Reply) (p : PairState)
     → Apart k v l u → IsLostOnWord k v r p → IsLostOnWord k v r (word_made l u c q p)
 apart_lost Tally v r Tally u c q p apart f = f
@@ -284,6 +287,7 @@ apart_back PlainLineWord Up PlainLineWord Down apart = apart
 apart_back PlainLineWord Down PlainLineWord Up apart = apart
 apart_back PlainLineWord Down PlainLineWord Down apart = apart
 
+-- entries on two words change places
 pub apart_swap : (k : Kind) (v : Way) (a : Act) (r : Reply) (l : Kind) (u : Way) (c : Act) (q : Reply) (p : PairState)
     → Apart k v l u → FitsWord k v a r p → FitsWord l u c q p → PairSwap k v a r l u c q p
 apart_swap k v a r l u c q p apart f g =
@@ -295,6 +299,7 @@ apart_swap k v a r l u c q p apart f g =
 
 -- two words of a pair are one, or two
 
+-- two words of a pair are apart, or the same one
 pub one_or_two : (k : Kind) (v : Way) (l : Kind) (u : Way) → Apart k v l u
     ⊎ ((k ≡ l) × (k ≡ Tally → ⊥) × IsTrue (same_kind k l) × IsTrue (same_way v u))
 one_or_two Tally v Tally u = inl tt
@@ -325,6 +330,7 @@ one_or_two PlainLineWord Down PlainLineWord Down = inr (refl, λ e. cc e, refl, 
 
 -- ---- two boxes on one word
 
+-- a number between others is above 0
 pub above : (n b : ℕ) → IsTrue (nat_lt 0 b && nat_lt b n) → 0 < b
 above n b h = let p = (both (nat_lt 0 b) (nat_lt b n) h).0 in grind (arith, nat_tests)
 

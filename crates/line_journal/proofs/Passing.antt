@@ -147,6 +147,7 @@ other_near b p other low is = by (other_is b p) where
   by (inl at) = let is_p : other ≡ p = is ∙ at.0 in let less = at.1 in inl (omega (arith, is_p, less, low))
   by (inr at) = inr (is ∙ at.0)
 
+-- the first keeper of the other box of a pair lets an entry pass
 pub passes_other : (plan : PlanFields) (lists : List (List Entry)) (b other : ℕ) (e : Entry) → e.box_no ≡ b
     → other ≡ other_box e.box_no (pair_for plan e) → IsPassed plan lists b e
     → LetsPass plan e (first_keeper plan e (list_at lists other))

@@ -318,6 +318,7 @@ first_told {plan} {lists} {rests} {b} {slot} {entries} {new} top d are within so
     ((rests_cut d are within some few own cut).are b slot within some few))
     (subst (λ (l : List Entry). IsTop (length l) new top) own on_top)
 
+-- what is placed leaves the keepers of what remains
 pub rests_next : (plan : PlanFields) (lists : List (List Entry)) (rests : List (List Keeper)) (b : ℕ)
     → AreRests plan lists rests → b < length lists → AreRests plan (placed lists b) rests
 rests_next plan lists rests b are within =
@@ -341,6 +342,7 @@ rests_next plan lists rests b are within =
 
 -- ---- of one box more
 
+-- and those of one box more
 pub rests_more : {plan : PlanFields} {lists : List (List Entry)} {n : ℕ} {rests behind : List (List Keeper)}
     {entries : List Entry} {more : List (List Keeper)} → AreRestsBelow plan lists n rests → entries ≡ list_at lists n
     → AreRestsFrom plan entries 0 behind → more ≡ rests ++ behind → AreRestsBelow plan lists (n + 1) more

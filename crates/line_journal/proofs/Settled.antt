@@ -263,6 +263,7 @@ pub and_second : (a b : Bool) → (a && b) ≡ true → b ≡ true
 and_second true b e = e
 and_second false b e = absurd cc
 
+-- an entry keeps another back on one word alone
 pub keeping : (plan : PlanFields) (e x : Entry) → keeps_back plan e x ≡ true → Keeping plan e x
 keeping plan e x h =
     let word = and_first (on_one_word plan e x) (kept_back e.reply x.reply) h in
@@ -274,6 +275,7 @@ keeping plan e x h =
       kept = and_second (on_one_word plan e x) _ h;
     }
 
+-- two kinds that are on one word are the same
 pub one_kind : (k l : Kind) → IsTrue (same_kind k l) → (k ≡ l) × (k ≡ Tally → ⊥)
 one_kind Tally l h = absurd cc
 one_kind BellWord BellWord h = (refl, λ e. cc e)

@@ -1,36 +1,99 @@
 -- A step of the merge, from one box that is awake to the next: what is kept.
-use Rattle.std.proofs.Common.{ℕ, ◌*◌, ◌++◌, ◌≡◌, ◌<◌, ◌≤◌, List, [], ◌∷◌, Some, Bool, length, take}
-use Rattle.std.proofs.Common.{sym, ap, subst, ◌∙◌, arith}
+use Rattle.std.proofs.Common.{ℕ, ◌+◌, ◌++◌, ◌≡◌, ◌≢◌, ◌<◌, ◌≤◌, List, [], ◌∷◌, Some, Bool, true, false, drop, length}
+use Rattle.std.proofs.Common.{slice_index_or, refl, sym, ap, subst, ◌∙◌, ⊎_elim, arith}
+use Rattle.std.specs.Prelude.{slice_set}
+use Rattle.std.proofs.lemmas.Bool.Decides.{eqb_tells}
+use Rattle.std.proofs.lemmas.List.{get_or-set_other, length-set}
 use Rattle.line_plan.specs.Plans.{IsPlan, PlanFields}
 use Rattle.line_law.specs.declared.call.Entry.{Entry}
 use Rattle.line_law.specs.declared.state.PairState.{PairState}
+use Rattle.word_laws.specs.TellsWord.{kind_told}
+use Rattle.line_journal.specs.declared.merging.MergeState.{MergeState}
 use Rattle.line_journal.specs.declared.rests.Keeper.{Keeper}
-use Rattle.line_journal.specs.Keepers.{AreRests, IsFirstAwake, IsPlacing, NoneAsleepOpen, NoneOpenBelow, slots}
+use Rattle.line_journal.specs.FitTests.{is_word}
+use Rattle.line_journal.specs.Halves.{made, pair_for}
+use Rattle.line_journal.specs.Keepers.{AreRests, IsFirstAwake, IsOpen, IsPlacing, opens_from, pair_woken, woken}
 use Rattle.line_journal.specs.Lists.{count_left}
-use Rattle.line_journal.specs.Merging.{IsKept, Merges}
+use Rattle.line_journal.specs.Merging.{AreOfLine, HoldsAt, IsUnderWay, Merges}
+use Rattle.line_journal.specs.Order.{list_at, placed}
 use Rattle.line_journal.specs.Walks.{AreTalliesPlaced, Leaves, walked}
-use Rattle.line_journal.proofs.Answering.{awake_below, placing_left, placing_merges, same_merges}
-use Rattle.line_journal.proofs.Looping.{pair_count, written_back}
+use Rattle.line_journal.proofs.Answering.{awake_below, below_as, placing_left, placing_merges, same_merges}
+use Rattle.line_journal.proofs.Looping.{of_boxes, own_box, pair_count}
+use Rattle.line_journal.proofs.Nearby.{asleep_as, none_opens, none_wakes}
+use Rattle.line_journal.proofs.Opening.{below_next}
+use Rattle.line_journal.proofs.RestsIn.{rests_next}
 use Rattle.line_journal.proofs.Tallies.{next_leaves, next_walked, tallies_kept, tallies_leave}
 
--- the entries of these boxes are done, and no box below this number is open, nor one that is asleep
-pub record IsMerging (plan : PlanFields) (all : List (List Entry)) (boxes : List ℕ) (pairs : List PairState)
-    (lists : List (List Entry)) (rests : List (List Keeper)) (awake : List Bool) (from : ℕ) : Type 0 where
-  pub merges : Merges plan all (walked all boxes) pairs lists
-  pub leaves : Leaves all boxes lists
-  pub are_rests : AreRests plan lists rests
-  pub count : length lists ≡ length plan.boxes
-  pub each : length awake ≡ length lists
-  pub asleep : NoneAsleepOpen plan pairs lists awake
-  pub below : NoneOpenBelow plan pairs lists from
+-- ---- the next entry of a box is placed or passed over
+
+past_asleep : (awake : List Bool) (b c : ℕ) → c ≢ b → slice_index_or (slice_set awake b false) c true ≡ false
+    → slice_index_or awake c true ≡ false
+past_asleep awake b c other down = sym (get_or-set_other awake b c false true other) ∙ down
+
+-- a box that isn't open falls asleep
+pub holds_past : {plan : PlanFields} {pairs after : List PairState} {lists left : List (List Entry)}
+    {rests cut : List (List Keeper)} {awake woke : List Bool} {b from : ℕ}
+    → IsUnderWay plan pairs lists rests awake b → b < length lists → (IsOpen plan pairs lists b → ⊥)
+    → AreRests plan lists cut → after ≡ pairs → left ≡ lists → woke ≡ slice_set awake b false → from ≡ b + 1
+    → IsUnderWay plan after left cut woke from
+holds_past {plan} {pairs} {after} {lists} {left} {rests} {cut} {awake} {woke} {b} {from}
+    holds within shut are p l a f = record {
+      are_rests = subst (λ (ls : List (List Entry)). AreRests plan ls cut) (sym l) are;
+      each = ap (λ (bs : List Bool). length bs) a ∙ length-set awake b false ∙ holds.each
+          ∙ ap (λ (ls : List (List Entry)). length ls) (sym l);
+      asleep = asleep_as plan pairs after lists left (slice_set awake b false) woke p l a
+          (λ c down was. ⊎_elim
+          (λ mine. shut (subst (λ (k : ℕ). IsOpen plan pairs lists k) mine.1 was))
+          (λ other. holds.asleep c (past_asleep awake b c other.1 down) was)
+          (eqb_tells c b));
+      below = below_as plan pairs after lists left (b + 1) from p l f
+          (below_next (λ c. IsOpen plan pairs lists c) b holds.below shut);
+    }
+
+-- the next entry of one that is open is placed
+pub holds_behind : {plan : PlanFields} {pairs after : List PairState} {lists left : List (List Entry)}
+    {rests cut : List (List Keeper)} {awake woke : List Bool} {b from : ℕ} {e : Entry}
+    → AreOfLine plan pairs lists → IsUnderWay plan pairs lists rests awake b → b < length lists
+    → list_at lists b ≡ e ∷ drop 1 (list_at lists b) → is_word (kind_told e.reply) ≡ true
+    → IsOpen plan pairs lists b → AreRests plan lists cut → after ≡ made plan pairs e → left ≡ placed lists b
+    → woke ≡ pair_woken (pair_for plan e) awake → from ≡ pair_for plan e → IsUnderWay plan after left cut woke from
+holds_behind {plan} {pairs} {after} {lists} {left} {rests} {cut} {awake} {woke} {b} {from} {e}
+    line holds within next word was are p l a f =
+    let own = (own_box plan lists b e _ line.boxes next).own in
+    let wakes : woken plan e awake ≡ pair_woken (pair_for plan e) awake = rw word refl in
+    let opens : opens_from plan e ≡ pair_for plan e = rw word refl in
+    record {
+      are_rests = subst (λ (ls : List (List Entry)). AreRests plan ls cut) (sym l)
+          (rests_next plan lists cut b are within);
+      each = ap (λ (bs : List Bool). length bs) a
+          ∙ length-set (slice_set awake (pair_for plan e) true) (pair_for plan e + 1) true
+          ∙ length-set awake (pair_for plan e) true ∙ holds.each ∙ sym (length-set lists b _)
+          ∙ ap (λ (ls : List (List Entry)). length ls) (sym l);
+      asleep = asleep_as plan (made plan pairs e) after (placed lists b) left (woken plan e awake) woke p l
+          (a ∙ sym wakes) (none_wakes plan pairs lists b e _ awake line.boxes next was holds.asleep);
+      below = below_as plan (made plan pairs e) after (placed lists b) left (opens_from plan e) from p l
+          (f ∙ sym opens) (none_opens plan pairs lists b e _ line.boxes next own holds.below);
+    }
+
+-- ---- from box to box
+
+-- the entries of these boxes are done
+pub record IsMerging (plan : PlanFields) (all : List (List Entry)) (boxes : List ℕ) (merge : MergeState) : Type 0
+  where
+    pub merges : Merges plan all (walked all boxes) merge.pairs.items merge.left
+    pub leaves : Leaves all boxes merge.left
+    pub count : length merge.left ≡ length plan.boxes
+    pub holds : HoldsAt plan merge merge.from
 
 -- the merge has come to box b, and its next entries that were decided on its own tally are placed
-pub record IsReached (plan : PlanFields) (all : List (List Entry)) (boxes : List ℕ) (pairs : List PairState)
-    (lists left : List (List Entry)) (b : ℕ) (awake : List Bool) (rests : List (List Keeper)) : Type 0 where
-  pub kept : IsKept plan all (walked all boxes) pairs left b awake rests
-  pub leaves : Leaves all boxes left
-  pub count : length left ≡ length plan.boxes
-  pub fewer : count_left left ≤ count_left lists
+pub record IsReached (plan : PlanFields) (all : List (List Entry)) (boxes : List ℕ) (lists : List (List Entry))
+    (merge : MergeState) (b : ℕ) : Type 0 where
+  pub merges : Merges plan all (walked all boxes) merge.pairs.items merge.left
+  pub leaves : Leaves all boxes merge.left
+  pub line : AreOfLine plan merge.pairs.items merge.left
+  pub holds : HoldsAt plan merge b
+  pub within : b < length merge.left
+  pub fewer : count_left merge.left ≤ count_left lists
 
 -- the first box that is awake is one of those that there are
 pub awake_within : {awake asked : List Bool} (lists : List (List Entry)) {from b : ℕ} → asked ≡ awake
@@ -39,89 +102,64 @@ awake_within {awake} {asked} lists {from} {b} same each first =
     let count : length asked ≡ length awake = ap (λ (bs : List Bool). length bs) same in
     omega (arith, first.1, count, each)
 
-pub reached : {plan : PlanFields} {all : List (List Entry)} {boxes more : List ℕ} {pairs : List PairState}
-    {lists left : List (List Entry)} {awake asked : List Bool} {rests : List (List Keeper)} {from b : ℕ} → IsPlan plan
-    → IsMerging plan all boxes pairs lists rests awake from → asked ≡ awake → IsFirstAwake asked from (Some b)
-    → AreTalliesPlaced b boxes lists more left → IsReached plan all more pairs lists left b awake rests
-reached {plan} {all} {boxes} {more} {pairs} {lists} {left} {awake} {asked} {rests} {from} {b} is m same first put =
-    let within = awake_within lists same m.each first in
-    let keeps = tallies_kept all lists boxes more b left m.leaves within put in
+-- the merge comes to the first box that is awake, and places its tallies
+pub reached : {plan : PlanFields} {all : List (List Entry)} {boxes more : List ℕ} {merge : MergeState}
+    {left : List (List Entry)} {asked : List Bool} {b : ℕ} → IsPlan plan → IsMerging plan all boxes merge
+    → asked ≡ merge.awake.items → IsFirstAwake asked merge.from (Some b)
+    → AreTalliesPlaced b boxes merge.left more left
+    → IsReached plan all more merge.left (record merge { left = left }) b
+reached {plan} {all} {boxes} {more} {merge} {left} {asked} {b} is m same first put =
+    let within = awake_within merge.left same m.holds.each first in
+    let keeps = tallies_kept all merge.left boxes more b left m.leaves within put in
+    let kept = keeps.keeps plan all merge.pairs.items merge.awake.items merge.rests.items is (record {
+      merges = m.merges;
+      below = awake_below plan merge.pairs.items merge.left merge.awake.items asked merge.from b same m.holds.asleep
+          m.holds.below first;
+      asleep = m.holds.asleep;
+      are_rests = m.holds.are_rests;
+    }) in
     record {
-      kept = keeps.keeps plan all pairs awake rests is (record {
-        merges = m.merges;
-        below = awake_below plan pairs lists awake asked from b same m.asleep m.below first;
-        asleep = m.asleep;
-        are_rests = m.are_rests;
-      });
+      merges = kept.merges;
       leaves = tallies_leave m.leaves within put;
-      count = keeps.count ∙ m.count;
+      line = record {
+        words = pair_count plan all (walked all more) merge.pairs.items left kept.merges;
+        count = keeps.count ∙ m.count;
+        boxes = of_boxes plan all (walked all more) merge.pairs.items left is kept.merges;
+      };
+      holds = record {
+        are_rests = kept.are_rests;
+        each = m.holds.each ∙ sym keeps.count;
+        asleep = kept.asleep;
+        below = kept.below;
+      };
+      within = subst (λ (n : ℕ). b < n) (sym keeps.count) within;
       fewer = keeps.fewer;
     }
 
 -- its next entry is placed
-pub next_placed : {plan : PlanFields} {all : List (List Entry)} {boxes more : List ℕ}
-    {pairs read after : List PairState} {lists left rest : List (List Entry)} {b from : ℕ} {e : Entry}
-    {awake woke : List Bool} {rests cut : List (List Keeper)} → IsPlan plan
-    → IsReached plan all boxes pairs lists left b awake rests → read ≡ pairs
-    → IsPlacing plan read left b e after rest → more ≡ boxes ++ b ∷ [] → AreRests plan rest cut
-    → length woke ≡ length rest → NoneAsleepOpen plan after rest woke → NoneOpenBelow plan after rest from
-    → IsMerging plan all more after rest cut woke from
-next_placed {plan} {all} {boxes} {more} {pairs} {read} {after} {lists} {left} {rest} {b} {from} {e}
-    is here same placing told are each asleep below = record {
-      merges =
-          placing_merges plan all (walked all boxes) pairs read left b e after rest (walked all more) is
-          here.kept.merges same here.kept.below placing (next_walked b here.leaves placing.next told);
-      leaves = next_leaves b here.leaves placing.next told placing.rest;
-      are_rests = are;
-      count = placing_left plan read left b e after rest placing ∙ here.count;
-      each = each;
-      asleep = asleep;
-      below = below;
-    }
+pub next_placed : {plan : PlanFields} {all : List (List Entry)} {boxes more : List ℕ} {lists : List (List Entry)}
+    {merge after : MergeState} {b : ℕ} {e : Entry} → IsPlan plan → IsReached plan all boxes lists merge b
+    → IsPlacing plan merge.pairs.items merge.left b e after.pairs.items after.left → more ≡ boxes ++ b ∷ []
+    → HoldsAt plan after after.from → IsMerging plan all more after
+next_placed {plan} {all} {boxes} {more} {lists} {merge} {after} {b} {e} is here placing told holds = record {
+  merges =
+      placing_merges plan all (walked all boxes) merge.pairs.items merge.left b e after.pairs.items after.left
+      (walked all more) is here.merges here.holds.below placing (next_walked b here.leaves placing.next told);
+  leaves = next_leaves b here.leaves placing.next told placing.rest;
+  count = placing_left plan merge.pairs.items merge.left b e after.pairs.items after.left placing ∙ here.line.count;
+  holds = holds;
+}
 
 -- or it isn't, and all is as it was
-pub none_placed : {plan : PlanFields} {all : List (List Entry)} {boxes : List ℕ} {pairs read after : List PairState}
-    {lists left rest : List (List Entry)} {b from : ℕ} {awake woke : List Bool} {rests cut : List (List Keeper)}
-    → IsReached plan all boxes pairs lists left b awake rests → read ≡ pairs → after ≡ read → rest ≡ left
-    → AreRests plan rest cut → length woke ≡ length rest → NoneAsleepOpen plan after rest woke
-    → NoneOpenBelow plan after rest from → IsMerging plan all boxes after rest cut woke from
-none_placed {plan} {all} {boxes} {pairs} {read} {after} {lists} {left} {rest}
-    here same words as_it_was are each asleep below = record {
-      merges =
-          same_merges plan all (walked all boxes) pairs after left rest here.kept.merges (words ∙ same) as_it_was;
-      leaves = record { walk = here.leaves.walk; behind = as_it_was ∙ here.leaves.behind };
-      are_rests = are;
-      count = ap (λ (ls : List (List Entry)). length ls) as_it_was ∙ here.count;
-      each = each;
-      asleep = asleep;
-      below = below;
-    }
-
--- the lists are as long as before, so they are written back whole
-pub write_back : {plan : PlanFields} {all : List (List Entry)} {boxes more : List ℕ}
-    {pairs read after : List PairState} {lists left : List (List Entry)} {rests asked cut : List (List Keeper)}
-    {awake seen woke : List Bool} {from onward p r a : ℕ}
-    → IsMerging plan all boxes pairs lists rests awake from → IsMerging plan all more after left cut woke onward
-    → read ≡ pairs → length read ≡ p → asked ≡ rests → length asked ≡ r → seen ≡ awake → length seen ≡ a
-    → (behind : List PairState) (under : List (List Keeper)) (beyond : List Bool)
-    → IsMerging plan all more (take p (after ++ behind)) left (take r (cut ++ under)) (take a (woke ++ beyond)) onward
-write_back {plan} {all} {boxes} {more} {pairs} {read} {after} {lists} {left} {rests} {asked} {cut} {awake} {seen}
-    {woke} {from} {onward} {p} {r} {a} was now same_pairs of_pairs same_rests of_rests same_awake of_awake
-    behind under beyond =
-    let lists_kept : length left ≡ length lists = now.count ∙ sym was.count in
-    let pairs_kept : length after ≡ p =
-    pair_count plan all (walked all more) after left now.merges
-    ∙ sym (pair_count plan all (walked all boxes) pairs lists was.merges)
-    ∙ sym (ap (λ (ps : List PairState). length ps) same_pairs) ∙ of_pairs in
-    let rests_kept : length cut ≡ r =
-    now.are_rests.each ∙ ap (λ (n : ℕ). slots * n) lists_kept ∙ sym was.are_rests.each
-    ∙ sym (ap (λ (ns : List (List Keeper)). length ns) same_rests) ∙ of_rests in
-    let awake_kept : length woke ≡ a =
-    now.each ∙ lists_kept ∙ sym was.each ∙ sym (ap (λ (bs : List Bool). length bs) same_awake) ∙ of_awake in
-    subst (λ (ps : List PairState).
-    IsMerging plan all more ps left (take r (cut ++ under)) (take a (woke ++ beyond)) onward)
-    (sym (written_back p after behind pairs_kept))
-    (subst (λ (ns : List (List Keeper)). IsMerging plan all more after left ns (take a (woke ++ beyond)) onward)
-    (sym (written_back r cut under rests_kept))
-    (subst (λ (bs : List Bool). IsMerging plan all more after left cut bs onward)
-    (sym (written_back a woke beyond awake_kept)) now))
+pub none_placed : {plan : PlanFields} {all : List (List Entry)} {boxes : List ℕ} {lists : List (List Entry)}
+    {merge after : MergeState} {b : ℕ} → IsReached plan all boxes lists merge b
+    → after.pairs.items ≡ merge.pairs.items → after.left ≡ merge.left → HoldsAt plan after after.from
+    → IsMerging plan all boxes after
+none_placed {plan} {all} {boxes} {lists} {merge} {after} here words as_it_was holds = record {
+  merges =
+      same_merges plan all (walked all boxes) merge.pairs.items after.pairs.items merge.left after.left here.merges
+      words as_it_was;
+  leaves = record { walk = here.leaves.walk; behind = as_it_was ∙ here.leaves.behind };
+  count = ap (λ (ls : List (List Entry)). length ls) as_it_was ∙ here.line.count;
+  holds = holds;
+}

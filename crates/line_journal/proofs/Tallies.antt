@@ -184,6 +184,7 @@ tallies_kept all lists boxes more b left leaves lt put =
     (subst (λ (es : List Entry). KeepsMerging b (walked all boxes) lists es (placed_some lists b put.many)) (sym done)
     (keeps_some b (walked all boxes) lists put.many lt put.within put.tallies))
 
+-- and the walk has come so far
 pub tallies_leave : {all lists : List (List Entry)} {boxes more : List ℕ} {b : ℕ} {left : List (List Entry)}
     → Leaves all boxes lists → b < length lists → AreTalliesPlaced b boxes lists more left → Leaves all more left
 tallies_leave {all} {lists} {boxes} {more} {b} {left} leaves lt put =
@@ -213,6 +214,7 @@ next_leaves {all} {lists} {boxes} {more} b {e} {left} leaves next told rest =
           ∙ sym (behind_more all boxes (b ∷ [])) ∙ ap (λ (bs : List ℕ). left_behind all bs) (sym told);
     }
 
+-- the walk has come one entry farther
 pub next_walked : {all lists : List (List Entry)} {boxes more : List ℕ} (b : ℕ) {e : Entry} → Leaves all boxes lists
     → list_at lists b ≡ e ∷ drop 1 (list_at lists b) → more ≡ boxes ++ b ∷ []
     → walked all more ≡ walked all boxes ++ e ∷ []

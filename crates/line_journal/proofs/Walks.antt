@@ -28,6 +28,7 @@ one : (list : List Entry) → 0 < length list → length (take 1 list) ≡ 1
 one [] h = absurd (omega (arith, h))
 one (e ∷ es) h = refl
 
+-- a walk has as many entries as boxes
 pub walked_length : (lists : List (List Entry)) (bs : List ℕ) → IsWalk lists bs → length (walked lists bs) ≡ length bs
 walked_length lists [] w = refl
 walked_length lists (b ∷ bs) w =
@@ -38,6 +39,7 @@ walked_length lists (b ∷ bs) w =
 
 -- ---- a walk goes on
 
+-- a walk along more boxes
 pub walked_more : (lists : List (List Entry)) (bs cs : List ℕ)
     → walked lists (bs ++ cs) ≡ walked lists bs ++ walked (left_behind lists bs) cs
 walked_more lists [] cs = refl
@@ -45,11 +47,13 @@ walked_more lists (b ∷ bs) cs =
     ap (λ (es : List Entry). take 1 (list_at lists b) ++ es) (walked_more (placed lists b) bs cs)
     ∙ sym (append_assoc (take 1 (list_at lists b)) (walked (placed lists b) bs) _)
 
+-- what it leaves behind
 pub behind_more : (lists : List (List Entry)) (bs cs : List ℕ)
     → left_behind lists (bs ++ cs) ≡ left_behind (left_behind lists bs) cs
 behind_more lists [] cs = refl
 behind_more lists (b ∷ bs) cs = behind_more (placed lists b) bs cs
 
+-- and that it may go there
 pub walk_more : (lists : List (List Entry)) (bs cs : List ℕ) → IsWalk lists bs → IsWalk (left_behind lists bs) cs
     → IsWalk lists (bs ++ cs)
 walk_more lists [] cs w v = v
@@ -143,6 +147,7 @@ same_taken lists b (suc n) lt le =
 one_more : (n : ℕ) → 1 + n ≡ suc n
 one_more n = omega arith
 
+-- a walk along one box many times leaves that many fewer of it
 pub same_left : (lists : List (List Entry)) (b n : ℕ) → b < length lists
     → left_behind lists (replicate n b) ≡ placed_some lists b n
 same_left lists b zero lt = sym (set-get_or lists b [])
@@ -155,6 +160,7 @@ same_left lists b (suc n) lt =
     ∙ ap (λ (l : List Entry). slice_set lists b l) (drop-drop n 1 (list_at lists b))
     ∙ ap (λ (k : ℕ). slice_set lists b (drop k (list_at lists b))) (one_more n)
 
+-- and may go there while entries are left
 pub same_walk : (lists : List (List Entry)) (b n : ℕ) → b < length lists → n ≤ length (list_at lists b)
     → IsWalk lists (replicate n b)
 same_walk lists b zero lt le = tt

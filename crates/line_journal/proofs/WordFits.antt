@@ -156,6 +156,7 @@ turn_law here way p =
           );
     }
 
+-- positions that test as the same are equal
 pub one_position : (p q : Position) → same_position p q ≡ true → p ≡ q
 one_position Normal Normal e = refl
 one_position Normal LineClear e = absurd cc
@@ -331,6 +332,7 @@ LawOf act (OnBell f) = WordLaw FitsBell (bell_made act) f
 LawOf act (OnBlock f) = WordLaw (FitsBlock act) (block_made act) f
 LawOf act (OnPlainLine f) = WordLaw FitsPlainLine plain_line_made f
 
+-- what each kind of decision makes of its word
 pub law_of : (plan : PlanFields) (box_plan : BoxFields) (here : BoxState) (act : Act) (d : Decision)
     → Outcome plan box_plan here act d → LawOf act d
 law_of plan box_plan here act d (Refused a reply refused) = tt

@@ -56,6 +56,7 @@ busy_past a c k held (Silent n) w at f g = absurd (silent_not_rung w.unheard hel
 busy_past a c k held (BellNotYet shown n) w at f g = inr (inl (record { first = f; second = g; word = refl }))
 busy_past a c k held q w at f g = absurd g
 
+-- what a bell entry of the ringer makes of one of the hearer
 pub out_bell_moves : (a c : Act) (r q : Reply) (w : Bell) → IsOutReply r → IsInReply q → FitsBell r w → FitsBell q w
     → BellMoves a c r q w
 out_bell_moves a c (Rung k) q w out at f g = rung_past a c k q w at f g
@@ -92,6 +93,7 @@ shown_past a c k shown (Silent n) w at f g = absurd at
 shown_past a c k shown (BellNotYet other n) w at f g = absurd at
 shown_past a c k shown q w at f g = absurd g
 
+-- and one of the hearer of one of the ringer
 pub in_bell_moves : (a c : Act) (r q : Reply) (w : Bell) → IsInReply r → IsOutReply q → FitsBell r w → FitsBell q w
     → BellMoves a c r q w
 in_bell_moves a c (Rung k) q w at out f g = absurd at
@@ -120,6 +122,7 @@ count_stays c k (Silent n) w g h = h
 count_stays c k (BellNotYet shown n) w g h = h
 count_stays c k q w g h = absurd g
 
+-- what the ringer lost stays lost whatever the hearer does
 pub out_bell_stays : (c : Act) (r q : Reply) (w : Bell) → IsOutReply r → IsInReply q → FitsBell q w → IsLostOnBell r w
     → IsLostOnBell r (bell_made c q w)
 out_bell_stays c (BellBusy held k) q w out at g lost = off_stays c q w at g lost
@@ -127,6 +130,7 @@ out_bell_stays c (Silent k) q w out at g lost = absurd out
 out_bell_stays c (BellNotYet shown k) q w out at g lost = absurd out
 out_bell_stays c r q w out at g lost = absurd lost
 
+-- and so does what the hearer lost
 pub in_bell_stays : (c : Act) (r q : Reply) (w : Bell) → IsInReply r → IsOutReply q → FitsBell q w → IsLostOnBell r w
     → IsLostOnBell r (bell_made c q w)
 in_bell_stays c (BellBusy held k) q w at out g lost = absurd at
@@ -198,11 +202,13 @@ turn_keeps : (r q : Reply) (n : ℕ) → IsTurn r n → OfTurn q n → IsTrue (k
 turn_keeps (Turned v) q n e g = turn_kept q n v g (omega (arith, e))
 turn_keeps r q n e g = absurd e
 
+-- what an entry at the rear of an instrument makes of a turn
 pub out_block_moves : (a c : Act) (r q : Reply) (w : Block) → IsOutReply r → IsInReply q → FitsBlock a r w
     → FitsBlock c q w → BlockMoves a c r q w
 out_block_moves a c r q w out at f g =
     inr (inr (turn_loses r w.turns (block_made c q w) (of_turn a r w out f) (turn_raises c q w (is_turn c q w at g))))
 
+-- and a turn of an entry at the rear
 pub in_block_moves : (a c : Act) (r q : Reply) (w : Block) → IsInReply r → IsOutReply q → FitsBlock a r w
     → FitsBlock c q w → BlockMoves a c r q w
 in_block_moves a c r q w at out f g = inl (turn_keeps r q w.turns (is_turn a r w at f) (of_turn c q w out g))
@@ -214,6 +220,7 @@ turn_stays (Seen n) w v lost h = omega (arith, lost, h)
 turn_stays (BlockNotYet shown n) w v lost h = omega (arith, lost, h)
 turn_stays r w v lost h = absurd lost
 
+-- what the rear lost stays lost whatever is turned
 pub out_block_stays : (c : Act) (r q : Reply) (w : Block) → IsInReply q → FitsBlock c q w → IsLostOnBlock r w
     → IsLostOnBlock r (block_made c q w)
 out_block_stays c r q w at g lost = turn_stays r w (block_made c q w) lost (turn_raises c q w (is_turn c q w at g))
@@ -226,6 +233,7 @@ in_block_lost (Seen n) w at lost = at
 in_block_lost (BlockNotYet shown n) w at lost = at
 in_block_lost r w at lost = lost
 
+-- what is lost doesn't fit
 pub block_lost : (a : Act) (r : Reply) (w : Block) → IsLostOnBlock r w → FitsBlock a r w → ⊥
 block_lost a (PulledUnder n) w lost f = omega (arith, f.0, lost)
 block_lost a (HeldByInstrument way shown spent n) w lost f = omega (arith, f.0, lost)
@@ -382,6 +390,7 @@ full_past k (Entered t n) w at f g = absurd at
 full_past k (SectionFull n) w at f g = absurd at
 full_past k q w at f g = absurd g
 
+-- what an entry of the box that sends makes of one of the box that takes
 pub out_line_moves : (r q : Reply) (w : List Passage) → IsOutReply r → IsInReply q → FitsPlainLine r w
     → FitsPlainLine q w → LineMoves r q w
 out_line_moves (Entered train k) q w out at f g = entered_past k train q w at f g
@@ -500,6 +509,7 @@ unseen_past j (NoTrainAt k) w f out g = absurd out
 unseen_past j (Cleared train k) w f out g = absurd out
 unseen_past j q w f out g = absurd g
 
+-- and one of the box that takes of one of the box that sends
 pub in_line_moves : (r q : Reply) (w : List Passage) → IsInReply r → IsOutReply q → FitsPlainLine r w
     → FitsPlainLine q w → LineMoves r q w
 in_line_moves (Entered train k) q w at out f g = absurd at
@@ -531,6 +541,7 @@ found_after j (Berthed t k) w out found e = out
 found_after j (Cleared t k) w out found e = out
 found_after j q w out found e = found e
 
+-- what the box that sends lost stays lost
 pub out_line_stays : (r q : Reply) (w : List Passage) → IsOutReply r → IsInReply q → IsLostOnPlainLine r w
     → IsLostOnPlainLine r (plain_line_made q w)
 out_line_stays (SectionFull k) q w out at lost = free_after k q w at lost
@@ -538,6 +549,7 @@ out_line_stays (NoTrainAt j) q w out at lost = absurd out
 out_line_stays (TrainNotYet j) q w out at lost = absurd out
 out_line_stays r q w out at lost = absurd lost
 
+-- and so does what the box that takes lost
 pub in_line_stays : (r q : Reply) (w : List Passage) → IsInReply r → IsOutReply q → IsLostOnPlainLine r w
     → IsLostOnPlainLine r (plain_line_made q w)
 in_line_stays (SectionFull k) q w at out lost = absurd at
@@ -545,6 +557,7 @@ in_line_stays (NoTrainAt j) q w at out lost = found_after j q w out lost
 in_line_stays (TrainNotYet j) q w at out lost = found_after j q w out lost
 in_line_stays r q w at out lost = absurd lost
 
+-- what is lost doesn't fit
 pub line_lost : (r : Reply) (w : List Passage) → IsLostOnPlainLine r w → FitsPlainLine r w → ⊥
 line_lost (SectionFull k) w lost f = cc
 line_lost (NoTrainAt j) w lost f = lost f

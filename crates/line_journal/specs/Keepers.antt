@@ -18,20 +18,33 @@ use Rattle.line_journal.specs.Halves.{Fits, made, pair_for}
 use Rattle.line_journal.specs.declared.rests.Keeper.{Keeper}
 use Rattle.line_journal.specs.FitTests.{is_word}
 
--- the kind of a reply that may keep others back: of a busy bell, of one that has nothing, of an instrument at its rear,
--- of a full section, or of a train that isn't there; 0 for any other
+-- a row of the table of keepers: the kind of a reply that may keep others back, and the count that it tells
+pub record KeeperRow : Type 0 where
+  pub kind : ℕ
+  pub count : ℕ
+
+-- the table: a busy bell, or one that has nothing, by the codes rung; an instrument at its rear, by its turns; a full
+-- section, by the trains sent; a train that isn't there, by those taken; 0 for any other reply
+abbrev pub keeper_row : Reply → KeeperRow
+keeper_row (BellBusy code k) = record { kind = 1; count = k }
+keeper_row (Silent k) = record { kind = 2; count = k }
+keeper_row (BellNotYet shown k) = record { kind = 2; count = k }
+keeper_row (PulledUnder v) = record { kind = 3; count = v }
+keeper_row (HeldByInstrument way shown spent v) = record { kind = 3; count = v }
+keeper_row (Seen v) = record { kind = 3; count = v }
+keeper_row (BlockNotYet shown v) = record { kind = 3; count = v }
+keeper_row (SectionFull k) = record { kind = 4; count = k }
+keeper_row (NoTrainAt j) = record { kind = 5; count = j }
+keeper_row (TrainNotYet j) = record { kind = 5; count = j }
+keeper_row reply = record { kind = 0; count = 0 }
+
+-- the kind
 abbrev pub keeper_no : Reply → ℕ
-keeper_no (BellBusy code k) = 1
-keeper_no (Silent k) = 2
-keeper_no (BellNotYet shown k) = 2
-keeper_no (PulledUnder v) = 3
-keeper_no (HeldByInstrument way shown spent v) = 3
-keeper_no (Seen v) = 3
-keeper_no (BlockNotYet shown v) = 3
-keeper_no (SectionFull k) = 4
-keeper_no (NoTrainAt j) = 5
-keeper_no (TrainNotYet j) = 5
-keeper_no reply = 0
+keeper_no reply = (keeper_row reply).kind
+
+-- the count
+abbrev pub keeper_count : Reply → ℕ
+keeper_count reply = (keeper_row reply).count
 
 -- the kind of reply that may keep this one back; 0 for none
 abbrev pub kept_by : Reply → ℕ
@@ -42,20 +55,6 @@ kept_by (Berthed train j) = 4
 kept_by (Cleared train j) = 4
 kept_by (Entered train k) = 5
 kept_by reply = 0
-
--- the count that such a reply tells: of codes rung, of turns, of trains sent or taken; 0 for any other
-abbrev pub keeper_count : Reply → ℕ
-keeper_count (BellBusy code k) = k
-keeper_count (Silent k) = k
-keeper_count (BellNotYet shown k) = k
-keeper_count (PulledUnder v) = v
-keeper_count (HeldByInstrument way shown spent v) = v
-keeper_count (Seen v) = v
-keeper_count (BlockNotYet shown v) = v
-keeper_count (SectionFull k) = k
-keeper_count (NoTrainAt j) = j
-keeper_count (TrainNotYet j) = j
-keeper_count reply = 0
 
 -- a reply is kept back by one of the kind that may keep it back, where that tells this count
 abbrev pub kept_at : Reply → ℕ → Bool

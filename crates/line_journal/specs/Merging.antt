@@ -1,5 +1,5 @@
 -- What the merge keeps: what is done so far, and what remains.
-use Rattle.std.specs.Prelude.{ℕ, ◌≡◌, ◌≤◌, ◌<◌, List, ◌∷◌, ◌++◌, Bool, true, false, length, slice_index_or}
+use Rattle.std.specs.Prelude.{ℕ, ◌≡◌, ◌-◌, ◌≤◌, ◌<◌, List, ◌∷◌, ◌++◌, Bool, true, false, length, slice_index_or}
 use Rattle.line_plan.specs.Plans.{IsPlan, PlanFields}
 use Rattle.line_law.specs.declared.call.Entry.{Entry}
 use Rattle.line_law.specs.History.{IsLegal, part_of, state_of}
@@ -8,8 +8,9 @@ use Rattle.line_law.specs.declared.state.PairState.{PairState}
 use Rattle.word_laws.specs.TellsWord.{kind_told}
 use Rattle.line_journal.specs.FitTests.{is_word}
 use Rattle.line_journal.specs.Keepers.{AreRests, NoneAsleepOpen, NoneOpenBelow}
-use Rattle.line_journal.specs.Lists.{count_left}
+use Rattle.line_journal.specs.Lists.{AreOfBoxes, count_left}
 use Rattle.line_journal.specs.Order.{IsBoxReady, IsOrderFrom, list_at}
+use Rattle.line_journal.specs.declared.merging.MergeState.{MergeState}
 use Rattle.line_journal.specs.declared.rests.Keeper.{Keeper}
 
 -- these entries are done, and what remains are the parts of what a legal history goes on with after them
@@ -46,6 +47,26 @@ pub record IsKept (plan : PlanFields) (all : List (List Entry)) (done : List Ent
   pub below : NoneOpenBelow plan pairs lists b
   pub asleep : NoneAsleepOpen plan pairs lists awake
   pub are_rests : AreRests plan lists rests
+
+-- the words are those of the plan's pairs, and what remains are lists of its boxes, each of its own entries
+pub record AreOfLine (plan : PlanFields) (pairs : List PairState) (lists : List (List Entry)) : Type 0 where
+  pub words : length pairs ≡ length plan.boxes - 1
+  pub count : length lists ≡ length plan.boxes
+  pub boxes : AreOfBoxes plan lists
+
+-- what holds of a merge between any two steps: its keepers are those of what remains, and no box below this number is
+-- open, nor one that is asleep
+pub record IsUnderWay (plan : PlanFields) (pairs : List PairState) (lists : List (List Entry))
+    (rests : List (List Keeper)) (awake : List Bool) (from : ℕ) : Type 0 where
+  pub are_rests : AreRests plan lists rests
+  pub each : length awake ≡ length lists
+  pub asleep : NoneAsleepOpen plan pairs lists awake
+  pub below : NoneOpenBelow plan pairs lists from
+
+-- the same of the state of a merge
+abbrev pub HoldsAt : PlanFields → MergeState → ℕ → Type 0
+HoldsAt plan merge from =
+    IsUnderWay plan merge.pairs.items merge.left merge.rests.items merge.awake.items from
 
 -- the first of these entries, so many, were decided on their box's own tally
 abbrev pub AreTallies : List Entry → ℕ → Type 0

@@ -294,23 +294,23 @@ fn make_word(pair: &mut PairState, way: Way, entry: &Entry)
 }
 
 /// Whether an entry fits its word in the pairs of a line: that of this pair and way.
-pub fn fits(plan: &Plan, pairs: &[PairState], pair: usize, way: Way, entry: &Entry) -> bool
+pub fn fits(plan: &Plan, pairs: &Vec<PairState>, pair: usize, way: Way, entry: &Entry) -> bool
     requires pair { pair ≡ pair_for plan.now entry.now }
     requires way { way ≡ way_at plan.now entry.now.box_no entry.now.call }
-    requires within { pair < length pairs.now }
-    ensures { result ≡ fits_here plan.now pairs.now entry.now }
+    requires within { pair < length pairs.now.items }
+    ensures { result ≡ fits_here plan.now pairs.now.items entry.now }
 {
     fits_word(&pairs[pair], way, entry)
 }
 
 /// Makes of an entry's word, that of this pair and way, what its reply says.
-pub fn make(plan: &Plan, pairs: &mut [PairState], pair: usize, way: Way, entry: &Entry)
+pub fn make(plan: &Plan, pairs: &mut Vec<PairState>, pair: usize, way: Way, entry: &Entry)
     requires pair { pair ≡ pair_for plan.now entry.now }
     requires way { way ≡ way_at plan.now entry.now.box_no entry.now.call }
-    requires within { pair < length pairs.old }
-    requires space { HasSpace entry.now.reply (of_way (found_at pairs.old (pair_for plan.now entry.now)).lines
+    requires within { pair < length pairs.old.items }
+    requires space { HasSpace entry.now.reply (of_way (found_at pairs.old.items (pair_for plan.now entry.now)).lines
         (way_at plan.now entry.now.box_no entry.now.call)) }
-    ensures { pairs.new ≡ made plan.now pairs.old entry.now }
+    ensures { pairs.new.items ≡ made plan.now pairs.old.items entry.now }
 {
     make_word(&mut pairs[pair], way, entry);
 }

@@ -1,6 +1,6 @@
 //! The entries of each kind that may keep others back.
 
-ghost use Rattle.std.specs.Prelude.{◌≡◌, ◌↔◌, ◌<◌, ◌≤◌, ◌+◌, ◌*◌, ◌^◌, [], All, IfOk, IsTrue};
+ghost use Rattle.std.specs.Prelude.{◌≡◌, ◌↔◌, ◌<◌, ◌≤◌, ◌+◌, ◌*◌, ◌^◌, [], All, IfOk, IfSome, IsTrue, None};
 ghost use Rattle.std.specs.Prelude.{length, replicate};
 ghost use Rattle.word_laws.specs.Footprint.{way_at};
 ghost use Rattle.line_law.specs.Replies.{way_number};
@@ -36,51 +36,16 @@ use std::alloc::Global;
 // How many numbers of keepers there are.
 const SLOTS: usize = 12;
 
-// The kind of an entry's reply that may keep others back; 0 for any other.
-fn keeper_no(entry: &Entry) -> usize
-    ensures { result ≡ keeper_no entry.now.reply }
+// The row of an entry's reply in the table of keepers, its kind and the count that it tells, if it may keep others
+// back. Most don't.
+fn keeper_row(entry: &Entry) -> Option<(usize, u64)>
+    ensures some { IfSome result (λ row. (0 < row.0) × (row.0 ≡ keeper_no entry.now.reply)
+        × (row.1 ≡ keeper_count entry.now.reply)) }
+    ensures none { result ≡ None → keeper_no entry.now.reply ≡ 0 }
 {
     match entry.reply {
-        Reply::BellBusy { .. } => 1,
-        Reply::Silent { .. } | Reply::BellNotYet { .. } => 2,
-        Reply::PulledUnder { .. }
-        | Reply::HeldByInstrument { .. }
-        | Reply::Seen { .. }
-        | Reply::BlockNotYet { .. } => 3,
-        Reply::SectionFull { .. } => 4,
-        Reply::NoTrainAt { .. } | Reply::TrainNotYet { .. } => 5,
-        _ => 0,
-    }
-}
-
-// Whether an entry's reply is of a kind that may keep others back. Most aren't, and this is told without their kind.
-fn may_keep_back(entry: &Entry) -> bool
-    ensures { IsTrue result ↔ (0 < keeper_no entry.now.reply) }
-{
-    match entry.reply {
-        Reply::BellBusy { .. }
-        | Reply::Silent { .. }
-        | Reply::BellNotYet { .. }
-        | Reply::PulledUnder { .. }
-        | Reply::HeldByInstrument { .. }
-        | Reply::Seen { .. }
-        | Reply::BlockNotYet { .. }
-        | Reply::SectionFull { .. }
-        | Reply::NoTrainAt { .. }
-        | Reply::TrainNotYet { .. } => true,
-        _ => false,
-    }
-}
-
-// The count that an entry's reply tells, if it is of a kind that may keep others back; 0 for any other.
-fn keeper_count(entry: &Entry) -> u64
-    ensures { result ≡ keeper_count entry.now.reply }
-{
-    match entry.reply {
-        Reply::BellBusy { k, code: _ }
-        | Reply::Silent { k }
-        | Reply::BellNotYet { k, shown: _ }
-        | Reply::SectionFull { k } => k,
+        Reply::BellBusy { k, code: _ } => Some((1, k)),
+        Reply::Silent { k } | Reply::BellNotYet { k, shown: _ } => Some((2, k)),
         Reply::PulledUnder { v }
         | Reply::HeldByInstrument {
             way: _,
@@ -89,9 +54,10 @@ fn keeper_count(entry: &Entry) -> u64
             spent: _,
         }
         | Reply::Seen { v }
-        | Reply::BlockNotYet { v, shown: _ } => v,
-        Reply::NoTrainAt { j } | Reply::TrainNotYet { j } => j,
-        _ => 0,
+        | Reply::BlockNotYet { v, shown: _ } => Some((3, v)),
+        Reply::SectionFull { k } => Some((4, k)),
+        Reply::NoTrainAt { j } | Reply::TrainNotYet { j } => Some((5, j)),
+        _ => None,
     }
 }
 
@@ -127,13 +93,14 @@ fn way_of(plan: &Plan, entry: &Entry) -> usize
     way_number(word_of(plan, entry).1)
 }
 
-// The number of an entry as one that may keep others back.
-fn keeper_slot(plan: &Plan, entry: &Entry) -> usize
-    requires { entry.now.box_no < length plan.now.boxes }
+// The number of an entry as one that may keep others back, by its kind.
+fn keeper_slot(plan: &Plan, entry: &Entry, kind: usize) -> usize
+    requires entry { entry.now.box_no < length plan.now.boxes }
+    requires kind { kind ≡ keeper_no entry.now.reply }
     ensures value { result ≡ keeper_slot plan.now entry.now }
     ensures few { result < slots }
 {
-    2 * keeper_no(entry) + way_of(plan, entry)
+    2 * kind + way_of(plan, entry)
 }
 
 // The number of the entries that may keep back one that is on a word of this way.
@@ -148,15 +115,15 @@ fn kept_slot(entry: &Entry, way: Way) -> usize
 fn first_told(
     plan: &Plan,
     left: &Left<'_>,
-    rests: &mut [Rests],
+    rests: &mut Vec<Rests>,
     other: usize,
     slot: usize,
 ) -> Option<Keeper>
     requires other { other < length left.now }
     requires some { 2 ≤ slot }
     requires few { slot < slots }
-    requires rests { AreRests plan.now left.now rests.old }
-    ensures rests { AreRests plan.now left.now rests.new }
+    requires rests { AreRests plan.now left.now rests.old.items }
+    ensures rests { AreRests plan.now left.now rests.new.items }
     ensures first { TellsFirst plan.now slot (list_at left.now other) result }
 {
     rests[SLOTS * other + slot].cut(left.of_box(other).len())
@@ -201,12 +168,9 @@ pub fn rests_of(alloc: Global, plan: &Plan, entries: &[Entry]) -> Result<Vec<Res
     while at > 0 {
         at -= 1;
         let entry = &entries[at];
-        if may_keep_back(entry) {
-            let keeper = Keeper {
-                rest: entries.len() - at,
-                count: keeper_count(entry),
-            };
-            rests[keeper_slot(plan, entry)].add(keeper)?;
+        if let Some((kind, count)) = keeper_row(entry) {
+            let rest = entries.len() - at;
+            rests[keeper_slot(plan, entry, kind)].add(Keeper { rest, count })?;
         }
     }
     Ok(rests)
@@ -225,7 +189,7 @@ fn other_box(here: usize, pair: usize) -> usize
 pub fn is_passed(
     plan: &Plan,
     left: &Left<'_>,
-    rests: &mut [Rests],
+    rests: &mut Vec<Rests>,
     box_no: usize,
     pair: usize,
     way: Way,
@@ -237,8 +201,8 @@ pub fn is_passed(
     requires way { way ≡ way_at plan.now entry.now.box_no entry.now.call }
     requires entry { entry.now.box_no < length plan.now.boxes }
     requires boxes { AreOfBoxes plan.now left.now }
-    requires rests { AreRests plan.now left.now rests.old }
-    ensures rests { AreRests plan.now left.now rests.new }
+    requires rests { AreRests plan.now left.now rests.old.items }
+    ensures rests { AreRests plan.now left.now rests.new.items }
     ensures passed { IsTrue result ↔ IsPassed plan.now left.now box_no entry.now }
 {
     if kept_by(entry) == 0 {

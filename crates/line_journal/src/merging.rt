@@ -1,18 +1,18 @@
 //! The merge of registers into the journal.
 
-ghost use Rattle.std.specs.Prelude.{◌≡◌, ◌↔◌, ◌<◌, ◌+◌, ◌-◌, ◌≤◌, ◌∷◌, if◌then◌else◌};
+ghost use Rattle.std.specs.Prelude.{◌≡◌, ◌↔◌, ◌<◌, ◌+◌, ◌≤◌, ◌∷◌};
 ghost use Rattle.std.specs.Prelude.{◌^◌, IfOk, IsTrue, All, true, false, drop, replicate, length, slice_set};
 ghost use Rattle.line_law.specs.States.{opening_pair};
 ghost use Rattle.word_laws.specs.Footprint.{way_at};
 ghost use Rattle.word_laws.specs.TellsWord.{kind_told};
 ghost use Rattle.line_journal.specs.FitTests.{is_word};
-ghost use Rattle.line_journal.specs.Keepers.{AreRests, IsFirstAwake, IsOpen, IsPlaced, NoneAsleepOpen, NoneOpenBelow};
-ghost use Rattle.line_journal.specs.Keepers.{opens_from, pair_woken, woken};
+ghost use Rattle.line_journal.specs.Keepers.{AreRests, IsFirstAwake, IsOpen, IsPlaced};
+ghost use Rattle.line_journal.specs.Keepers.{pair_woken};
 ghost use Rattle.line_journal.specs.Lists.{AreOfBoxes, HasSpaceFor, HaveEnded};
-ghost use Rattle.line_journal.specs.Merging.{AreTallies, IsNextOnWord, IsOnWordAt};
+ghost use Rattle.line_journal.specs.Merging.{AreOfLine, AreTallies, HoldsAt, IsNextOnWord, IsOnWordAt};
 ghost use Rattle.line_journal.specs.Order.{IsMergeOf, list_at, lists_of};
 ghost use Rattle.line_journal.specs.Walks.{AreTalliesPlaced, IsWalk, walked};
-ghost use Rattle.line_journal.specs.Halves.{made, pair_for};
+ghost use Rattle.line_journal.specs.Halves.{pair_for};
 
 use crate::fitting::{fits, is_on_word, make};
 use crate::keepers::{is_passed, rests_of};
@@ -39,125 +39,87 @@ fn next_awake(awake: &[bool], from: usize) -> Option<usize>
     None
 }
 
-// Whether the next entry of a box, which was decided on the word of this pair and way, fits that, and the first keepers
-// of both neighbours let it pass.
-fn is_open(
-    plan: &Plan,
-    pairs: &[PairState],
-    left: &Left<'_>,
-    rests: &mut [Rests],
-    box_no: usize,
-    pair: usize,
-    way: Way,
-    entry: &Entry,
-) -> bool
-    requires box_no { box_no < length left.now }
-    requires own { entry.now.box_no ≡ box_no }
-    requires next { list_at left.now box_no ≡ entry.now ∷ drop 1 (list_at left.now box_no) }
-    requires pair { pair ≡ pair_for plan.now entry.now }
-    requires way { way ≡ way_at plan.now entry.now.box_no entry.now.call }
-    requires pairs { length pairs.now ≡ length plan.now.boxes - 1 }
-    requires boxes { AreOfBoxes plan.now left.now }
-    requires rests { AreRests plan.now left.now rests.old }
-    ensures rests { AreRests plan.now left.now rests.new }
-    ensures opens { IsTrue result ↔ IsOpen plan.now pairs.now left.now box_no }
-{
-    fits(plan, pairs, pair, way, entry) && is_passed(plan, left, rests, box_no, pair, way, entry)
-}
-
 // Wakes both boxes of a pair on which an entry is placed: it may have opened them.
-fn wake(awake: &mut [bool], pair: usize)
-    requires { pair + 1 < length awake.old }
-    ensures { awake.new ≡ pair_woken pair awake.old }
+fn wake(awake: &mut Vec<bool>, pair: usize)
+    requires { pair + 1 < length awake.old.items }
+    ensures { awake.new.items ≡ pair_woken pair awake.old.items }
 {
     awake[pair] = true;
     awake[pair + 1] = true;
 }
 
-// Whether the next entry of a box, which was decided on a word, is open. If it is, makes of its word what it says,
-// wakes the boxes that it may open, and tells from which box on the next open one is to be sought.
-fn answer(
-    plan: &Plan,
-    pairs: &mut [PairState],
-    left: &Left<'_>,
-    rests: &mut [Rests],
-    awake: &mut [bool],
-    from: &mut usize,
-    box_no: usize,
-    entry: &Entry,
-) -> bool
-    requires box_no { box_no < length left.now }
-    requires own { entry.now.box_no ≡ box_no }
-    requires next { list_at left.now box_no ≡ entry.now ∷ drop 1 (list_at left.now box_no) }
-    requires word { is_word (kind_told entry.now.reply) ≡ true }
-    requires pairs { length pairs.old ≡ length plan.now.boxes - 1 }
-    requires boxes { AreOfBoxes plan.now left.now }
-    requires rests { AreRests plan.now left.now rests.old }
-    requires each { length awake.old ≡ length plan.now.boxes }
-    requires space { IsOpen plan.now pairs.old left.now box_no → HasSpaceFor plan.now pairs.old left.now box_no }
-    ensures rests { AreRests plan.now left.now rests.new }
-    ensures opens { IsTrue result ↔ IsOpen plan.now pairs.old left.now box_no }
-    ensures pairs { pairs.new ≡ if result then made plan.now pairs.old entry.now else pairs.old }
-    ensures awake { awake.new ≡ if result then woken plan.now entry.now awake.old else awake.old }
-    ensures from { IsTrue result → from.new ≡ opens_from plan.now entry.now }
-{
-    let (pair, way) = word_of(plan, entry);
-    if !is_open(plan, pairs, left, rests, box_no, pair, way, entry) {
-        return false;
-    }
-    make(plan, pairs, pair, way, entry);
-    wake(awake, pair);
-    *from = pair;
-    true
-}
-
 // Lets a box that isn't open fall asleep. The next open one is sought behind it.
-fn pass_over(awake: &mut [bool], from: &mut usize, box_no: usize)
-    requires { box_no < length awake.old }
-    ensures awake { awake.new ≡ slice_set awake.old box_no false }
+fn pass_over(awake: &mut Vec<bool>, from: &mut usize, box_no: usize)
+    requires { box_no < length awake.old.items }
+    ensures awake { awake.new.items ≡ slice_set awake.old.items box_no false }
     ensures from { from.new ≡ box_no + 1 }
 {
     awake[box_no] = false;
     *from = box_no + 1;
 }
 
-// Places the next entry of a box that is awake, which was decided on a word, if it is open; if it isn't, the box falls
-// asleep.
-fn place(
-    plan: &Plan,
-    pairs: &mut [PairState],
-    left: &mut Left<'_>,
-    rests: &mut [Rests],
-    awake: &mut [bool],
-    from: &mut usize,
-    box_no: usize,
-) -> bool
-    requires box_no { box_no < length left.old }
-    requires pairs { length pairs.old ≡ length plan.now.boxes - 1 }
-    requires boxes { AreOfBoxes plan.now left.old }
-    requires rests { AreRests plan.now left.old rests.old }
-    requires count { length left.old ≡ length plan.now.boxes }
-    requires each { length awake.old ≡ length left.old }
-    requires word { IsNextOnWord left.old box_no }
-    requires asleep { NoneAsleepOpen plan.now pairs.old left.old awake.old }
-    requires below { NoneOpenBelow plan.now pairs.old left.old box_no }
-    requires space { IsOpen plan.now pairs.old left.old box_no → HasSpaceFor plan.now pairs.old left.old box_no }
-    ensures rests { AreRests plan.now left.new rests.new }
-    ensures each { length awake.new ≡ length left.new }
-    ensures asleep { NoneAsleepOpen plan.now pairs.new left.new awake.new }
-    ensures below { NoneOpenBelow plan.now pairs.new left.new from.new }
-    ensures placed { IsPlaced plan.now pairs.old left.old box_no result pairs.new left.new from.new }
-{
-    let Some(entry) = left.of_box(box_no).first() else {
-        pass_over(awake, from, box_no);
-        return false;
-    };
-    if !answer(plan, pairs, left, rests, awake, from, box_no, entry) {
-        pass_over(awake, from, box_no);
-        return false;
+/// The state of a merge. No box that is asleep is open, nor one below the number from which on it is sought.
+#[derive(Drop)]
+pub struct MergeState<'a> {
+    /// The words of the pairs after what is placed.
+    pub pairs: Vec<PairState>,
+    /// The entries that remain, box by box.
+    pub left: Left<'a>,
+    /// For each box and each number of keepers, those of its entries that have the number.
+    pub rests: Vec<Rests>,
+    /// Which boxes are awake.
+    pub awake: Vec<bool>,
+    /// From which box on the next open one is to be sought.
+    pub from: usize,
+}
+
+impl<'a> MergeState<'a> {
+    // Whether the next entry of a box, which was decided on the word of this pair and way, fits that, and the first
+    // keepers of both neighbours let it pass.
+    fn is_open(&mut self, plan: &Plan, box_no: usize, pair: usize, way: Way, entry: &Entry) -> bool
+        requires line { AreOfLine plan.now self.old.pairs.items self.old.left }
+        requires rests { AreRests plan.now self.old.left self.old.rests.items }
+        requires box_no { box_no < length self.old.left }
+        requires next { list_at self.old.left box_no ≡ entry.now ∷ drop 1 (list_at self.old.left box_no) }
+        requires pair { pair ≡ pair_for plan.now entry.now }
+        requires way { way ≡ way_at plan.now entry.now.box_no entry.now.call }
+        ensures rests { AreRests plan.now self.old.left self.new.rests.items }
+        ensures same { self.new ≡ record self.old { rests = self.new.rests } }
+        ensures opens { IsTrue result ↔ IsOpen plan.now self.old.pairs.items self.old.left box_no }
+    {
+        fits(plan, &self.pairs, pair, way, entry)
+            && is_passed(plan, &self.left, &mut self.rests, box_no, pair, way, entry)
     }
-    left.place_next(box_no);
-    true
+
+    // Places the next entry of a box that is awake, which was decided on a word, if it is open: makes of its word what
+    // it says, wakes the boxes that it may open, and the next open one is sought from the lower of them on. If it isn't
+    // open, the box falls asleep.
+    fn place(&mut self, plan: &Plan, box_no: usize) -> bool
+        requires line { AreOfLine plan.now self.old.pairs.items self.old.left }
+        requires holds { HoldsAt plan.now self.old box_no }
+        requires box_no { box_no < length self.old.left }
+        requires word { IsNextOnWord self.old.left box_no }
+        requires space { IsOpen plan.now self.old.pairs.items self.old.left box_no
+            → HasSpaceFor plan.now self.old.pairs.items self.old.left box_no }
+        ensures holds { HoldsAt plan.now self.new self.new.from }
+        ensures placed { IsPlaced plan.now self.old.pairs.items self.old.left box_no result self.new.pairs.items
+            self.new.left self.new.from }
+    {
+        let Some(entry) = self.left.of_box(box_no).first() else {
+            pass_over(&mut self.awake, &mut self.from, box_no);
+            return false;
+        };
+        let (pair, way) = word_of(plan, entry);
+        if !self.is_open(plan, box_no, pair, way, entry) {
+            pass_over(&mut self.awake, &mut self.from, box_no);
+            return false;
+        }
+        make(plan, &mut self.pairs, pair, way, entry);
+        wake(&mut self.awake, pair);
+        self.from = pair;
+        self.left.place_next(box_no);
+        true
+    }
 }
 
 // How many of these entries, from the first on, were decided on their box's own tally.
@@ -230,17 +192,21 @@ fn merged_boxes(alloc: Global, plan: &Plan, ended: &Ended) -> Result<Vec<u8>, No
         IsMergeOf plan.now ended.now.registers (walked (lists_of ended.now.registers) boxes.items)) }
 {
     plan.meets_conditions();
-    let mut pairs = open_pairs(alloc, plan.boxes.len() - 1)?;
-    let mut left = Left::new(alloc, ended.registers.as_slice())?;
-    let mut rests = open_rests(alloc, plan, &left)?;
-    let mut awake = all_awake(alloc, left.boxes())?;
+    let pairs = open_pairs(alloc, plan.boxes.len() - 1)?;
+    let left = Left::new(alloc, ended.registers.as_slice())?;
+    let rests = open_rests(alloc, plan, &left)?;
+    let awake = all_awake(alloc, left.boxes())?;
     let mut boxes = Vec::with_capacity(alloc, left.count())?;
-    let mut from = 0;
-    while let Some(box_no) = next_awake(&awake, from) {
-        place_tallies(&mut left, &mut boxes, box_no)?;
-        if place(
-            plan, &mut pairs, &mut left, &mut rests, &mut awake, &mut from, box_no,
-        ) {
+    let mut merge = MergeState {
+        pairs,
+        left,
+        rests,
+        awake,
+        from: 0,
+    };
+    while let Some(box_no) = next_awake(&merge.awake, merge.from) {
+        place_tallies(&mut merge.left, &mut boxes, box_no)?;
+        if merge.place(plan, box_no) {
             boxes.push(box_no as u8)?;
         }
     }

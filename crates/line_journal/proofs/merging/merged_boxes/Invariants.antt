@@ -6,8 +6,8 @@ use Rattle.line_journal.proofs.merging.merged_boxes.Given as goal
 
 abbrev pub invariant-loop-box_no : goal.invariant-loop-box_no
 invariant-loop-box_no l =
-    IsMerging l.plan (lists_of l.ended.registers) l.boxes.items l.pairs.items l.left l.rests.items l.awake.items l.from
+    IsMerging l.plan (lists_of l.ended.registers) l.boxes.items l.merge
 
 abbrev pub decreases-loop-box_no : goal.decreases-loop-box_no
 decreases-loop-box_no l =
-    count_left l.left * (length l.plan.boxes + 1) + (length l.plan.boxes - l.from)
+    count_left l.merge.left * (length l.plan.boxes + 1) + (length l.plan.boxes - l.merge.from)
