@@ -5,6 +5,7 @@ ghost use denote.Param.Send.{IsSync};
 ghost use Rattle.line_working.specs.Working.{CanWork, CanWorkEach, DidWork, DidWorkEach};
 ghost use Rattle.script_text.specs.declared.script.Script.{Script};
 ghost use Rattle.signalman_seats.specs.Men.{Man};
+ghost use Rattle.instrument_rule.specs.Posts.{plan_of};
 
 use crate::crew::Crew;
 use crate::gate::Gate;
@@ -26,9 +27,9 @@ fn work<R: Wait, G: Gate>(
     crew: &Crew,
     man: &mut Signalman,
 )
-    requires ready { CanWork line.now.table.shared.table_id line.now.table.shared.key script.now man.old }
+    requires ready { CanWork line.now.table.shared.table_id (plan_of line.now) script.now man.old }
     requires looks { 1 ≤ looks }
-    ensures { DidWork line.now.table.shared.table_id line.now.table.shared.key script.now looks man.old man.new }
+    ensures { DidWork line.now.table.shared.table_id (plan_of line.now) script.now looks man.old man.new }
 {
     // His watch and his entries tell what his type keeps: what he has seen is legal, and they are his part of it, which
     // is asked for the script that has no call; and with his script they are no more than a box may have.
@@ -54,9 +55,9 @@ fn work_men<R: Threads + Wait + Sync, G: Gate>(
     crew: &Crew,
     men: &mut [Signalman],
 )
-    requires ready { CanWorkEach line.now.table.shared.table_id line.now.table.shared.key scripts.now men.old }
+    requires ready { CanWorkEach line.now.table.shared.table_id (plan_of line.now) scripts.now men.old }
     requires looks { 1 ≤ looks }
-    ensures { DidWorkEach line.now.table.shared.table_id line.now.table.shared.key scripts.now looks men.old men.new }
+    ensures { DidWorkEach line.now.table.shared.table_id (plan_of line.now) scripts.now looks men.old men.new }
 {
     let Some((script, later)) = scripts.split_first() else {
         return;
@@ -80,11 +81,11 @@ fn work_first<R: Threads + Wait + Sync, G: Gate>(
     man: &mut Signalman,
     others: &mut [Signalman],
 )
-    requires first { CanWork line.now.table.shared.table_id line.now.table.shared.key script.now man.old }
-    requires others { CanWorkEach line.now.table.shared.table_id line.now.table.shared.key later.now others.old }
+    requires first { CanWork line.now.table.shared.table_id (plan_of line.now) script.now man.old }
+    requires others { CanWorkEach line.now.table.shared.table_id (plan_of line.now) later.now others.old }
     requires looks { 1 ≤ looks }
-    ensures first { DidWork line.now.table.shared.table_id line.now.table.shared.key script.now looks man.old man.new }
-    ensures others { DidWorkEach line.now.table.shared.table_id line.now.table.shared.key later.now looks others.old
+    ensures first { DidWork line.now.table.shared.table_id (plan_of line.now) script.now looks man.old man.new }
+    ensures others { DidWorkEach line.now.table.shared.table_id (plan_of line.now) later.now looks others.old
         others.new }
 {
     if others.is_empty() {
@@ -92,14 +93,14 @@ fn work_first<R: Threads + Wait + Sync, G: Gate>(
         return;
     }
     let mut his = ||
-        requires { (1 ≤ looks) × CanWork line.now.table.shared.table_id line.now.table.shared.key script.now man.now }
-        ensures { DidWork line.entry.now.table.shared.table_id line.entry.now.table.shared.key script.entry.now looks
+        requires { (1 ≤ looks) × CanWork line.now.table.shared.table_id (plan_of line.now) script.now man.now }
+        ensures { DidWork line.entry.now.table.shared.table_id (plan_of line.entry.now) script.entry.now looks
             man.entry.now man.exit.now }
     { work(rt, line, script, looks, gate, crew, man) };
     let mut theirs = ||
         requires { IsSync R.row × IsSync G.row × (1 ≤ looks)
-            × CanWorkEach line.now.table.shared.table_id line.now.table.shared.key later.now others.now }
-        ensures { DidWorkEach line.entry.now.table.shared.table_id line.entry.now.table.shared.key later.entry.now looks
+            × CanWorkEach line.now.table.shared.table_id (plan_of line.now) later.now others.now }
+        ensures { DidWorkEach line.entry.now.table.shared.table_id (plan_of line.entry.now) later.entry.now looks
             others.entry.now others.exit.now }
     { work_men(rt, line, later, looks, gate, crew, others) };
     work_both(rt, crew, &mut his, &mut theirs);
@@ -129,12 +130,12 @@ pub fn work_line<R: Threads + Wait + Sync, G: Gate>(
 )
     requires count { length scripts.now ≡ length men.old }
     requires ready { (i : ℕ) (d : Man) (e : Script) → i < length men.old
-        → CanWork line.now.table.shared.table_id line.now.table.shared.key (slice_index_or scripts.now i e)
+        → CanWork line.now.table.shared.table_id (plan_of line.now) (slice_index_or scripts.now i e)
         (slice_index_or men.old i d) }
     requires looks { 1 ≤ looks }
     ensures count { length men.new ≡ length men.old }
     ensures worked { (i : ℕ) (d : Man) (e : Script) → i < length men.old
-        → DidWork line.now.table.shared.table_id line.now.table.shared.key (slice_index_or scripts.now i e) looks
+        → DidWork line.now.table.shared.table_id (plan_of line.now) (slice_index_or scripts.now i e) looks
         (slice_index_or men.old i d) (slice_index_or men.new i d) }
 {
     let crew = Crew::new(alloc, men.len());

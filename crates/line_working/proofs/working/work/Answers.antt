@@ -5,6 +5,7 @@ use Rattle.line_law.specs.History.{IsLegal, part_of}
 use Rattle.line_law.specs.Serial.{AreCalls}
 use Rattle.signalman_seats.specs.Men.{IsOf, Man}
 use Rattle.line_working.specs.Working.{DidWork, Worked, moment_after}
+use Rattle.instrument_rule.specs.Posts.{plan_of}
 use Rattle.line_working.proofs.CallByCall.{begun, moment_on, next_call, one_more_of}
 use Rattle.line_working.proofs.working.work.Goals as goal
 
@@ -13,17 +14,17 @@ loop-i-init g c =
     let line = c.args.line.now in
     let man = c.lend_watch.new.self in
     let same : man ≡ c.args.man.now = c.lend_watch.ensures.same in
-    let legal : IsLegal line.table.shared.key man.view.seen =
-    subst (λ (m : Man). IsLegal line.table.shared.key m.view.seen) (sym same) c.lend_watch.ensures.legal in record {
-      of_line = subst (λ (m : Man). IsOf line.table.shared.table_id line.table.shared.key m) (sym same)
+    let legal : IsLegal (plan_of line) man.view.seen =
+    subst (λ (m : Man). IsLegal (plan_of line) m.view.seen) (sym same) c.lend_watch.ensures.legal in record {
+      of_line = subst (λ (m : Man). IsOf line.table.shared.table_id (plan_of line) m) (sym same)
           c.requires.ready.of_line;
       box_no = refl;
-      rest = subst (λ (m : Man). AreCalls line.table.shared.key m.box_no m.moment c.args.script.now.calls) (sym same)
+      rest = subst (λ (m : Man). AreCalls (plan_of line) m.box_no m.moment c.args.script.now.calls) (sym same)
           c.requires.ready.calls;
       entries = c.entries-entries.ensures.part;
       spare = add-zero man.spare;
       moment = refl;
-      worked = begun line.table.shared.key man.box_no c.args.looks man.view legal;
+      worked = begun (plan_of line) man.box_no c.args.looks man.view legal;
     }
 
 pub perform_pausing-reply-requires-clause-spare : goal.perform_pausing-reply-requires-clause-spare
@@ -44,7 +45,7 @@ perform_pausing-reply-requires-clause-later g c = (next_call _ _ _ _ _ _ _ c.as_
 
 pub loop-i-preserved : goal.loop-i-preserved
 loop-i-preserved g c =
-    let plan = c.args.line.now.table.shared.key in
+    let plan = plan_of c.args.line.now in
     let old = c.loop-i.man in
     let new = c.perform_pausing-reply.new.self in
     let now = c.loop-i.invariant in
@@ -70,12 +71,12 @@ returns g c =
     let now = c.loop-i.invariant in
     let all : c.loop-i.i ≡ length calls = let e = ap length c.as_slice-call-items.ensures in
     let low = c.loop-i-test.false in let high = c.loop-i.auto.i-end in omega arith in
-    let Did : Man → Type 0 = λ before. DidWork line.table.shared.table_id line.table.shared.key c.args.script.now
+    let Did : Man → Type 0 = λ before. DidWork line.table.shared.table_id (plan_of line) c.args.script.now
     c.args.looks before c.loop-i.man in
     subst Did c.lend_watch.ensures.same (record {
       of_line = now.of_line;
       box_no = now.box_no;
-      worked = subst (λ (cs : List Call). Worked line.table.shared.key c.lend_watch.new.self.box_no cs c.args.looks
+      worked = subst (λ (cs : List Call). Worked (plan_of line) c.lend_watch.new.self.box_no cs c.args.looks
           c.lend_watch.new.self.view c.loop-i.man.view)
           (take_all c.loop-i.i calls (omega arith)) now.worked;
       entries = now.entries;
