@@ -363,6 +363,33 @@ seen_session plan b scripts entries made w plain left session e is h =
     subst (λ (s : SessionFields). IsSession s.plan s.scripts s.box_no s.calls (journal_of s)) e
     (kept_session plan b scripts entries made w plain left is h)
 
+pub seen_calls : (plan : PlanFields) (b : ℕ) (scripts : List Script) (entries : List Entry) (made : List MadeCall)
+    (w : Bool) (plain : PlainState) (left : List (List Call)) (session : SessionFields)
+    → view_of plan b scripts made w ≡ session → IsKept plan b scripts entries made w plain left
+    → AreCalls session.plan session.box_no 0 session.calls
+seen_calls plan b scripts entries made w plain left session e h =
+    subst (λ (s : SessionFields). AreCalls s.plan s.box_no 0 s.calls) e h.calls
+
+pub seen_box : (plan : PlanFields) (b : ℕ) (scripts : List Script) (entries : List Entry) (made : List MadeCall)
+    (w : Bool) (plain : PlainState) (left : List (List Call)) (session : SessionFields)
+    → view_of plan b scripts made w ≡ session → IsKept plan b scripts entries made w plain left
+    → session.box_no < length session.plan.boxes
+seen_box plan b scripts entries made w plain left session e h =
+    subst (λ (s : SessionFields). s.box_no < length s.plan.boxes) e h.box
+
+pub seen_short : (plan : PlanFields) (b : ℕ) (scripts : List Script) (entries : List Entry) (made : List MadeCall)
+    (w : Bool) (plain : PlainState) (left : List (List Call)) (session : SessionFields)
+    → view_of plan b scripts made w ≡ session → IsPlan plan → IsKept plan b scripts entries made w plain left
+    → length (journal_of session) < 2 ^ 32
+seen_short plan b scripts entries made w plain left session e is h =
+    subst (λ (s : SessionFields). length (journal_of s) < 2 ^ 32) e
+    (subst (λ (es : List Entry). length es < 2 ^ 32) h.journal
+    (kept_short plan b scripts entries made w plain left is h))
+
+pub seen_plan : (plan : PlanFields) (b : ℕ) (scripts : List Script) (made : List MadeCall) (w : Bool)
+    (session : SessionFields) → view_of plan b scripts made w ≡ session → IsPlan plan → IsPlan session.plan
+seen_plan plan b scripts made w session e is = subst (λ (s : SessionFields). IsPlan s.plan) e is
+
 pub seen_line : (plan : PlanFields) (b : ℕ) (scripts : List Script) (entries : List Entry) (made : List MadeCall)
     (w : Bool) (plain : PlainState) (left : List (List Call)) (session : SessionFields)
     → view_of plan b scripts made w ≡ session → IsTrue session.is_worked → IsPlan plan

@@ -83,9 +83,10 @@ impl<'a> Session<'a> {
     ghost use Rattle.std.specs.Prelude.{◌≡◌, ◌<◌, ◌≤◌, ◌↔◌, ◌^◌, ◌++◌, ◌∷◌, [], nat_le, true, false, IfOk, IfErr};
     ghost use Rattle.std.specs.Prelude.{IsTrue, length};
     ghost use Rattle.line_law.specs.History.{state_of};
+    ghost use Rattle.line_plan.specs.Plans.{IsPlan};
     ghost use Rattle.line_law.specs.Law.{MayCall, step};
     ghost use Rattle.line_law.specs.Lines.{IsLineOf};
-    ghost use Rattle.line_law.specs.Serial.{calls_left};
+    ghost use Rattle.line_law.specs.Serial.{AreCalls, calls_left};
     ghost use Rattle.line_law.specs.States.{box_at};
     ghost use Rattle.serial_working.specs.Rosters.{calls_of_scripts};
     ghost use Rattle.text_fetch.specs.Runs.{AreScriptsOf};
@@ -140,6 +141,10 @@ impl<'a> Session<'a> {
         ensures session { IsSession self.now.plan self.now.scripts self.now.box_no self.now.calls
             (journal_of self.now) }
         ensures few { length self.now.calls ≤ MOST_MADE }
+        ensures calls { AreCalls self.now.plan self.now.box_no 0 self.now.calls }
+        ensures at { self.now.box_no < length self.now.plan.boxes }
+        ensures plan { IsPlan self.now.plan }
+        ensures short { length (journal_of self.now) < 2 ^ 32 }
     {
         self.plan.meets_conditions();
     }

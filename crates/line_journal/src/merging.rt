@@ -2,7 +2,6 @@
 
 ghost use Rattle.std.specs.Prelude.{◌≡◌, ◌↔◌, ◌<◌, ◌+◌, ◌≤◌, ◌∷◌};
 ghost use Rattle.std.specs.Prelude.{◌^◌, IfOk, IsTrue, All, true, false, drop, replicate, length, slice_set};
-ghost use Rattle.line_law.specs.States.{opening_pair};
 ghost use Rattle.word_laws.specs.Footprint.{way_at};
 ghost use Rattle.word_laws.specs.TellsWord.{kind_told};
 ghost use Rattle.line_journal.specs.FitTests.{is_word};
@@ -21,7 +20,7 @@ use crate::lines::word_of;
 use crate::order::Merged;
 use crate::rests::Rests;
 use block_words::Way;
-use line_law::{Entry, Journal, PairState};
+use line_law::{Entry, Journal, PairState, open_pairs};
 use line_plan::{Items, Plan};
 use rail_text::NoMemory;
 use std::alloc::Global;
@@ -147,17 +146,6 @@ fn place_tallies(left: &mut Left<'_>, boxes: &mut Vec<u8>, box_no: usize) -> Res
     boxes.resize(boxes.len() + many, box_no as u8)?;
     left.place_some(box_no, many);
     Ok(())
-}
-
-// So many pairs of a line that opens.
-fn open_pairs(alloc: Global, count: usize) -> Result<Vec<PairState>, NoMemory>
-    ensures { IfOk result (λ pairs. pairs.items ≡ replicate count opening_pair) }
-{
-    let mut pairs = Vec::new(alloc);
-    for _ in 0..count {
-        pairs.push(PairState::open())?;
-    }
-    Ok(pairs)
 }
 
 // So many boxes that are awake.
