@@ -1,2 +1,3 @@
 pub mod Levers
 pub mod Lines
+pub mod Classes

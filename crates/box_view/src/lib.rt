@@ -1,6 +1,12 @@
 //! What a signalman sees at his own box, as text.
 #![tactic(auto)]
 
+mod answer;
 mod may;
+mod meaning;
+mod ordinals;
+mod sides;
+mod words;
 
+pub use answer::put_answer;
 pub use may::put_may;
