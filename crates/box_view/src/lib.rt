@@ -2,6 +2,9 @@
 #![tactic(auto)]
 
 mod answer;
+mod block_look;
+mod frame_look;
+mod look;
 mod may;
 mod meaning;
 mod ordinals;
@@ -9,4 +12,5 @@ mod sides;
 mod words;
 
 pub use answer::put_answer;
+pub use look::put_look;
 pub use may::put_may;

@@ -25,8 +25,8 @@ fn is_reversed_already(reply: &Reply) -> bool
     matches!(reply, Reply::AlreadyReversed)
 }
 
-// Whether a lever is moved.
-fn is_moved(reply: &Reply) -> bool
+/// Whether a lever is moved.
+pub fn is_moved(reply: &Reply) -> bool
     ensures { result ≡ is_moved reply.now }
 {
     matches!(
@@ -50,8 +50,8 @@ fn answered(line: &Plain, plan: &Plan, box_no: u32, call: Call) -> Entry
     }
 }
 
-// The call that moves a lever, with the reply that it would get.
-fn move_of(line: &Plain, plan: &Plan, box_no: u32, moment: u32, lever: u32) -> Entry
+/// The call that moves a lever, with the reply that it would get.
+pub fn move_of(line: &Plain, plan: &Plan, box_no: u32, moment: u32, lever: u32) -> Entry
     requires line { IsLineOf plan.now line.now }
     requires few { line.now.calls < 2 ^ 32 }
     requires at { box_no < length plan.now.boxes }
@@ -81,8 +81,8 @@ fn moved_word(act: Act) -> &'static str
     }
 }
 
-// Puts a lever, words and what is done to it by a call behind a text.
-fn put_words(out: &mut String, lever: u32, words: &str, act: Act) -> Result<(), AllocError>
+/// Puts a lever, words and what is done to it by a call behind a text.
+pub fn put_words(out: &mut String, lever: u32, words: &str, act: Act) -> Result<(), AllocError>
     ensures { OnOk result (string_bytes out.new
         ≡ string_bytes out.old ++ (codes "lever " ++ decimal lever ++ words.now ++ moved_word act)) }
 {
