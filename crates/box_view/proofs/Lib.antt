@@ -4,3 +4,4 @@ pub mod Classes
 pub mod Named
 pub mod Coming
 pub mod Seen
+pub mod Noticing

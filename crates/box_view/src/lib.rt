@@ -7,10 +7,13 @@ mod frame_look;
 mod look;
 mod may;
 mod meaning;
+mod notices;
 mod ordinals;
 mod sides;
+mod sounds;
 mod words;
 
 pub use answer::put_answer;
 pub use look::put_look;
 pub use may::put_may;
+pub use notices::{Listener, put_notices};

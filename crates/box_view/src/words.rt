@@ -50,6 +50,22 @@ pub fn put_four(
     put_three(out, second, third, fourth)
 }
 
+/// Puts five texts behind a text.
+pub fn put_five(
+    out: &mut String,
+    first: &str,
+    second: &str,
+    third: &str,
+    fourth: &str,
+    fifth: &str,
+) -> Result<(), AllocError>
+    ensures { OnOk result (string_bytes out.new ≡ string_bytes out.old
+        ++ (first.now ++ second.now ++ third.now ++ fourth.now ++ fifth.now)) }
+{
+    out.push_str(first)?;
+    put_four(out, second, third, fourth, fifth)
+}
+
 /// Puts words and a number behind a text.
 pub fn put_count(out: &mut String, words: &str, number: u64) -> Result<(), AllocError>
     ensures { OnOk result (string_bytes out.new ≡ string_bytes out.old ++ (words.now ++ decimal number)) }
