@@ -3,6 +3,7 @@
 
 mod answer;
 mod block_look;
+mod codes;
 mod frame_look;
 mod look;
 mod may;
@@ -14,6 +15,7 @@ mod sounds;
 mod words;
 
 pub use answer::put_answer;
+pub use codes::put_codes;
 pub use look::put_look;
 pub use may::put_may;
 pub use notices::{Listener, put_notices};
