@@ -10,8 +10,10 @@ mod may;
 mod meaning;
 mod notices;
 mod ordinals;
+mod rules;
 mod sides;
 mod sounds;
+mod why;
 mod words;
 
 pub use answer::put_answer;
@@ -19,3 +21,4 @@ pub use codes::put_codes;
 pub use look::put_look;
 pub use may::put_may;
 pub use notices::{Listener, put_notices};
+pub use why::put_why;
