@@ -264,7 +264,8 @@ fn put_told(out: &mut String, plan: &Plan, entry: &Entry) -> Result<(), AllocErr
 }
 
 /// Puts the line of what a call was answered behind a text: `refused: ` and the sentence, or a word for what was done
-/// and what it tells, as in `berthed: train 1A01, the first on the down line`. The entry is one that the line can spell.
+/// and what it tells, as in `berthed: train 1A01, the first on the down line`. The entry is one that the line can
+/// spell.
 /// Where memory runs out a part may stand behind the text.
 pub fn put_answer(out: &mut String, plan: &Plan, entry: &Entry) -> Result<(), AllocError>
     requires at { entry.now.box_no < length plan.now.boxes }

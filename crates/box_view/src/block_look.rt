@@ -8,7 +8,8 @@ ghost use Rattle.line_plan.specs.Ways.{comes_in};
 ghost use Rattle.script_text.specs.Moments.{hundred_hours};
 ghost use Rattle.box_view.specs.Look.{bell_line, block_text, code_text, coming_in, coming_text, coming_word};
 ghost use Rattle.box_view.specs.Look.{control_text, first_coming, incoming_line, incoming_lines};
-ghost use Rattle.box_view.specs.Look.{incoming_text, outgoing_line, permit_text, release_from, release_text, repeater_text};
+ghost use Rattle.box_view.specs.Look.{incoming_text, outgoing_line, permit_text, release_from, release_text};
+ghost use Rattle.box_view.specs.Look.{repeater_text};
 ghost use Rattle.box_view.specs.Look.{repeated, unheard_from, unheard_text, welwyn_text, welwyn_word, winding_text};
 
 use crate::meaning::put_meaning;
@@ -69,7 +70,8 @@ fn put_bell(
     side: Way,
 ) -> Result<(), AllocError>
     requires line { IsLineOf plan.now line.now }
-    ensures { OnOk result (string_bytes out.new ≡ string_bytes out.old ++ bell_line plan.now line.now.line box_no side) }
+    ensures { OnOk result (string_bytes out.new
+        ≡ string_bytes out.old ++ bell_line plan.now line.now.line box_no side) }
 {
     if !knows_side(plan, box_no, side) {
         return Ok(());

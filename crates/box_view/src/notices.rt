@@ -315,11 +315,11 @@ fn put_notice(
     put_noticed(out, plan, him, entry.box_no, &entry.reply, entry.call.act)
 }
 
-/// Puts what a man notices at his box of what others did behind a text, a line each, in the order of the entries: a code
-/// that is rung to him, as it sounds, with what it asks or means; a turn of the instrument of a line that leaves him, as
-/// his repeater shows it; and a train that comes to his home, where it is the next that he takes. A code that is the one
-/// that he rang last towards that side is acknowledged. The entries are ones that the line can spell. Where memory runs
-/// out a part may stand behind the text.
+/// Puts what a man notices at his box of what others did behind a text, a line each, in the order of the entries: a
+/// code that is rung to him, as it sounds, with what it asks or means; a turn of the instrument of a line that leaves
+/// him, as his repeater shows it; and a train that comes to his home, where it is the next that he takes. A code that
+/// is the one that he rang last towards that side is acknowledged. The entries are ones that the line can spell. Where
+/// memory runs out a part may stand behind the text.
 #[tactic(auto, using(rail_text::proofs::Texts::texts))]
 pub fn put_notices(
     out: &mut String,
