@@ -1,5 +1,5 @@
 -- The class of each code behind the first ten.
-use Rattle.std.proofs.Common.{◌≡◌, ℕ, ◌+◌, ◌-◌, ◌<◌, length, IsTrue, arith}
+use Rattle.std.proofs.Common.{ℕ, ◌-◌, ◌<◌, length, IsTrue, arith}
 use Rattle.std.proofs.lemmas.Bool.Decides.{nat_tests}
 use Rattle.line_plan.specs.Plans.{IsPlan, PlanFields}
 use Rattle.line_law.specs.Known.{is_code_no}

@@ -1,5 +1,5 @@
 -- The first train of a plain line is one of the plan.
-use Rattle.std.proofs.Common.{◌≡◌, ℕ, List, [], ◌∷◌, Option, Some, None, All, IfSome, IsTrue, slice_get, sym, subst}
+use Rattle.std.proofs.Common.{◌≡◌, ℕ, List, [], ◌∷◌, Option, All, IfSome, IsTrue, slice_get, sym, subst}
 use Rattle.std.proofs.lemmas.List.Elements.{All-head}
 use Rattle.block_words.specs.declared.Way.{Way}
 use Rattle.line_plan.specs.Plans.{PlanFields, is_train}

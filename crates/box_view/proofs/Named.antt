@@ -1,5 +1,4 @@
 -- What stands at a number of a list, or behind its end.
-use Rattle.std.proofs.Common.{◌≡◌, ℕ, List, get_or, slice_get, Some, None}
 use Rattle.std.proofs.lemmas.Option.{get_or_from_slice_get}
 use Rattle.line_plan.proofs.Named.{none_here}
 

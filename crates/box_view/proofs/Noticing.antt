@@ -1,5 +1,5 @@
 -- What the line knows of an entry that it can spell.
-use Rattle.std.proofs.Common.{ℕ, IsTrue}
+use Rattle.std.proofs.Common.{IsTrue}
 use Rattle.line_plan.specs.Plans.{PlanFields}
 use Rattle.line_law.specs.declared.call.Entry.{Entry}
 use Rattle.line_law.specs.Known.{knows_act}

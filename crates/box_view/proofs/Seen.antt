@@ -1,7 +1,6 @@
 -- What a line tells of the trains and places of its boxes.
-use Rattle.std.proofs.Common.{◌≡◌, ℕ, ◌+◌, ◌<◌, ◌≤◌, ◌^◌, length, All, IfSome, IsTrue, arith}
+use Rattle.std.proofs.Common.{ℕ, ◌<◌, ◌≤◌, ◌^◌, length, All, IfSome, IsTrue, arith}
 use Rattle.line_plan.specs.Plans.{IsPlan, PlanFields, is_train}
-use Rattle.line_law.specs.Law.{box_plan_of}
 use Rattle.line_law.specs.Lines.{IsLineOf, PlainState}
 use Rattle.line_law.specs.States.{box_at}
 

@@ -1,5 +1,5 @@
 -- A box as its man sees it.
-use Rattle.std.specs.Prelude.{ℕ, ◌+◌, ◌<◌, Bool, true, false, List, [], ◌∷◌, ◌++◌, Option, Some, None, codes, decimal}
+use Rattle.std.specs.Prelude.{ℕ, ◌+◌, Bool, true, false, List, [], ◌∷◌, ◌++◌, Option, Some, None, codes, decimal}
 use Rattle.std.specs.Prelude.{if◌then◌else◌, nat_lt, slice_get, slice_index_or}
 use Rattle.std.specs.List.{flat_map}
 use Rattle.block_words.specs.Ways.{opposite}
@@ -9,7 +9,7 @@ use Rattle.block_words.specs.declared.Way.TheVariants.{Up, Down}
 use Rattle.block_words.specs.declared.WelwynState.{WelwynState}
 use Rattle.block_words.specs.declared.WelwynState.TheVariants as welwyn
 use Rattle.line_plan.specs.Frames.{BoxFields, kind_word, signal_of}
-use Rattle.line_plan.specs.Plans.{PlanFields, box_name, train_at}
+use Rattle.line_plan.specs.Plans.{PlanFields, box_name}
 use Rattle.line_plan.specs.Sections.{next_box}
 use Rattle.line_plan.specs.Ways.{way_word}
 use Rattle.line_plan.specs.declared.frame.Kind.{Kind}
@@ -22,7 +22,6 @@ use Rattle.line_law.specs.declared.state.BoxState.{BoxState}
 use Rattle.line_law.specs.declared.state.Control.{Control}
 use Rattle.line_law.specs.declared.state.Control.TheVariants.{Absolute, Permissive}
 use Rattle.line_law.specs.declared.state.Incoming.{Incoming}
-use Rattle.line_law.specs.declared.state.PairState.{PairState}
 use Rattle.line_law.specs.declared.state.Passage.{Passage}
 use Rattle.line_law.specs.Known.{is_code_no, knows_berth, knows_outgoing, knows_side}
 use Rattle.line_law.specs.Law.{box_plan_of}

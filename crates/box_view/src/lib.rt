@@ -5,6 +5,8 @@ mod answer;
 mod block_look;
 mod codes;
 mod frame_look;
+mod hint;
+mod listener;
 mod look;
 mod may;
 mod meaning;
@@ -18,6 +20,8 @@ mod words;
 
 pub use answer::put_answer;
 pub use codes::put_codes;
+pub use hint::{Hint, hint_of, put_hint};
+pub use listener::listener_of;
 pub use look::put_look;
 pub use may::put_may;
 pub use notices::{Listener, put_notices};
