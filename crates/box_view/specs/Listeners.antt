@@ -12,6 +12,7 @@ use Rattle.line_law.specs.States.{LineState, box_at}
 use Rattle.box_view.specs.declared.notices.Listener.{Listener}
 use Rattle.box_view.specs.Notices.{is_rung}
 
+-- a code was heard
 abbrev pub is_heard : Reply → Bool
 is_heard (replies.Heard code k) = true
 is_heard reply = false

@@ -29,11 +29,11 @@ use Rattle.line_law.specs.LeverEnds.{is_off, is_pulled}
 use Rattle.line_law.specs.Links.{pair_no}
 use Rattle.line_law.specs.States.{LineState, box_at, pair_at}
 use Rattle.line_law.specs.Ways.{of_way}
+use Rattle.reply_sentences.specs.Names.{position_name}
 use Rattle.script_text.specs.Moments.{hundred_hours, moment_text}
 use Rattle.script_text.specs.Names.{code_no_text, train_text}
 use Rattle.box_view.specs.Meanings.{meaning_text}
 use Rattle.box_view.specs.Moves.{is_moved, may_text, move_entry, move_of}
-use Rattle.box_view.specs.Words.{shown_word}
 
 -- ---- levers
 
@@ -140,6 +140,7 @@ welwyn_word welwyn.Ready = codes "ready"
 welwyn_word welwyn.Given = codes "given"
 welwyn_word welwyn.Berthed = codes "berthed"
 
+-- how Welwyn control stands, behind what the instrument shows
 abbrev pub welwyn_text : WelwynState → List ℕ
 welwyn_text state = codes ", Welwyn control " ++ welwyn_word state
 
@@ -171,6 +172,7 @@ abbrev pub coming_word : Option ℕ → List ℕ
 coming_word None = codes "  approaching: train "
 coming_word (Some train) = codes "  left in the section: a portion of train "
 
+-- the line of the train that comes, where one comes
 abbrev pub coming_text : PlanFields → Option ℕ → Option Passage → List ℕ
 coming_text plan portion None = []
 coming_text plan portion (Some passage) = coming_word portion ++ train_text plan passage.train ++ 10 ∷ []
@@ -182,7 +184,7 @@ first_coming state b way = slice_get (of_way (pair_at state (pair_no b (In way))
 -- what the box has of a line that comes in
 abbrev pub incoming_text : PlanFields → Incoming → List ℕ
 incoming_text plan incoming =
-    shown_word incoming.position ++ control_text incoming.control ++ winding_text plan.version incoming.ready_at
+    position_name incoming.position ++ control_text incoming.control ++ winding_text plan.version incoming.ready_at
 
 -- the line of a line that comes in from a box of this name
 abbrev pub incoming_line : PlanFields → Way → List ℕ → Incoming → List ℕ
@@ -211,7 +213,7 @@ repeated state b way = (of_way (pair_at state (pair_no b (Out way))).blocks way)
 -- the line of a line that leaves to a box of this name
 abbrev pub repeater_text : Way → List ℕ → Position → List ℕ
 repeater_text way name position =
-    way_word way ++ codes " line to " ++ name ++ codes ": the repeater shows " ++ shown_word position ++ 10 ∷ []
+    way_word way ++ codes " line to " ++ name ++ codes ": the repeater shows " ++ position_name position ++ 10 ∷ []
 
 -- the same where there is a neighbour
 abbrev pub outgoing_line : PlanFields → LineState → ℕ → Way → List ℕ

@@ -18,11 +18,11 @@ use Rattle.line_law.specs.declared.state.Passage.{Passage}
 use Rattle.line_law.specs.Law.{box_plan_of}
 use Rattle.line_law.specs.Levers.{starter_way}
 use Rattle.line_law.specs.Ways.{of_way}
+use Rattle.reply_sentences.specs.Names.{position_name}
 use Rattle.script_text.specs.Names.{code_no_text, train_text}
 use Rattle.box_view.specs.declared.notices.Listener.{Listener}
 use Rattle.box_view.specs.Meanings.{asked_text, meaning_text}
 use Rattle.box_view.specs.Sides.{leads}
-use Rattle.box_view.specs.Words.{shown_word}
 
 -- ---- a bell as it sounds
 
@@ -77,7 +77,7 @@ ring_line plan last a code = named_ring plan last (box_name plan a) code
 abbrev pub named_repeater : Way → List ℕ → Position → List ℕ
 named_repeater way name position =
     (codes "the repeater of the " ++ way_word way ++ codes " line to " ++ name)
-    ++ (codes " shows " ++ shown_word position ++ 10 ∷ [])
+    ++ (codes " shows " ++ position_name position ++ 10 ∷ [])
 
 -- the line of a repeater of his that box a turns
 abbrev pub repeater_line : PlanFields → ℕ → Way → Position → List ℕ
@@ -90,10 +90,12 @@ train_line plan way train =
 
 -- ---- which entries he notices
 
+-- a code was rung
 abbrev pub is_rung : Reply → Bool
 is_rung (replies.Rung k) = true
 is_rung reply = false
 
+-- an instrument was turned
 abbrev pub is_turned : Reply → Bool
 is_turned (replies.Turned v) = true
 is_turned reply = false

@@ -9,12 +9,11 @@ ghost use Rattle.box_view.specs.Answers.{TellsAnswer, answer_front, done_front, 
 use crate::meaning::say_meaning;
 use crate::ordinals::say_ordinal;
 use crate::sides::neighbour_name;
-use crate::words::shown_word;
 use bell_codes::CodeNo;
 use block_words::Way;
 use line_law::{Act, Entry, Reply, is_code_no, is_refused, knows_side};
 use line_plan::{Plan, way_word};
-use reply_sentences::{Sentence, put_sentence};
+use reply_sentences::{Sentence, position_name, put_sentence};
 use std::alloc::{AllocError, Global};
 
 // The bytes that most answers have room in.
@@ -153,7 +152,7 @@ fn say_shows(sentence: &mut Sentence, act: Act, v: u64) -> Result<(), AllocError
     sentence.say(words)?;
     sentence.say(way_word(way))?;
     sentence.say(" line shows ")?;
-    sentence.say(shown_word(position))?;
+    sentence.say(position_name(position))?;
     say_ordinal(sentence, " (its ", v)?;
     sentence.say(" turn)")
 }
@@ -265,8 +264,7 @@ fn put_told(out: &mut String, plan: &Plan, entry: &Entry) -> Result<(), AllocErr
 
 /// Puts the line of what a call was answered behind a text: `refused: ` and the sentence, or a word for what was done
 /// and what it tells, as in `berthed: train 1A01, the first on the down line`. The entry is one that the line can
-/// spell.
-/// Where memory runs out a part may stand behind the text.
+/// spell. Where memory runs out a part may stand behind the text.
 pub fn put_answer(out: &mut String, plan: &Plan, entry: &Entry) -> Result<(), AllocError>
     requires at { entry.now.box_no < length plan.now.boxes }
     requires spelled { IsTrue (is_spelled_reply plan.now entry.now.box_no entry.now.reply) }

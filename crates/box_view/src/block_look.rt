@@ -14,7 +14,7 @@ ghost use Rattle.box_view.specs.Look.{repeated, unheard_from, unheard_text, welw
 
 use crate::meaning::put_meaning;
 use crate::sides::neighbour_name;
-use crate::words::{put_count, put_time, put_two, shown_word};
+use crate::words::{put_count, put_time, put_two};
 use bell_codes::CodeNo;
 use block_words::{Position, Way, WelwynState};
 use line_law::{
@@ -22,6 +22,7 @@ use line_law::{
     knows_side,
 };
 use line_plan::{Plan, way_word};
+use reply_sentences::position_name;
 use script_text::put_code;
 use std::alloc::AllocError;
 
@@ -160,7 +161,7 @@ fn put_winding(out: &mut String, version: u8, ready_at: Option<u32>) -> Result<(
 fn put_incoming(out: &mut String, plan: &Plan, incoming: Incoming) -> Result<(), AllocError>
     ensures { OnOk result (string_bytes out.new ≡ string_bytes out.old ++ incoming_text plan.now incoming) }
 {
-    out.push_str(shown_word(incoming.position))?;
+    out.push_str(position_name(incoming.position))?;
     put_control(out, incoming.control)?;
     put_winding(out, plan.version, incoming.ready_at)
 }
@@ -292,7 +293,7 @@ fn put_repeater(
     out.push_str(" line to ")?;
     out.push_str(name)?;
     out.push_str(": the repeater shows ")?;
-    out.push_str(shown_word(position))?;
+    out.push_str(position_name(position))?;
     out.push('\n')
 }
 

@@ -16,11 +16,12 @@ ghost use Rattle.script_text.specs.Names.{train_text};
 use crate::meaning::{put_asked, put_meaning};
 use crate::sides::leads;
 use crate::sounds::put_sound;
-use crate::words::{put_five, put_four, put_three, shown_word};
+use crate::words::{put_five, put_four, put_three};
 use bell_codes::CodeNo;
 use block_words::{Position, Way};
 use line_law::{Act, ByWay, Entry, Passage, Reply, starter_way};
 use line_plan::{Plan, way_word};
+use reply_sentences::position_name;
 use script_text::put_code;
 use std::alloc::AllocError;
 
@@ -163,7 +164,7 @@ fn put_shown(out: &mut String, way: Way, name: &str, position: Position) -> Resu
         " line to ",
         name,
     )?;
-    put_three(out, " shows ", shown_word(position), "\n")
+    put_three(out, " shows ", position_name(position), "\n")
 }
 
 // Puts the line of a repeater of his that a box turns behind a text.

@@ -1,23 +1,10 @@
-//! The railway's words for what stands in a box.
+//! Texts, numbers and moments that are put one behind another.
 
 ghost use Rattle.std.specs.Prelude.{◌≡◌, ◌<◌, ◌++◌, OnOk, decimal, string_bytes};
 ghost use Rattle.script_text.specs.Moments.{hundred_hours, moment_text};
-ghost use Rattle.box_view.specs.Words.{shown_word};
 
-use block_words::Position;
 use script_text::{put_moment, put_number};
 use std::alloc::AllocError;
-
-/// The railway's word for what an instrument shows.
-pub fn shown_word(position: Position) -> &'static str
-    ensures { result.now ≡ shown_word position }
-{
-    match position {
-        Position::Normal => "Normal",
-        Position::LineClear => "Line Clear",
-        Position::TrainOnLine => "Train on Line",
-    }
-}
 
 /// Puts two texts behind a text.
 pub fn put_two(out: &mut String, first: &str, second: &str) -> Result<(), AllocError>
