@@ -38,8 +38,8 @@ HoldsBack state = Unit {0}
 abbrev pub IsReadyMoment : PlanFields → ℕ → Type 0
 IsReadyMoment plan moment = moment < moments_of plan.version + plan.delay
 
--- what a reply tells at box b after so many calls on the line: no count is above the number of calls; a reply that isn't
--- listed tells nothing
+-- what a reply tells at box b after so many calls on the line: no count is above the number of calls; a reply that
+-- isn't listed tells nothing
 unfoldable pub IsTold : PlanFields → ℕ → ℕ → Reply → Type 0
 IsTold plan b calls (replies.Rung k) = k ≤ calls
 IsTold plan b calls (replies.BellBusy code k) = (k ≤ calls) × IsCode plan code

@@ -71,7 +71,8 @@ impl Section {
         limit_at(self.berth(plan))
     }
 
-    /// Puts the section as it is named: its way, its rear box and its box in advance.
+    /// Puts the section as it is named, behind a text: its way, its rear box and its box in advance. Where memory runs
+    /// out a part of the name may stand there.
     pub fn put_name(self, out: &mut String, plan: &Plan) -> Result<(), AllocError>
         requires { IsSection plan.now self }
         ensures { OnOk result (string_bytes out.new ≡ string_bytes out.old ++ section_name plan.now self) }

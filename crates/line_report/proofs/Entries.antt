@@ -27,7 +27,8 @@ entries_text-next plan number es i d lt =
 -- behind the lines of some entries the next one's line is put
 pub more_entries : (plan : PlanFields) (number : ℕ) (es : List Entry) (i : ℕ) (d : Entry) (old out new : List ℕ)
     → i < length es → out ≡ old ++ entries_text plan number (take i es)
-    → new ≡ out ++ entry_text plan (number + i) (get_or es i d) → new ≡ old ++ entries_text plan number (take (i + 1) es)
+    → new ≡ out ++ entry_text plan (number + i) (get_or es i d)
+    → new ≡ old ++ entries_text plan number (take (i + 1) es)
 more_entries plan number es i d old out new lt before more =
     more
     ∙ ap (λ (t : List ℕ). t ++ entry_text plan (number + i) (get_or es i d)) before

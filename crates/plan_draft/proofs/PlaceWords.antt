@@ -30,7 +30,8 @@ places_next names ws front more text i place read lt inv m t e =
     rw m (sym same ∙ inv)
 
 -- a word that names no place is the fault of the whole
-pub places_fail : (names ws : List (List ℕ)) (front text : List ℕ) (i : ℕ) (read : Result (List ℕ) Cause) (cause : Cause)
+pub places_fail : (names ws : List (List ℕ)) (front text : List ℕ) (i : ℕ)
+    (read : Result (List ℕ) Cause) (cause : Cause)
     → i < length ws → places_onto names front (drop i ws) ≡ read → text ≡ word i ws
     → Err cause ≡ number_in_names names text → read ≡ Err cause
 places_fail names ws front text i read cause lt inv t e =

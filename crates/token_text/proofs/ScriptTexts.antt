@@ -27,9 +27,9 @@ use Rattle.token_law.specs.Law.{IsTokenCall}
 use Rattle.token_law.specs.declared.calls.TokenCall.{TokenCall}
 use Rattle.token_text.specs.Acts.{act_words, call_of, call_words, token_call_text}
 use Rattle.token_text.specs.Drafts.{TokenDraftFields, start}
-use Rattle.token_text.specs.Scripts.{IsTokenScript, TokenScriptFields, call_onto, end_onto, has_ended, most_script_bytes}
-use Rattle.token_text.specs.Scripts.{pair_of, script_from, stage_onto, token_script_of, tokens_onto, version_onto}
-use Rattle.token_text.specs.Scripts.{words_onto}
+use Rattle.token_text.specs.Scripts.{IsTokenScript, TokenScriptFields, call_onto, end_onto, has_ended}
+use Rattle.token_text.specs.Scripts.{most_script_bytes, pair_of, script_from, stage_onto, token_script_of}
+use Rattle.token_text.specs.Scripts.{tokens_onto, version_onto, words_onto}
 use Rattle.token_text.specs.Spelled.{MayName, MayNameAll, SpellsTokenScript, call_lines, opening_text}
 use Rattle.token_text.specs.Spelled.{token_script_lines, token_script_text}
 use Rattle.token_text.specs.declared.draft.Stage.{Stage}
@@ -412,7 +412,8 @@ calls_short [] h may = omega arith
 calls_short (call ∷ calls) h may =
     omega (
       arith,
-      length-append (printed_line (token_call_text call)) (flat_map printed_line (call_lines calls ++ codes "end" ∷ [])),
+      length-append (printed_line (token_call_text call))
+          (flat_map printed_line (call_lines calls ++ codes "end" ∷ [])),
       length-append (token_call_text call) (10 ∷ []),
       length-call call h.0 may.0,
       calls_short calls h.1 may.1,

@@ -8,7 +8,8 @@ turn-requires-clause-berth c =
 
 pub berth-requires-in-Some-berth-clause-place : goal.berth-requires-in-Some-berth-clause-place
 berth-requires-in-Some-berth-clause-place c =
-    (berth_here _ _ _ _ c.in-Some-berth.berth.now c.requires.ready.sound c.requires.ready.shape (sym c.in-Some-berth.ensures)).place
+    (berth_here _ _ _ _ c.in-Some-berth.berth.now c.requires.ready.sound c.requires.ready.shape
+    (sym c.in-Some-berth.ensures)).place
 
 pub berth_part-requires-clause-place : goal.berth_part-requires-clause-place
 berth_part-requires-clause-place c =

@@ -45,7 +45,8 @@ returns-then-not-is_open-clause-holds c =
     (λ was. clash c.is_open.result c.if-not-is_open.true (c.is_open.ensures.opens.1 was))
     c.is_open.ensures.rests (ap (λ (merge : MergeState). merge.pairs.items) same)
     (ap (λ (merge : MergeState). merge.left) same)
-    (c.pass_over-then-not-is_open.ensures.awake ∙ ap (λ (merge : MergeState). slice_set merge.awake.items c.args.box_no false) same)
+    (c.pass_over-then-not-is_open.ensures.awake
+    ∙ ap (λ (merge : MergeState). slice_set merge.awake.items c.args.box_no false) same)
     c.pass_over-then-not-is_open.ensures.from
 
 pub returns-then-not-is_open-clause-placed : goal.returns-then-not-is_open-clause-placed
