@@ -1,6 +1,6 @@
 -- What is printed where a command of the desk is done.
 use Rattle.std.specs.Prelude.{All}
-use Rattle.std.proofs.Common.{◌≡◌, ℕ, ◌<◌, List, [], ◌∷◌, Option, Some, None, Result, Ok, Err, OnOk, length, get_or}
+use Rattle.std.proofs.Common.{◌≡◌, ℕ, ◌<◌, List, Option, Some, None, Result, Ok, Err, OnOk, length, get_or}
 use Rattle.std.proofs.Common.{refl, sym, ap, subst, ◌∙◌, arith}
 use Rattle.std.proofs.lemmas.List.{length-map}
 use Rattle.std.proofs.lemmas.List.Elements.{All-weaker}
@@ -45,15 +45,14 @@ use Rattle.desk_reports.specs.Charts.{chart_told, plan_chart_told}
 use Rattle.desk_reports.specs.Frames.{box_named, box_told, frame_text, frame_told, plan_frame_told}
 use Rattle.desk_reports.specs.Reports.{findings_told, upgrade_told}
 use Rattle.desk_reports.specs.SingleLines.{HasTokenScript, history_of, token_script_told, tokens_told, worked_text}
-use Rattle.box_top.specs.Headlines.{IsAuditTextOf, IsJudgementOf, IsWrongText, PrintsAudit, PrintsChart}
-use Rattle.box_top.specs.Headlines.{PrintsFindings, PrintsFrame, PrintsJudgement, PrintsTokens, PrintsUpgrade, Reported}
+use Rattle.box_top.specs.Headlines.{Headline, IsAuditTextOf, IsJudgementOf, IsWrongText, PrintsChart}
+use Rattle.box_top.specs.Headlines.{PrintsFindings, PrintsFrame, PrintsCase, PrintsTokens, PrintsUpgrade, Reported}
 use Rattle.desk_reports.specs.Judgements.{Case, IsJudged, IsLawful, case_told, judgement_of, judgement_told}
 use Rattle.line_runs.specs.Outputs.{MakesText}
 use Rattle.box_top.specs.Outcomes.{IsPrintOf, IsSound, command_told}
-use Rattle.text_fetch.specs.FromTexts.{AreTold, Held, FromTexts, Untold, Gives, Refuses, IsGiven, Makes, plan_told}
+use Rattle.text_fetch.specs.FromTexts.{Held, FromTexts, Untold, Gives, Refuses, IsGiven, Makes, plan_told}
 use Rattle.text_fetch.specs.FromTexts.{read_told, text_told, told_then}
 use Rattle.token_law.proofs.Histories.{calls_are_told, told_has_calls}
-use Rattle.token_text.specs.Scripts.{TokenScriptFields}
 use Rattle.box_top.specs.Top.{PutOutcome}
 use Rattle.box_top.proofs.AllTold.{IsTold, told_case, told_plan, told_tokens}
 use Rattle.box_top.proofs.Outcomes.{IsPut, exactly_makes, outcome_done}
@@ -83,63 +82,68 @@ upgrade_is_read held name plan e = told_plan_is (λ p. plan_of (plan_text (upgra
     (λ bytes p read. upgrade_back bytes p (plan_of_is_plan bytes p read) (read_is_spelled bytes p read)) held name plan
     e
 
--- the text of this name spells a plan, and the bytes taken are what is told of it
-record PrintsOf (held : Held) (name : List ℕ) (told : PlanFields → FromTexts (List ℕ))
-    (old new : Option (List ℕ)) : Type 0 where
-  pub plan : PlanFields
-  pub spelled : plan_told held name ≡ Gives plan
+-- texts spell this, and the bytes taken are what is told of it
+record PrintsOf {A : Type 0} (t : FromTexts A) (told : A → FromTexts (List ℕ)) (old new : Option (List ℕ))
+    : Type 0 where
+  pub made : A
+  pub spelled : t ≡ Gives made
   pub text : List ℕ
-  pub given : IsGiven text (told plan)
+  pub given : IsGiven text (told made)
   pub taken : new ≡ appended old text
 
-plan_done : {X : Type 0} (outcome : Result X Stop) (view : X → List ℕ) (held : Held) (name : List ℕ)
-    (told : PlanFields → FromTexts (List ℕ)) (old new : Option (List ℕ)) (status : Status)
-    → Makes view outcome (told_then (plan_told held name) told) → PutOutcome view outcome old new status
-    → status ≡ statuses.Done → AreTold held (name ∷ []) → PrintsOf held name told old new
-plan_done {X = X} outcome view held name told old new status made put e all = go
+told_done : {X A : Type 0} (outcome : Result X Stop) (view : X → List ℕ) (t : FromTexts A)
+    (told : A → FromTexts (List ℕ)) (old new : Option (List ℕ)) (status : Status)
+    → Makes view outcome (told_then t told) → PutOutcome view outcome old new status
+    → status ≡ statuses.Done → IsTold t → PrintsOf t told old new
+told_done {X = X} {A = A} outcome view t told old new status made put e there = go
     (outcome_done outcome view old new status put e) where
-      prints : (text : List ℕ) (t : FromTexts PlanFields) → new ≡ appended old text → plan_told held name ≡ t → IsTold t
-          → IsGiven text (told_then t told) → PrintsOf held name told old new
+      prints : (text : List ℕ) (o : FromTexts A) → new ≡ appended old text → t ≡ o → IsTold o
+          → IsGiven text (told_then o told) → PrintsOf t told old new
       prints text Untold taken is there h = absurd there
-      prints text (Gives plan) taken is there h = record
-          { plan = plan; spelled = is; text = text; given = h; taken = taken }
+      prints text (Gives x) taken is there h = record
+          { made = x; spelled = is; text = text; given = h; taken = taken }
       prints text (Refuses n fault) taken is there h = absurd h
 
-      go : IsPut outcome view old new → PrintsOf held name told old new
-      go p =
-          let given : Makes view (Ok p.made) (told_then (plan_told held name) told) = subst
-          (λ (o : Result X Stop). Makes view o (told_then (plan_told held name) told)) p.is made in
-          prints (view p.made) (plan_told held name) p.taken refl (told_plan held name all) given
+      go : IsPut outcome view old new → PrintsOf t told old new
+      go p = prints (view p.made) t p.taken refl there
+          (subst (λ (o : Result X Stop). Makes view o (told_then t told)) p.is made)
+
+-- what is found wherever there is an outcome is found where it is done
+done_found : {X : Type 0} (outcome : Result X Stop) (view : X → List ℕ) (P : Type 0) (old new : Option (List ℕ))
+    (status : Status) → OnOk outcome P → PutOutcome view outcome old new status → status ≡ statuses.Done → P
+done_found {X = X} outcome view P old new status found put e =
+    subst (λ (o : Result X Stop). OnOk o P) (outcome_done outcome view old new status put e).is found
 
 -- ---- a check
 
 check_done : (held : Held) (name : List ℕ) (old new : Option (List ℕ))
-    → PrintsOf held name (λ plan. Gives (findings_text plan (findings_of plan))) old new
+    → PrintsOf (plan_told held name) (λ plan. Gives (findings_text plan (findings_of plan))) old new
     → PrintsFindings held name old new
 check_done held name old new p = record {
-  plan = p.plan;
+  plan = p.made;
   spelled = p.spelled;
-  findings = findings_of p.plan;
-  exact = are_exact p.plan (findings_of p.plan) (plan_is held name p.plan p.spelled) refl;
+  findings = findings_of p.made;
+  exact = are_exact p.made (findings_of p.made) (plan_is held name p.made p.spelled) refl;
   taken = p.taken ∙ ap (appended old) (sym p.given);
 }
 
 -- ---- a frame
 
 frame_done : (held : Held) (plan_name name : List ℕ) (old new : Option (List ℕ))
-    → PrintsOf held plan_name (λ plan. frame_told plan name) old new → PrintsFrame held plan_name name old new
-frame_done held plan_name name old new p = go (box_named p.plan name) refl p.given where
-  go : (found : Option ℕ) → box_named p.plan name ≡ found
-      → IsGiven p.text (told_then (box_told p.plan found) (λ box_plan. Gives (frame_text box_plan)))
+    → PrintsOf (plan_told held plan_name) (λ plan. frame_told plan name) old new
+    → PrintsFrame held plan_name name old new
+frame_done held plan_name name old new p = go (box_named p.made name) refl p.given where
+  go : (found : Option ℕ) → box_named p.made name ≡ found
+      → IsGiven p.text (told_then (box_told p.made found) (λ box_plan. Gives (frame_text box_plan)))
       → PrintsFrame held plan_name name old new
   go None e h = absurd h
   go (Some b) e h =
-      let is = found_is (names_of p.plan.boxes) name b e in
+      let is = found_is (names_of p.made.boxes) name b e in
       record {
-        plan = p.plan;
+        plan = p.made;
         spelled = p.spelled;
         box_no = b;
-        within = omega (arith, is.0, length-map p.plan.boxes (λ box_plan. box_plan.name));
+        within = omega (arith, is.0, length-map p.made.boxes (λ box_plan. box_plan.name));
         named = sym is.1;
         taken = p.taken ∙ ap (appended old) (sym h);
       }
@@ -161,36 +165,38 @@ box_is_charted box_plan rows =
     the_chart (bridles_of box_plan) (compiled_fits most_levers 1 box_plan.rows spelled fits)
 
 chart_done : (held : Held) (plan_name name : List ℕ) (old new : Option (List ℕ))
-    → PrintsOf held plan_name (λ plan. chart_told plan name) old new → PrintsChart held plan_name name old new
-chart_done held plan_name name old new p = go (box_named p.plan name) refl p.given where
-  go : (found : Option ℕ) → box_named p.plan name ≡ found
-      → IsGiven p.text (told_then (box_told p.plan found) (λ box_plan. Gives (box_chart_text box_plan)))
+    → PrintsOf (plan_told held plan_name) (λ plan. chart_told plan name) old new
+    → PrintsChart held plan_name name old new
+chart_done held plan_name name old new p = go (box_named p.made name) refl p.given where
+  go : (found : Option ℕ) → box_named p.made name ≡ found
+      → IsGiven p.text (told_then (box_told p.made found) (λ box_plan. Gives (box_chart_text box_plan)))
       → PrintsChart held plan_name name old new
   go None e h = absurd h
   go (Some b) e h =
-      let is = found_is (names_of p.plan.boxes) name b e in
-      let within : b < length p.plan.boxes =
-      omega (arith, is.0, length-map p.plan.boxes (λ box_plan. box_plan.name)) in
-      let box_plan = box_at p.plan.boxes b in
+      let is = found_is (names_of p.made.boxes) name b e in
+      let within : b < length p.made.boxes =
+      omega (arith, is.0, length-map p.made.boxes (λ box_plan. box_plan.name)) in
+      let box_plan = box_at p.made.boxes b in
       record {
-        plan = p.plan;
+        plan = p.made;
         spelled = p.spelled;
         box_no = b;
         within = within;
         named = sym is.1;
         chart = chart_of (bridles_of box_plan);
-        is = box_is_charted box_plan ((plan_is held plan_name p.plan p.spelled).each b within).rows;
+        is = box_is_charted box_plan ((plan_is held plan_name p.made p.spelled).each b within).rows;
         taken = p.taken ∙ ap (appended old) (sym h ∙ chart_printed box_plan);
       }
 
 -- ---- an upgrade
 
 upgrade_done : (held : Held) (name : List ℕ) (old new : Option (List ℕ))
-    → PrintsOf held name (λ plan. Gives (plan_text (upgraded plan))) old new → PrintsUpgrade held name old new
+    → PrintsOf (plan_told held name) (λ plan. Gives (plan_text (upgraded plan))) old new
+    → PrintsUpgrade held name old new
 upgrade_done held name old new p = record {
-  plan = p.plan;
+  plan = p.made;
   spelled = p.spelled;
-  read = upgrade_is_read held name p.plan p.spelled;
+  read = upgrade_is_read held name p.made p.spelled;
   taken = p.taken ∙ ap (appended old) (sym p.given);
 }
 
@@ -209,152 +215,90 @@ legal_said : (plan : PlanFields) (es : List Entry) → judgement_text plan es �
 unfolding judgement_text
 legal_said plan es e = says_legal plan es (verdict_of plan es) e
 
-legal_told : (plan : PlanFields) (es : List Entry) → verdict_of plan es ≡ Legal
-    → judgement_text plan es ≡ legal_text (length es)
+told_by : (plan : PlanFields) (es : List Entry) (verdict : Verdict) → verdict_of plan es ≡ verdict
+    → judgement_text plan es ≡ verdict_text plan es verdict
 unfolding judgement_text
-legal_told plan es e = ap (verdict_text plan es) e
+told_by plan es verdict e = ap (verdict_text plan es) e
 
--- a journal that isn't legal is wrong at an entry
-wrong_told : (case : Case) (verdict : Verdict) → IsLawful case.plan case.entries
-    → verdict_of case.plan case.entries ≡ verdict → ¬ IsLegal case.plan case.entries
-    → IsWrongText case (judgement_of case)
-unfolding judgement_text
-wrong_told case Legal law e not = absurd (not (law.legal.0 e))
-wrong_told case (WrongAt line said lawful) law e not =
+-- of a journal that isn't legal the text tells where it is wrong, if it tells each wrong verdict
+wrong_told : (case : Case) (text : List ℕ) → ((verdict : Verdict) → verdict_of case.plan case.entries ≡ verdict
+    → ¬ (verdict ≡ Legal) → text ≡ verdict_text case.plan case.entries verdict)
+    → (verdict : Verdict) → IsLawful case.plan case.entries → verdict_of case.plan case.entries ≡ verdict
+    → ¬ IsLegal case.plan case.entries → IsWrongText case text
+wrong_told case text tells Legal law e not = absurd (not (law.legal.0 e))
+wrong_told case text tells (WrongAt line said lawful) law e not =
     record {
       line = line;
       said = said;
       law = lawful;
       is = law.wrong line said lawful e;
-      printed = ap
-          (verdict_text case.plan case.entries) e;
+      printed = tells (WrongAt line said lawful) e (λ bad. cc);
     }
 
-judgement_is : (case : Case) → IsJudged (Gives case) → IsJudgementOf case (judgement_of case)
-judgement_is case judged =
-    let law = judged case refl in
-    record {
-      printed = refl;
-      legal = (
-        λ said. law.legal.0 (legal_said case.plan case.entries said),
-        λ is. legal_told case.plan case.entries
-            (law.legal.1 is),
-      );
-      wrong = wrong_told case (verdict_of case.plan case.entries) law refl;
-    }
-
--- a journal that isn't legal is told as the judge tells it
-wrong_audited : (case : Case) (verdict : Verdict) → IsLawful case.plan case.entries
-    → verdict_of case.plan case.entries ≡ verdict → ¬ IsLegal case.plan case.entries
-    → IsWrongText case (audited_text case.plan case.entries)
-wrong_audited case Legal law e not = absurd (not (law.legal.0 e))
-wrong_audited case (WrongAt line said lawful) law e not =
-    record {
-      line = line;
-      said = said;
-      law = lawful;
-      is = law.wrong line said lawful e;
-      printed = ap (audited_by case.plan case.entries) e;
-    }
-
-audit_is : (case : Case) → IsJudged (Gives case) → IsAuditTextOf case (audited_text case.plan case.entries)
-audit_is case judged =
-    let law = judged case refl in
-    record {
-      legal = λ is. record {
-        breaches = breaches_of case.plan case.entries;
-        is = audit_exact case.plan case.entries is;
-        printed = ap (audited_by case.plan case.entries) (law.legal.1 is);
-      };
-      wrong = wrong_audited case (verdict_of case.plan case.entries) law refl;
-    }
-
--- a case that is told and judged, and what was printed of it
-record PrintsCase (held : Held) (name other : List ℕ) (report : Case → List ℕ) (old new : Option (List ℕ)) : Type 0
-  where
-    case : Case
-    spelled : case_told held name other ≡ Gives case
-    judged : IsJudged (Gives case)
-    taken : new ≡ appended old (report case)
-
-case_done : {X : Type 0} (outcome : Result X Stop) (view : X → List ℕ) (held : Held) (name other : List ℕ)
-    (report : Case → List ℕ) (old new : Option (List ℕ)) (status : Status)
-    → Makes view outcome (told_then (case_told held name other) (λ case. Gives (report case)))
-    → OnOk outcome (IsJudged (case_told held name other))
-    → PutOutcome view outcome old new status → status ≡ statuses.Done
-    → AreTold held (name ∷ other ∷ []) → PrintsCase held name other report old new
-case_done {X = X} outcome view held name other report old new status made judged put e told = go
-    (outcome_done outcome view old new status put e) where
-      prints : (text : List ℕ) (t : FromTexts Case) → new ≡ appended old text → case_told held name other ≡ t → IsTold t
-          → IsGiven text (told_then t (λ case. Gives (report case))) → IsJudged t
-          → PrintsCase held name other report old new
-      prints text Untold taken is told h judged = absurd told
-      prints text (Gives case) taken is told h judged = record
-          { case = case; spelled = is; judged = judged; taken = taken ∙ ap (appended old) (sym h) }
-      prints text (Refuses n fault) taken is told h judged = absurd h
-
-      go : IsPut outcome view old new → PrintsCase held name other report old new
-      go p =
-          let given = subst (λ (o : Result X Stop). Makes view o (told_then (case_told held name other)
-          (λ case. Gives (report case)))) p.is made in
-          let sound : IsJudged (case_told held name other) = subst
-          (λ (o : Result X Stop). OnOk o (IsJudged (case_told held name other))) p.is judged in
-          prints (view p.made) (case_told held name other) p.taken refl (told_case held name other told) given sound
-
-judge_done : (held : Held) (name other : List ℕ) (old new : Option (List ℕ))
-    → PrintsCase held name other judgement_of old new → PrintsJudgement held name other old new
-judge_done held name other old new p = record {
-  case = p.case;
-  spelled = p.spelled;
-  text = judgement_of p.case;
-  is = judgement_is p.case p.judged;
-  taken = p.taken;
+judgement_is : (case : Case) → IsLawful case.plan case.entries → IsJudgementOf case (judgement_of case)
+judgement_is case law = record {
+  printed = refl;
+  legal = (
+    λ said. law.legal.0 (legal_said case.plan case.entries said),
+    λ is. told_by case.plan case.entries Legal
+        (law.legal.1 is),
+  );
+  wrong = wrong_told case (judgement_of case) (λ verdict e not. told_by case.plan case.entries verdict e)
+      (verdict_of case.plan case.entries) law refl;
 }
 
-audit_done : (held : Held) (name other : List ℕ) (old new : Option (List ℕ))
-    → PrintsCase held name other (λ case. audited_text case.plan case.entries) old new
-    → PrintsAudit held name other old new
-audit_done held name other old new p = record {
-  case = p.case;
+-- where a journal isn't legal, an audit tells what the judge tells
+audited_as_judged : (case : Case) (verdict : Verdict) → verdict_of case.plan case.entries ≡ verdict
+    → ¬ (verdict ≡ Legal) → audited_text case.plan case.entries ≡ verdict_text case.plan case.entries verdict
+audited_as_judged case Legal e not = absurd (not refl)
+audited_as_judged case (WrongAt line said lawful) e not = ap (audited_by case.plan case.entries) e
+
+audit_is : (case : Case) → IsLawful case.plan case.entries
+    → IsAuditTextOf case (audited_text case.plan case.entries)
+audit_is case law = record {
+  legal = λ is. record {
+    breaches = breaches_of case.plan case.entries;
+    is = audit_exact case.plan case.entries is;
+    printed = ap (audited_by case.plan case.entries) (law.legal.1 is);
+  };
+  wrong = wrong_told case (audited_text case.plan case.entries) (audited_as_judged case)
+      (verdict_of case.plan case.entries) law refl;
+}
+
+case_done : (IsFound : Case → List ℕ → Type 0) (report : Case → List ℕ)
+    → ((case : Case) → IsLawful case.plan case.entries → IsFound case (report case))
+    → (held : Held) (name other : List ℕ) (old new : Option (List ℕ))
+    → PrintsOf (case_told held name other) (λ case. Gives (report case)) old new
+    → IsJudged (case_told held name other) → PrintsCase IsFound held name other old new
+case_done IsFound report is held name other old new p judged = record {
+  case = p.made;
   spelled = p.spelled;
-  text = audited_text p.case.plan p.case.entries;
-  is = audit_is p.case p.judged;
+  text = p.text;
+  is = subst (IsFound p.made) p.given (is p.made (judged p.made p.spelled));
   taken = p.taken;
 }
 
 -- ---- a single line with tokens
 
-tokens_done : {X : Type 0} (outcome : Result X Stop) (view : X → List ℕ) (held : Held) (name : List ℕ)
-    (old new : Option (List ℕ)) (status : Status)
-    → Makes view outcome (tokens_told held name) → OnOk outcome (HasTokenScript (token_script_told held name))
-    → PutOutcome view outcome old new status → status ≡ statuses.Done → AreTold held (name ∷ [])
-    → PrintsTokens held name old new
-tokens_done {X = X} outcome view held name old new status made has put e told = go
-    (outcome_done outcome view old new status put e) where
-      prints : (text : List ℕ) (t : FromTexts TokenScriptFields) → new ≡ appended old text
-          → token_script_told held name ≡ t → IsTold t
-          → IsGiven text (told_then t (λ script. Gives (worked_text script))) → HasTokenScript t
-          → PrintsTokens held name old new
-      prints text Untold taken is told h may = absurd told
-      prints text (Gives script) taken is told h may = record {
-        script = script;
-        spelled = is;
-        entries = history_of script;
-        legal = calls_are_told script.at_0 script.at_1 script.calls (may script refl).calls;
-        calls = told_has_calls script.at_0 script.at_1 script.calls;
-        taken = taken ∙ ap (appended old) (sym h);
-      }
-      prints text (Refuses n fault) taken is told h may = absurd h
-
-      go : IsPut outcome view old new → PrintsTokens held name old new
-      go p =
-          let given : Makes view (Ok p.made) (tokens_told held name) = subst
-          (λ (o : Result X Stop). Makes view o (tokens_told held name)) p.is made in
-          let may : HasTokenScript (token_script_told held name) = subst
-          (λ (o : Result X Stop). OnOk o (HasTokenScript (token_script_told held name))) p.is has in
-          prints (view p.made) (token_script_told held name) p.taken refl (told_tokens held name told) given may
+tokens_done : (held : Held) (name : List ℕ) (old new : Option (List ℕ))
+    → PrintsOf (token_script_told held name) (λ script. Gives (worked_text script)) old new
+    → HasTokenScript (token_script_told held name) → PrintsTokens held name old new
+tokens_done held name old new p has = record {
+  script = p.made;
+  spelled = p.spelled;
+  entries = history_of p.made;
+  legal = calls_are_told p.made.at_0 p.made.at_1 p.made.calls (has p.made p.spelled).calls;
+  calls = told_has_calls p.made.at_0 p.made.at_1 p.made.calls;
+  taken = p.taken ∙ ap (appended old) (sym p.given);
+}
 
 -- ---- a command of the desk
+
+-- the desk works no line
+pub desk_works_none : (command : DeskCommand) (held : Held) (old new : Option (List ℕ))
+    → Headline held (Some (desk_shown command)) old new
+desk_works_none (desk.Check plan) held old new = tt
+desk_works_none command held old new = tt
 
 pub desk_done : {X : Type 0} (command : DeskCommand) (outcome : Result X Stop) (view : X → List ℕ) (held : Held)
     (old new : Option (List ℕ)) (status : Status)
@@ -363,25 +307,32 @@ pub desk_done : {X : Type 0} (command : DeskCommand) (outcome : Result X Stop) (
     → status ≡ statuses.Done → Reported held (Some (desk_shown command)) old new
 desk_done (desk.Check plan) outcome view held old new status made sound put e = λ all.
     let made_so = exactly_makes outcome view (findings_told held plan.now) made in
-    check_done held plan.now old new (plan_done outcome view held plan.now _ old new status made_so put e all)
+    check_done held plan.now old new
+    (told_done outcome view _ _ old new status made_so put e (told_plan held plan.now all))
 desk_done (desk.Tables plan name) outcome view held old new status made sound put e = λ all.
     let made_so = exactly_makes outcome view (plan_frame_told held plan.now name.now) made in
-    frame_done held plan.now name.now old new (plan_done outcome view held plan.now _ old new status made_so put e all)
+    frame_done held plan.now name.now old new
+    (told_done outcome view _ _ old new status made_so put e (told_plan held plan.now all))
 desk_done (desk.Chart plan name) outcome view held old new status made sound put e = λ all.
     let made_so = exactly_makes outcome view (plan_chart_told held plan.now name.now) made in
-    chart_done held plan.now name.now old new (plan_done outcome view held plan.now _ old new status made_so put e all)
+    chart_done held plan.now name.now old new
+    (told_done outcome view _ _ old new status made_so put e (told_plan held plan.now all))
 desk_done (desk.Judge plan journal) outcome view held old new status made sound put e = λ all.
     let made_so = exactly_makes outcome view (judgement_told held plan.now journal.now) made in
-    judge_done held plan.now journal.now old new
-    (case_done outcome view held plan.now journal.now judgement_of old new status made_so sound put e all)
+    case_done IsJudgementOf judgement_of judgement_is held plan.now journal.now old new
+    (told_done outcome view _ _ old new status made_so put e (told_case held plan.now journal.now all))
+    (done_found outcome view _ old new status sound put e)
 desk_done (desk.Audit plan journal) outcome view held old new status made sound put e = λ all.
     let made_so = exactly_makes outcome view (audit_told held plan.now journal.now) made in
-    audit_done held plan.now journal.now old new
-    (case_done outcome view held plan.now journal.now (λ case. audited_text case.plan case.entries) old new status
-    made_so sound put e all)
+    case_done IsAuditTextOf _ audit_is held plan.now journal.now old new
+    (told_done outcome view _ _ old new status made_so put e (told_case held plan.now journal.now all))
+    (done_found outcome view _ old new status sound put e)
 desk_done (desk.Upgrade plan) outcome view held old new status made sound put e = λ all.
     let made_so = exactly_makes outcome view (upgrade_told held plan.now) made in
-    upgrade_done held plan.now old new (plan_done outcome view held plan.now _ old new status made_so put e all)
+    upgrade_done held plan.now old new
+    (told_done outcome view _ _ old new status made_so put e (told_plan held plan.now all))
 desk_done (desk.Token script) outcome view held old new status made sound put e = λ all.
     let made_so = exactly_makes outcome view (tokens_told held script.now) made in
-    tokens_done outcome view held script.now old new status made_so sound put e all
+    tokens_done held script.now old new
+    (told_done outcome view _ _ old new status made_so put e (told_tokens held script.now all))
+    (done_found outcome view _ old new status sound put e)

@@ -3,3 +3,4 @@ pub mod AllTold
 pub mod WatchRead
 pub mod Headlines
 pub mod DeskDone
+pub mod Serving

@@ -15,7 +15,6 @@ use Rattle.box_top.specs.Outcomes.{Exactly, IsPrintOf, NoneRose, Print, command_
 use Rattle.text_fetch.specs.FromTexts.{Held, FromTexts, Untold, Gives, Refuses, IsGiven, IsRefused, Makes, StopsAt}
 use Rattle.text_fetch.specs.FromTexts.{told_then}
 use Rattle.box_top.specs.Top.{Answers, Completes, Printed, PutOutcome, PutStop, PutText, ShelfCause, refused_line}
-use Rattle.box_top.specs.Top.{words_line}
 
 answers_done : (told : FromTexts Print) (text : List ℕ) → MayCome IsPrintOf text told → Answers told statuses.Done text
 answers_done Untold text h = inl refl
@@ -28,48 +27,38 @@ answers_refused Untold n fault h = inr refl
 answers_refused (Gives print) n fault h = absurd h
 answers_refused (Refuses k other) n fault h = (refl, rw (h.0, h.1) refl)
 
-refused_printed : (held : Held) (words : Option Command) (command : Command) (old new : Option (List ℕ))
-    (status : Status) (n : ℕ) (fault : Fault)
-    → words ≡ Some command → IsRefused n fault (command_told held command)
-    → PutText old new (refused_line n fault) statuses.Refused status → Printed held words old new status
-refused_printed held words command old new status n fault e h (inl p) = rw (e, p.0)
+refused_printed : (held : Held) (command : Command) (old new : Option (List ℕ)) (status : Status) (n : ℕ)
+    (fault : Fault) → IsRefused n fault (command_told held command)
+    → PutText old new (refused_line n fault) statuses.Refused status
+    → Printed held (Some command) old new status
+refused_printed held command old new status n fault h (inl p) = rw p.0
     (refused_line n fault, answers_refused (command_told held command) n fault h, p.1)
-refused_printed held words command old new status n fault e h (inr p) = rw (e, p.0)
+refused_printed held command old new status n fault h (inr p) = rw p.0
     (statuses.Refused, refused_line n fault, answers_refused (command_told held command) n fault h, p.1)
 
-done_printed : (held : Held) (words : Option Command) (command : Command) (old new : Option (List ℕ)) (status : Status)
-    (text : List ℕ)
-    → words ≡ Some command → MayCome IsPrintOf text (command_told held command)
-    → PutText old new text statuses.Done status → Printed held words old new status
-done_printed held words command old new status text e h (inl p) = rw (e, p.0)
+done_printed : (held : Held) (command : Command) (old new : Option (List ℕ)) (status : Status) (text : List ℕ)
+    → MayCome IsPrintOf text (command_told held command) → PutText old new text statuses.Done status
+    → Printed held (Some command) old new status
+done_printed held command old new status text h (inl p) = rw p.0
     (text, answers_done (command_told held command) text h, p.1)
-done_printed held words command old new status text e h (inr p) = rw (e, p.0)
+done_printed held command old new status text h (inr p) = rw p.0
     (statuses.Done, text, answers_done (command_told held command) text h, p.1)
 
-pub words_printed : (held : Held) (words : Option Command) (old new : Option (List ℕ)) (status : Status) → words ≡ None
-    → PutText old new words_line statuses.Words status → Printed held words old new status
-words_printed held words old new status e (inl p) = rw (e, p.0) (words_line, (refl, refl), p.1)
-words_printed held words old new status e (inr p) = rw (e, p.0) (statuses.Words, words_line, (refl, refl), p.1)
-
-stop_printed : (stop : Stop) (held : Held) (words : Option Command) (command : Command) (old new : Option (List ℕ))
-    (status : Status)
-    → words ≡ Some command → StopsAt stop (command_told held command) → PutStop stop old new status
-    → Printed held words old new status
-stop_printed (stops.Refused text line cause) held words command old new status e h (inl p) = refused_printed held words
-    command old new status text (record { line = line; cause = cause }) e h p
-stop_printed (stops.Refused text line cause) held words command old new status e h (inr p) = rw p.0 p.1
-stop_printed stops.ShelfFault held words command old new status e h p = rw p.0 p.1
-stop_printed stops.NoMemory held words command old new status e h p = rw p.0 p.1
+stop_printed : (stop : Stop) (held : Held) (command : Command) (old new : Option (List ℕ)) (status : Status)
+    → StopsAt stop (command_told held command) → PutStop stop old new status
+    → Printed held (Some command) old new status
+stop_printed (stops.Refused text line cause) held command old new status h (inl p) = refused_printed held command old
+    new status text (record { line = line; cause = cause }) h p
+stop_printed (stops.Refused text line cause) held command old new status h (inr p) = rw p.0 p.1
+stop_printed stops.ShelfFault held command old new status h p = rw p.0 p.1
+stop_printed stops.NoMemory held command old new status h p = rw p.0 p.1
 
 -- an outcome of a command is printed
-pub outcome_printed : {X : Type 0} (outcome : Result X Stop) (view : X → List ℕ) (held : Held) (words : Option Command)
-    (command : Command) (old new : Option (List ℕ)) (status : Status)
-    → words ≡ Some command → MakesText IsPrintOf view outcome (command_told held command)
-    → PutOutcome view outcome old new status → Printed held words old new status
-outcome_printed (Ok x) view held words command old new status e h p = done_printed held words command old new status
-    (view x) e h p
-outcome_printed (Err stop) view held words command old new status e h p = stop_printed stop held words command old new
-    status e h p
+pub outcome_printed : {X : Type 0} (outcome : Result X Stop) (view : X → List ℕ) (held : Held) (command : Command)
+    (old new : Option (List ℕ)) (status : Status) → MakesText IsPrintOf view outcome (command_told held command)
+    → PutOutcome view outcome old new status → Printed held (Some command) old new status
+outcome_printed (Ok x) view held command old new status h p = done_printed held command old new status (view x) h p
+outcome_printed (Err stop) view held command old new status h p = stop_printed stop held command old new status h p
 
 -- ---- what an outcome is, by the status
 

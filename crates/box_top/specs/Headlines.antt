@@ -87,15 +87,9 @@ Headline held None old new = ⊥
 Headline held (Some (Command.Run plan scripts)) old new = AreTold held (plan ∷ scripts)
     → PrintsJournal held plan scripts old new
 Headline held (Some (Command.Stress n)) old new = PrintsSummary n old new
-Headline held (Some (Command.Check plan)) old new = Unit {0}
-Headline held (Some (Command.Tables plan name)) old new = Unit {0}
-Headline held (Some (Command.Chart plan name)) old new = Unit {0}
-Headline held (Some (Command.Judge plan journal)) old new = Unit {0}
-Headline held (Some (Command.Audit plan journal)) old new = Unit {0}
-Headline held (Some (Command.Upgrade plan)) old new = Unit {0}
-Headline held (Some (Command.Token script)) old new = Unit {0}
 Headline held (Some (Command.Watch n plan scripts)) old new = AreTold held (plan ∷ scripts)
     → PrintsBoard n held plan scripts old new
+Headline held (Some command) old new = Unit {0}
 
 -- ---- a check
 
@@ -152,14 +146,6 @@ pub record IsJudgementOf (case : Case) (text : List ℕ) : Type 0 where
   pub legal : text ≡ legal_text (length case.entries) ↔ IsLegal case.plan case.entries
   pub wrong : ¬ IsLegal case.plan case.entries → IsWrongText case text
 
--- the texts of these names spell a plan and a journal of its line, and the bytes taken are what is found of it
-pub record PrintsJudgement (held : Held) (plan journal : List ℕ) (old new : Option (List ℕ)) : Type 0 where
-  pub case : Case
-  pub spelled : case_told held plan journal ≡ Gives case
-  pub text : List ℕ
-  pub is : IsJudgementOf case text
-  pub taken : new ≡ appended old text
-
 -- ---- an audit
 
 -- The text is the breaches of a journal: each entry that breaks one of the nine rules is named with the rule, and
@@ -175,12 +161,13 @@ pub record IsAuditTextOf (case : Case) (text : List ℕ) : Type 0 where
   pub legal : IsLegal case.plan case.entries → NamesBreaches case text
   pub wrong : ¬ IsLegal case.plan case.entries → IsWrongText case text
 
--- the texts of these names spell a plan and a journal of its line, and the bytes taken are its audit
-pub record PrintsAudit (held : Held) (plan journal : List ℕ) (old new : Option (List ℕ)) : Type 0 where
+-- the texts of these names spell a plan and a journal of its line, and the bytes taken are what is found of it
+pub record PrintsCase (IsFound : Case → List ℕ → Type 0) (held : Held) (plan journal : List ℕ)
+    (old new : Option (List ℕ)) : Type 0 where
   pub case : Case
   pub spelled : case_told held plan journal ≡ Gives case
   pub text : List ℕ
-  pub is : IsAuditTextOf case text
+  pub is : IsFound case text
   pub taken : new ≡ appended old text
 
 -- ---- an upgrade
@@ -213,15 +200,13 @@ pub record PrintsTokens (held : Held) (name : List ℕ) (old new : Option (List 
 -- command needs, and what it prints of them is what was taken.
 abbrev pub Reported : Held → Option Command → Option (List ℕ) → Option (List ℕ) → Type 0
 Reported held None old new = ⊥
-Reported held (Some (Command.Run plan scripts)) old new = Unit {0}
-Reported held (Some (Command.Stress n)) old new = Unit {0}
 Reported held (Some (Command.Check plan)) old new = AreTold held (plan ∷ []) → PrintsFindings held plan old new
 Reported held (Some (Command.Tables plan name)) old new = AreTold held (plan ∷ []) → PrintsFrame held plan name old new
 Reported held (Some (Command.Chart plan name)) old new = AreTold held (plan ∷ []) → PrintsChart held plan name old new
 Reported held (Some (Command.Judge plan journal)) old new = AreTold held (plan ∷ journal ∷ [])
-    → PrintsJudgement held plan journal old new
+    → PrintsCase IsJudgementOf held plan journal old new
 Reported held (Some (Command.Audit plan journal)) old new = AreTold held (plan ∷ journal ∷ [])
-    → PrintsAudit held plan journal old new
+    → PrintsCase IsAuditTextOf held plan journal old new
 Reported held (Some (Command.Upgrade plan)) old new = AreTold held (plan ∷ []) → PrintsUpgrade held plan old new
 Reported held (Some (Command.Token script)) old new = AreTold held (script ∷ []) → PrintsTokens held script old new
-Reported held (Some (Command.Watch n plan scripts)) old new = Unit {0}
+Reported held (Some command) old new = Unit {0}

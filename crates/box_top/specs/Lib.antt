@@ -2,3 +2,4 @@ pub mod Statuses
 pub mod Outcomes
 pub mod Top
 pub mod Headlines
+pub mod Served

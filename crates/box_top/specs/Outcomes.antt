@@ -49,29 +49,18 @@ command_told held (Command.Watch n plan scripts) = told_then (run_told held plan
 -- What is told of a command of the desk is sound: the verdict on a case is the law's, and the calls of a token script
 -- may be made. Of the other commands nothing more has to be said.
 abbrev pub IsSound : Held → Command → Type 0
-IsSound held (Command.Run plan scripts) = Unit {0}
-IsSound held (Command.Stress n) = Unit {0}
-IsSound held (Command.Check plan) = Unit {0}
-IsSound held (Command.Tables plan name) = Unit {0}
-IsSound held (Command.Chart plan name) = Unit {0}
 IsSound held (Command.Judge plan journal) = IsJudged (case_told held plan journal)
 IsSound held (Command.Audit plan journal) = IsJudged (case_told held plan journal)
-IsSound held (Command.Upgrade plan) = Unit {0}
 IsSound held (Command.Token script) = HasTokenScript (token_script_told held script)
-IsSound held (Command.Watch n plan scripts) = Unit {0}
+IsSound held command = Unit {0}
 
 -- what is told before text k of a command, from 0, is fetched
 abbrev pub told_before : Held → Command → ℕ → FromTexts (Unit {0})
 told_before held (Command.Run plan scripts) = run_told_before held plan scripts
-told_before held (Command.Stress n) = λ k. Gives tt
-told_before held (Command.Check plan) = λ k. Gives tt
-told_before held (Command.Tables plan name) = λ k. Gives tt
-told_before held (Command.Chart plan name) = λ k. Gives tt
+told_before held (Command.Watch n plan scripts) = run_told_before held plan scripts
 told_before held (Command.Judge plan journal) = case_told_before held plan
 told_before held (Command.Audit plan journal) = case_told_before held plan
-told_before held (Command.Upgrade plan) = λ k. Gives tt
-told_before held (Command.Token script) = λ k. Gives tt
-told_before held (Command.Watch n plan scripts) = run_told_before held plan scripts
+told_before held command = λ k. Gives tt
 
 -- the count of no text that the words name rose
 abbrev pub NoneRose : (List ℕ → ℕ) → (List ℕ → ℕ) → Option Command → Type 0

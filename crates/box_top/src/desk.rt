@@ -1,12 +1,11 @@
 //! The desk: the commands that work no line of a plan.
 
-ghost use Rattle.std.specs.Prelude.{◌≡◌, ℕ, List, Some, None, IsErrOf, OnOk};
-ghost use Rattle.rail_text.specs.Causes.{Rose};
+ghost use Rattle.std.specs.Prelude.{◌≡◌, ℕ, List, Some, IsErrOf, OnOk};
 ghost use Rattle.command_words.specs.Commands.{bytes_of, desk_command_of, desk_shown};
-ghost use Rattle.box_top.specs.Headlines.{Reported};
 ghost use Rattle.line_runs.specs.Outputs.{MakesText};
-ghost use Rattle.box_top.specs.Outcomes.{IsPrintOf, IsSound, NoneRose, command_told};
-ghost use Rattle.box_top.specs.Top.{Completes, Printed, ShelfCause};
+ghost use Rattle.box_top.specs.Outcomes.{IsPrintOf, IsSound, command_told};
+ghost use Rattle.box_top.specs.Served.{IsServed};
+ghost use Rattle.box_top.specs.Top.{ShelfCause};
 
 use crate::put::{WORDS_LINE, put_outcome, put_text};
 use crate::status::Status;
@@ -51,16 +50,8 @@ pub fn serve_desk<S: Shelf, K: Sink>(
     shelf: &mut S,
     out: &mut K,
 ) -> Status
-    ensures printed { Printed (S.held shelf.old) (Some (desk_shown command.entry)) (K.taken out.old) (K.taken out.new)
-        result }
-    ensures reported { result ≡ Status.Done
-        → Reported (S.held shelf.old) (Some (desk_shown command.entry)) (K.taken out.old) (K.taken out.new) }
-    ensures sink { result ≡ Status.SinkFault → Rose (K.faults out.old) (K.faults out.new) }
-    ensures shelf { result ≡ Status.ShelfFault
-        → ShelfCause (S.held shelf.old) (S.faults shelf.old) (S.faults shelf.new) (Some (desk_shown command.entry)) }
-    ensures not_fetched { result ≡ Status.ShelfFault → out.new ≡ out.old }
-    ensures no_memory { result ≡ Status.NoMemory → out.new ≡ out.old }
-    ensures same { (n : List ℕ) → S.held shelf.new n ≡ S.held shelf.old n }
+    ensures { IsServed S.held S.faults K.taken K.faults (Some (desk_shown command.entry)) shelf.old shelf.new
+        out.old out.new result }
 {
     let outcome = desk_outcome(alloc, shelf, command);
     put_outcome(alloc, out, outcome)
@@ -98,22 +89,8 @@ pub fn desk_top<S: Shelf, K: Sink>(
     shelf: &mut S,
     out: &mut K,
 ) -> Status
-    ensures printed { Printed (S.held shelf.old) (desk_command_of (bytes_of words.now)) (K.taken out.old)
-        (K.taken out.new) result }
-    ensures reported { result ≡ Status.Done
-        → Reported (S.held shelf.old) (desk_command_of (bytes_of words.now)) (K.taken out.old) (K.taken out.new) }
-    ensures complete { NoneRose (S.faults shelf.old) (S.faults shelf.new) (desk_command_of (bytes_of words.now))
-        → ¬ Rose (K.faults out.old) (K.faults out.new)
-        → Completes (S.held shelf.old) (desk_command_of (bytes_of words.now)) (K.taken out.old) (K.taken out.new)
-        result }
-    ensures sink { result ≡ Status.SinkFault → Rose (K.faults out.old) (K.faults out.new) }
-    ensures shelf { result ≡ Status.ShelfFault
-        → ShelfCause (S.held shelf.old) (S.faults shelf.old) (S.faults shelf.new)
-        (desk_command_of (bytes_of words.now)) }
-    ensures not_fetched { result ≡ Status.ShelfFault → out.new ≡ out.old }
-    ensures no_memory { result ≡ Status.NoMemory → out.new ≡ out.old }
-    ensures not_asked { desk_command_of (bytes_of words.now) ≡ None → shelf.new ≡ shelf.old }
-    ensures same { (n : List ℕ) → S.held shelf.new n ≡ S.held shelf.old n }
+    ensures { IsServed S.held S.faults K.taken K.faults (desk_command_of (bytes_of words.now)) shelf.old shelf.new
+        out.old out.new result }
 {
     match desk_command_of(alloc, words) {
         Ok(Some(command)) => serve_desk(alloc, command, shelf, out),

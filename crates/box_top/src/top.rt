@@ -1,12 +1,9 @@
 //! The top call.
 
-ghost use Rattle.std.specs.Prelude.{◌≡◌, ◌≢◌, ◌≤◌, ℕ, List, Some, None};
-ghost use Rattle.rail_text.specs.Causes.{Rose};
+ghost use Rattle.std.specs.Prelude.{◌≤◌, Some};
 ghost use Rattle.command_words.specs.Commands.{Command, bytes_of, command_of};
-ghost use Rattle.box_top.specs.Headlines.{Headline, PrintsSummary, Reported};
-ghost use Rattle.box_top.specs.Outcomes.{NoneRose};
-ghost use Rattle.text_fetch.specs.FromTexts.{Held, named};
-ghost use Rattle.box_top.specs.Top.{Completes, Printed, ShelfCause};
+ghost use Rattle.text_fetch.specs.FromTexts.{named};
+ghost use Rattle.box_top.specs.Served.{IsServed};
 
 use crate::desk::serve_desk;
 use crate::put::{WORDS_LINE, put_outcome, put_text};
@@ -29,18 +26,8 @@ fn serve_run<R: Threads + Wait + Sync, S: Shelf, K: Sink, G: Gate>(
     out: &mut K,
     gate: &G,
 ) -> Status
-    ensures printed { Printed (S.held shelf.old) (Some (Command.Run plan.now (named scripts.now))) (K.taken out.old)
-        (K.taken out.new) result }
-    ensures headline { result ≡ Status.Done
-        → Headline (S.held shelf.old) (Some (Command.Run plan.now (named scripts.now))) (K.taken out.old)
-        (K.taken out.new) }
-    ensures sink { result ≡ Status.SinkFault → Rose (K.faults out.old) (K.faults out.new) }
-    ensures shelf { result ≡ Status.ShelfFault
-        → ShelfCause (S.held shelf.old) (S.faults shelf.old) (S.faults shelf.new)
-        (Some (Command.Run plan.now (named scripts.now))) }
-    ensures not_fetched { result ≡ Status.ShelfFault → out.new ≡ out.old }
-    ensures no_memory { result ≡ Status.NoMemory → out.new ≡ out.old }
-    ensures same { (n : List ℕ) → S.held shelf.new n ≡ S.held shelf.old n }
+    ensures { IsServed S.held S.faults K.taken K.faults (Some (Command.Run plan.now (named scripts.now)))
+        shelf.old shelf.new out.old out.new result }
 {
     let outcome = run_outcome(rt, alloc, shelf, plan, scripts, gate);
     put_outcome(alloc, out, outcome)
@@ -59,41 +46,10 @@ fn serve_watch<R: Threads + Wait + Sync, S: Shelf, K: Sink, G: Gate>(
 ) -> Status
     requires low { 1 ≤ rounds }
     requires high { rounds ≤ 1000 }
-    ensures printed { Printed (S.held shelf.old) (Some (Command.Watch rounds plan.now (named scripts.now)))
-        (K.taken out.old) (K.taken out.new) result }
-    ensures headline { result ≡ Status.Done
-        → Headline (S.held shelf.old) (Some (Command.Watch rounds plan.now (named scripts.now))) (K.taken out.old)
-        (K.taken out.new) }
-    ensures sink { result ≡ Status.SinkFault → Rose (K.faults out.old) (K.faults out.new) }
-    ensures shelf { result ≡ Status.ShelfFault
-        → ShelfCause (S.held shelf.old) (S.faults shelf.old) (S.faults shelf.new)
-        (Some (Command.Watch rounds plan.now (named scripts.now))) }
-    ensures not_fetched { result ≡ Status.ShelfFault → out.new ≡ out.old }
-    ensures no_memory { result ≡ Status.NoMemory → out.new ≡ out.old }
-    ensures same { (n : List ℕ) → S.held shelf.new n ≡ S.held shelf.old n }
+    ensures { IsServed S.held S.faults K.taken K.faults (Some (Command.Watch rounds plan.now (named scripts.now)))
+        shelf.old shelf.new out.old out.new result }
 {
     let outcome = watch_outcome(rt, alloc, shelf, rounds, plan, scripts, gate);
-    put_outcome(alloc, out, outcome)
-}
-
-// Works the made line of so many trains, each script on a thread of its own.
-fn serve_stress<R: Threads + Wait + Sync, K: Sink, G: Gate>(
-    rt: &R,
-    alloc: Global,
-    trains: u32,
-    out: &mut K,
-    gate: &G,
-) -> Status
-    requires low { 1 ≤ trains }
-    requires high { trains ≤ 200 }
-    ensures printed { (held : Held)
-        → Printed held (Some (Command.Stress trains)) (K.taken out.old) (K.taken out.new) result }
-    ensures headline { result ≡ Status.Done → PrintsSummary trains (K.taken out.old) (K.taken out.new) }
-    ensures sink { result ≡ Status.SinkFault → Rose (K.faults out.old) (K.faults out.new) }
-    ensures shelf { result ≢ Status.ShelfFault }
-    ensures no_memory { result ≡ Status.NoMemory → out.new ≡ out.old }
-{
-    let outcome = stress_outcome(rt, alloc, trains, gate);
     put_outcome(alloc, out, outcome)
 }
 
@@ -106,25 +62,17 @@ fn serve<R: Threads + Wait + Sync, S: Shelf, K: Sink, G: Gate>(
     out: &mut K,
     gate: &G,
 ) -> Status
-    ensures printed { Printed (S.held shelf.old) (command_of (bytes_of words.now)) (K.taken out.old) (K.taken out.new)
-        result }
-    ensures headline { result ≡ Status.Done
-        → Headline (S.held shelf.old) (command_of (bytes_of words.now)) (K.taken out.old) (K.taken out.new) }
-    ensures reported { result ≡ Status.Done
-        → Reported (S.held shelf.old) (command_of (bytes_of words.now)) (K.taken out.old) (K.taken out.new) }
-    ensures sink { result ≡ Status.SinkFault → Rose (K.faults out.old) (K.faults out.new) }
-    ensures shelf { result ≡ Status.ShelfFault
-        → ShelfCause (S.held shelf.old) (S.faults shelf.old) (S.faults shelf.new) (command_of (bytes_of words.now)) }
-    ensures not_fetched { result ≡ Status.ShelfFault → out.new ≡ out.old }
-    ensures no_memory { result ≡ Status.NoMemory → out.new ≡ out.old }
-    ensures not_asked { command_of (bytes_of words.now) ≡ None → shelf.new ≡ shelf.old }
-    ensures same { (n : List ℕ) → S.held shelf.new n ≡ S.held shelf.old n }
+    ensures { IsServed S.held S.faults K.taken K.faults (command_of (bytes_of words.now)) shelf.old shelf.new
+        out.old out.new result }
 {
     match command_of(alloc, words) {
         Ok(Some(CommandLine::Run { plan, scripts })) => {
             serve_run(rt, alloc, plan, &scripts, shelf, out, gate)
         }
-        Ok(Some(CommandLine::Stress { trains })) => serve_stress(rt, alloc, trains, out, gate),
+        Ok(Some(CommandLine::Stress { trains })) => {
+            let outcome = stress_outcome(rt, alloc, trains, gate);
+            put_outcome(alloc, out, outcome)
+        }
         Ok(
             Some(
                 CommandLine::Watch {
@@ -166,22 +114,8 @@ pub fn box_top<R: Threads + Wait + Sync, S: Shelf, K: Sink, G: Gate>(
     out: &mut K,
     gate: &G,
 ) -> Status
-    ensures printed { Printed (S.held shelf.old) (command_of (bytes_of words.now)) (K.taken out.old) (K.taken out.new)
-        result }
-    ensures headline { result ≡ Status.Done
-        → Headline (S.held shelf.old) (command_of (bytes_of words.now)) (K.taken out.old) (K.taken out.new) }
-    ensures reported { result ≡ Status.Done
-        → Reported (S.held shelf.old) (command_of (bytes_of words.now)) (K.taken out.old) (K.taken out.new) }
-    ensures complete { NoneRose (S.faults shelf.old) (S.faults shelf.new) (command_of (bytes_of words.now))
-        → ¬ Rose (K.faults out.old) (K.faults out.new)
-        → Completes (S.held shelf.old) (command_of (bytes_of words.now)) (K.taken out.old) (K.taken out.new) result }
-    ensures sink { result ≡ Status.SinkFault → Rose (K.faults out.old) (K.faults out.new) }
-    ensures shelf { result ≡ Status.ShelfFault
-        → ShelfCause (S.held shelf.old) (S.faults shelf.old) (S.faults shelf.new) (command_of (bytes_of words.now)) }
-    ensures not_fetched { result ≡ Status.ShelfFault → out.new ≡ out.old }
-    ensures no_memory { result ≡ Status.NoMemory → out.new ≡ out.old }
-    ensures not_asked { command_of (bytes_of words.now) ≡ None → shelf.new ≡ shelf.old }
-    ensures same { (n : List ℕ) → S.held shelf.new n ≡ S.held shelf.old n }
+    ensures { IsServed S.held S.faults K.taken K.faults (command_of (bytes_of words.now)) shelf.old shelf.new
+        out.old out.new result }
 {
     serve(rt, alloc, words, shelf, out, gate)
 }

@@ -1,9 +1,6 @@
 pub mod AddedCommands
 pub mod MatchRules
+pub mod AtDesk
 pub mod Enters
-pub mod RunWords
-pub mod WatchWords
-pub mod ShortWords
+pub mod ScriptWords
 pub mod Forms
-pub mod FoundCommands
-pub mod CountWords

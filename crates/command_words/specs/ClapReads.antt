@@ -1,64 +1,39 @@
 -- A command as it is read from what clap found.
-use Rattle.std.specs.Prelude.{ℕ, List, Option, Some, None, if◌then◌else◌, bytes_eq, codes, option_map, option_and_then}
+use Rattle.std.specs.Prelude.{List, Option, Some, None, codes, option_map, option_and_then}
 use Rattle.clap.specs.Words.{Row, Text, all_of, first_of}
 use Rattle.command_words.specs.Commands.{Command, count_of, most_made_trains, most_rounds}
+use Rattle.command_words.specs.declared.table.CommandName.{CommandName}
+use Rattle.command_words.specs.declared.table.CommandName.TheVariants as names
 
--- a command of two values
-abbrev pub of_both : {X Y : Type 0} → (X → Y → Command) → Option X → Option Y → Option Command
-of_both make (Some x) (Some y) = Some (make x y)
-of_both make (Some x) None = None
-of_both make None y = None
+-- what is made of the plan and of the scripts that were found
+abbrev pub on_scripts : (Text → List Text → Command) → List Row → Option Command
+on_scripts make rows =
+    option_and_then (λ plan. option_map (make plan) (all_of (codes "script") rows)) (first_of (codes "plan") rows)
 
--- a watch of three values
-abbrev pub watch_with : Option ℕ → Option Text → Option (List Text) → Option Command
-watch_with (Some n) (Some plan) (Some scripts) = Some (Command.Watch n plan scripts)
-watch_with (Some n) (Some plan) None = None
-watch_with (Some n) None scripts = None
-watch_with None plan scripts = None
+-- a command of the desk on this plan
+abbrev pub on_plan : CommandName → List Row → Text → Option Command
+on_plan names.Check rows plan = Some (Command.Check plan)
+on_plan names.Tables rows plan = option_map (Command.Tables plan) (first_of (codes "box") rows)
+on_plan names.Chart rows plan = option_map (Command.Chart plan) (first_of (codes "box") rows)
+on_plan names.Judge rows plan = option_map (Command.Judge plan) (first_of (codes "journal") rows)
+on_plan names.Audit rows plan = option_map (Command.Audit plan) (first_of (codes "journal") rows)
+on_plan names.Upgrade rows plan = Some (Command.Upgrade plan)
+on_plan name rows plan = None
 
--- the plan and the scripts of `run`
-abbrev pub run_read : List Row → Option Command
-run_read rows = of_both Command.Run (first_of (codes "plan") rows) (all_of (codes "script") rows)
+-- a command of the desk on the plan that was found
+abbrev pub plan_read : CommandName → List Row → Option Command
+plan_read name rows = option_and_then (on_plan name rows) (first_of (codes "plan") rows)
 
--- the number of trains of `stress`
-abbrev pub stress_read : List Row → Option Command
-stress_read rows =
+-- a command of the desk
+abbrev pub desk_read : CommandName → List Row → Option Command
+desk_read names.Token rows = option_map Command.Token (first_of (codes "script") rows)
+desk_read name rows = plan_read name rows
+
+-- any command
+abbrev pub command_read : CommandName → List Row → Option Command
+command_read names.Run rows = on_scripts Command.Run rows
+command_read names.Stress rows =
     option_map Command.Stress (option_and_then (count_of most_made_trains) (first_of (codes "trains") rows))
-
--- the rounds, the plan and the scripts of `watch`
-abbrev pub watch_read : List Row → Option Command
-watch_read rows = watch_with (option_and_then (count_of most_rounds) (first_of (codes "rounds") rows))
-    (first_of (codes "plan") rows) (all_of (codes "script") rows)
-
--- a command of the desk that names a plan, by its name and its values
-abbrev pub plan_read : Text → List Row → Option Command
-plan_read name rows =
-    if bytes_eq name (codes "check") then option_map Command.Check (first_of (codes "plan") rows)
-    else if bytes_eq name (codes "tables")
-    then of_both Command.Tables (first_of (codes "plan") rows) (first_of (codes "box") rows)
-    else if bytes_eq name (codes "chart")
-    then of_both Command.Chart (first_of (codes "plan") rows) (first_of (codes "box") rows)
-    else if bytes_eq name (codes "judge")
-    then of_both Command.Judge (first_of (codes "plan") rows) (first_of (codes "journal") rows)
-    else if bytes_eq name (codes "audit")
-    then of_both Command.Audit (first_of (codes "plan") rows) (first_of (codes "journal") rows)
-    else if bytes_eq name (codes "upgrade") then option_map Command.Upgrade (first_of (codes "plan") rows)
-    else None
-
--- a command of the desk, by its name and its values
-abbrev pub desk_read : Text → List Row → Option Command
-desk_read name rows =
-    if bytes_eq name (codes "token") then option_map Command.Token (first_of (codes "script") rows)
-    else plan_read name rows
-
--- any command, by its name and its values
-abbrev pub command_line_read : Text → List Row → Option Command
-command_line_read name rows =
-    if bytes_eq name (codes "run") then run_read rows
-    else if bytes_eq name (codes "stress") then stress_read rows
-    else if bytes_eq name (codes "watch") then watch_read rows
-    else desk_read name rows
-
--- the command of the subcommand that clap entered
-abbrev pub command_read : Option (Text × List Row) → Option Command
-command_read found = option_and_then (λ p. command_line_read p.0 p.1) found
+command_read names.Watch rows = option_and_then (λ n. on_scripts (Command.Watch n) rows)
+    (option_and_then (count_of most_rounds) (first_of (codes "rounds") rows))
+command_read name rows = desk_read name rows

@@ -1,13 +1,17 @@
 -- The command table.
-use Rattle.std.specs.Prelude.{ℕ, Bool, false, not, ◌&&◌, ◌==◌, nat_le, List, [], ◌∷◌, Option, Some, None, if◌then◌else◌}
-use Rattle.std.specs.Prelude.{bytes_eq, codes, map, option_map, option_and_then, String, string_bytes}
+use Rattle.std.specs.Prelude.{ℕ, ◌≤◌, Bool, true, false, not, ◌&&◌, ◌==◌, nat_le, nat_lt, List, [], ◌∷◌, length, drop}
+use Rattle.std.specs.Prelude.{Option, Some, None, if◌then◌else◌, bytes_eq, codes, map, option_map, option_and_then}
+use Rattle.std.specs.Prelude.{String, string_bytes}
 use Rattle.std.specs.Global.{Global}
-use Rattle.std.specs.List.{list_all}
+use Rattle.std.specs.List.{find, list_all}
 use Rattle.rail_text.specs.Number.{number_of}
 use Rattle.command_words.specs.declared.command.CommandLine.{CommandLine}
 use Rattle.command_words.specs.declared.command.CommandLine.TheVariants as lines
 use Rattle.command_words.specs.declared.command.DeskCommand.{DeskCommand}
 use Rattle.command_words.specs.declared.command.DeskCommand.TheVariants as desk
+use Rattle.command_words.specs.declared.table.CommandName.{CommandName}
+use Rattle.command_words.specs.declared.table.CommandName.TheVariants as names
+use Rattle.command_words.specs.declared.table.Row.{Row}
 
 -- What the words of a command line ask for, with the names of the texts. Run: a plan's line is worked by the scripts of
 -- its boxes; Stress: the made line of so many trains is worked by its own scripts; Check: a plan is checked; Tables:
@@ -27,6 +31,98 @@ pub data Command : Type 0 where
   Token : List ℕ → Command
   Watch : ℕ → List ℕ → List (List ℕ) → Command
 
+-- ---- the table
+
+-- a row of the table: the first word of a command, the arguments that stand for one word each, and whether scripts
+-- stand behind these, one or more
+pub record CommandRow : Type 0 where
+  pub word : List ℕ
+  pub arguments : List (List ℕ)
+  pub has_scripts : Bool
+
+-- the row of each command
+abbrev pub row_of : CommandName → CommandRow
+row_of names.Run = record { word = codes "run"; arguments = codes "plan" ∷ []; has_scripts = true }
+row_of names.Stress = record { word = codes "stress"; arguments = codes "trains" ∷ []; has_scripts = false }
+row_of names.Check = record { word = codes "check"; arguments = codes "plan" ∷ []; has_scripts = false }
+row_of names.Tables = record { word = codes "tables"; arguments = codes "plan" ∷ codes "box" ∷ []; has_scripts = false }
+row_of names.Chart = record { word = codes "chart"; arguments = codes "plan" ∷ codes "box" ∷ []; has_scripts = false }
+row_of names.Judge =
+    record { word = codes "judge"; arguments = codes "plan" ∷ codes "journal" ∷ []; has_scripts = false }
+row_of names.Audit =
+    record { word = codes "audit"; arguments = codes "plan" ∷ codes "journal" ∷ []; has_scripts = false }
+row_of names.Upgrade = record { word = codes "upgrade"; arguments = codes "plan" ∷ []; has_scripts = false }
+row_of names.Token = record { word = codes "token"; arguments = codes "script" ∷ []; has_scripts = false }
+row_of names.Watch = record { word = codes "watch"; arguments = codes "rounds" ∷ codes "plan" ∷ []; has_scripts = true }
+
+-- the names of all commands
+abbrev pub all_names : List CommandName
+all_names =
+    names.Run ∷ names.Stress ∷ names.Check ∷ names.Tables ∷ names.Chart ∷ names.Judge ∷ names.Audit ∷ names.Upgrade
+    ∷ names.Token ∷ names.Watch ∷ []
+
+-- the command with this first word
+abbrev pub name_of : List ℕ → Option CommandName
+name_of word = find (λ name. bytes_eq word (row_of name).word) all_names
+
+-- so many words may stand behind the first word of a command
+abbrev pub may_have : CommandName → ℕ → Bool
+may_have name count =
+    if (row_of name).has_scripts then nat_lt (length (row_of name).arguments) count
+    else count == length (row_of name).arguments
+
+-- ---- which words are a command
+
+-- words as their bytes
+abbrev pub bytes_of : List (String Global) → List (List ℕ)
+bytes_of words = map (λ word. string_bytes word) words
+
+-- a word that the table may have: not empty, and without a hyphen in front
+abbrev pub is_plain_word : List ℕ → Bool
+is_plain_word [] = false
+is_plain_word (b ∷ bs) = not (b == 45)
+
+-- the command with this first word, if so many words may stand behind it
+abbrev pub form_named : List ℕ → ℕ → Option CommandName
+form_named first count = option_and_then (λ name. if may_have name count then Some name else None) (name_of first)
+
+-- the command of which words have the form: plain, the first its own, and as many behind it as it has
+abbrev pub form_of : List (List ℕ) → Option CommandName
+form_of [] = None
+form_of (first ∷ words) =
+    if list_all is_plain_word (first ∷ words) then form_named first (length words) else None
+
+-- the most trains of a made line
+abbrev pub most_made_trains : ℕ
+most_made_trains = 200
+
+-- the most rounds of a watch
+abbrev pub most_rounds : ℕ
+most_rounds = 1000
+
+-- a count, from 1 to the most, if the number is one
+abbrev pub within_count : ℕ → ℕ → Option ℕ
+within_count most n = if nat_le 1 n && nat_le n most then Some n else None
+
+-- the count that a word names, from 1 to the most; it is written as numbers are printed
+abbrev pub count_of : ℕ → List ℕ → Option ℕ
+count_of most word = option_and_then (within_count most) (number_of word)
+
+-- what a command makes of the words behind its first
+abbrev pub command_in : CommandName → List (List ℕ) → Option Command
+command_in names.Run (plan ∷ scripts) = Some (Command.Run plan scripts)
+command_in names.Stress (n ∷ []) = option_map Command.Stress (count_of most_made_trains n)
+command_in names.Check (plan ∷ []) = Some (Command.Check plan)
+command_in names.Tables (plan ∷ name ∷ []) = Some (Command.Tables plan name)
+command_in names.Chart (plan ∷ name ∷ []) = Some (Command.Chart plan name)
+command_in names.Judge (plan ∷ journal ∷ []) = Some (Command.Judge plan journal)
+command_in names.Audit (plan ∷ journal ∷ []) = Some (Command.Audit plan journal)
+command_in names.Upgrade (plan ∷ []) = Some (Command.Upgrade plan)
+command_in names.Token (script ∷ []) = Some (Command.Token script)
+command_in names.Watch (n ∷ plan ∷ scripts) =
+    option_map (λ rounds. Command.Watch rounds plan scripts) (count_of most_rounds n)
+command_in name words = None
+
 -- the names of a command's texts, in the order in which they are fetched: text 1, text 2 and so on
 abbrev pub texts_of : Command → List (List ℕ)
 texts_of (Command.Run plan scripts) = plan ∷ scripts
@@ -40,131 +136,28 @@ texts_of (Command.Upgrade plan) = plan ∷ []
 texts_of (Command.Token script) = script ∷ []
 texts_of (Command.Watch n plan scripts) = plan ∷ scripts
 
--- ---- which words are a command
-
--- words as their bytes
-abbrev pub bytes_of : List (String Global) → List (List ℕ)
-bytes_of words = map (λ word. string_bytes word) words
-
--- a word that the table may have: not empty, and without a hyphen in front
-abbrev pub is_plain_word : List ℕ → Bool
-is_plain_word [] = false
-is_plain_word (b ∷ bs) = not (b == 45)
-
--- `run PLAN SCRIPT..`, with one script or more
-abbrev pub run_in : List (List ℕ) → Option Command
-run_in [] = None
-run_in (plan ∷ []) = None
-run_in (plan ∷ script ∷ scripts) = Some (Command.Run plan (script ∷ scripts))
-
--- the most trains of a made line
-abbrev pub most_made_trains : ℕ
-most_made_trains = 200
-
--- a count, from 1 to the most, if the number is one
-abbrev pub within_count : ℕ → ℕ → Option ℕ
-within_count most n = if nat_le 1 n && nat_le n most then Some n else None
-
--- the count that a word names, from 1 to the most; it is written as numbers are printed
-abbrev pub count_of : ℕ → List ℕ → Option ℕ
-count_of most word = option_and_then (within_count most) (number_of word)
-
--- `stress N`: a made line has 1 train to the most
-abbrev pub stress_in : List (List ℕ) → Option Command
-stress_in (n ∷ []) = option_map Command.Stress (count_of most_made_trains n)
-stress_in words = None
-
--- `check PLAN`
-abbrev pub check_in : List (List ℕ) → Option Command
-check_in (plan ∷ []) = Some (Command.Check plan)
-check_in words = None
-
--- `tables PLAN BOX`
-abbrev pub tables_in : List (List ℕ) → Option Command
-tables_in (plan ∷ name ∷ []) = Some (Command.Tables plan name)
-tables_in words = None
-
--- `chart PLAN BOX`
-abbrev pub chart_in : List (List ℕ) → Option Command
-chart_in (plan ∷ name ∷ []) = Some (Command.Chart plan name)
-chart_in words = None
-
--- `judge PLAN JOURNAL`
-abbrev pub judge_in : List (List ℕ) → Option Command
-judge_in (plan ∷ journal ∷ []) = Some (Command.Judge plan journal)
-judge_in words = None
-
--- `audit PLAN JOURNAL`
-abbrev pub audit_in : List (List ℕ) → Option Command
-audit_in (plan ∷ journal ∷ []) = Some (Command.Audit plan journal)
-audit_in words = None
-
--- `upgrade PLAN`
-abbrev pub upgrade_in : List (List ℕ) → Option Command
-upgrade_in (plan ∷ []) = Some (Command.Upgrade plan)
-upgrade_in words = None
-
--- `token SCRIPT`
-abbrev pub token_in : List (List ℕ) → Option Command
-token_in (script ∷ []) = Some (Command.Token script)
-token_in words = None
-
--- the most rounds of a watch
-abbrev pub most_rounds : ℕ
-most_rounds = 1000
-
--- a watch of a plan's line in so many rounds
-abbrev pub watch_of : List ℕ → List (List ℕ) → ℕ → Command
-watch_of plan scripts n = Command.Watch n plan scripts
-
--- `watch N PLAN SCRIPT..`, with one script or more: a watch has 1 round to the most
-abbrev pub watch_in : List (List ℕ) → Option Command
-watch_in [] = None
-watch_in (n ∷ []) = None
-watch_in (n ∷ plan ∷ []) = None
-watch_in (n ∷ plan ∷ script ∷ scripts) = option_map (watch_of plan (script ∷ scripts)) (count_of most_rounds n)
-
--- the command of a first word and the words behind it
-abbrev pub command_in : List ℕ → List (List ℕ) → Option Command
-command_in first words =
-    if bytes_eq first (codes "run") then run_in words
-    else if bytes_eq first (codes "stress") then stress_in words
-    else if bytes_eq first (codes "check") then check_in words
-    else if bytes_eq first (codes "tables") then tables_in words
-    else if bytes_eq first (codes "chart") then chart_in words
-    else if bytes_eq first (codes "judge") then judge_in words
-    else if bytes_eq first (codes "audit") then audit_in words
-    else if bytes_eq first (codes "upgrade") then upgrade_in words
-    else if bytes_eq first (codes "token") then token_in words
-    else if bytes_eq first (codes "watch") then watch_in words
-    else None
-
 -- the command of these words, if they are of the table
 unfoldable pub command_of : List (List ℕ) → Option Command
-command_of [] = None
-command_of (first ∷ words) = if list_all is_plain_word (first ∷ words) then command_in first words else None
+command_of words = option_and_then (λ name. command_in name (drop 1 words)) (form_of words)
 
 -- ---- the desk, which works no line of a plan
 
 -- a command, if the desk serves it: every one but `run`, `stress` and `watch`
 abbrev pub at_desk : Option Command → Option Command
-at_desk None = None
 at_desk (Some (Command.Run plan scripts)) = None
 at_desk (Some (Command.Stress n)) = None
-at_desk (Some (Command.Check plan)) = Some (Command.Check plan)
-at_desk (Some (Command.Tables plan name)) = Some (Command.Tables plan name)
-at_desk (Some (Command.Chart plan name)) = Some (Command.Chart plan name)
-at_desk (Some (Command.Judge plan journal)) = Some (Command.Judge plan journal)
-at_desk (Some (Command.Audit plan journal)) = Some (Command.Audit plan journal)
-at_desk (Some (Command.Upgrade plan)) = Some (Command.Upgrade plan)
-at_desk (Some (Command.Token script)) = Some (Command.Token script)
 at_desk (Some (Command.Watch n plan scripts)) = None
+at_desk command = command
 
 -- the command of these words, if the desk serves it
 unfoldable pub desk_command_of : List (List ℕ) → Option Command
 desk_command_of words = at_desk (command_of words)
 
 -- ---- as the program holds them
+
+-- a row of the table
+abbrev pub row_shown : Row → CommandRow
+row_shown row = record { word = row.0.now; arguments = map (λ id. id.now) row.1.now; has_scripts = row.2 }
 
 -- a command of the desk
 abbrev pub desk_shown : DeskCommand → Command
@@ -182,3 +175,9 @@ shown (lines.Run plan scripts) = Command.Run plan.now (map (λ name. name.now) s
 shown (lines.Stress trains) = Command.Stress trains
 shown (lines.Watch rounds plan scripts) = Command.Watch rounds plan.now (map (λ name. name.now) scripts.items)
 shown (lines.Desk command) = desk_shown command
+
+-- the count of a command that has one is from 1 to the most
+abbrev pub IsCounted : CommandLine → Type 0
+IsCounted (lines.Stress trains) = (1 ≤ trains) × (trains ≤ most_made_trains)
+IsCounted (lines.Watch rounds plan scripts) = (1 ≤ rounds) × (rounds ≤ most_rounds)
+IsCounted line = Unit {0}

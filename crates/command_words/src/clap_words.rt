@@ -1,47 +1,18 @@
 //! The commands as clap knows them, and what clap finds in the words.
 
-ghost use Rattle.std.specs.Prelude.{◌≡◌, true, false, IfOk};
+ghost use Rattle.std.specs.Prelude.{◌≡◌, false, map, option_and_then, option_map, IfOk, Some};
 ghost use Rattle.clap.specs.Words.{app_of, rule_of, subcommand_rows_of};
 ghost use Rattle.clap.specs.declared.builder.command.Command.TheViews.{out-Command};
-ghost use Rattle.command_words.specs.Commands.{bytes_of, command_of};
-ghost use Rattle.command_words.specs.ClapTable.{all_commands, command_named, has_command_form, one_argument_command};
-ghost use Rattle.command_words.specs.ClapTable.{program, repeated_argument, required_argument, run_command};
-ghost use Rattle.command_words.specs.ClapTable.{two_argument_command, watch_command, with_command};
+ghost use Rattle.command_words.specs.Commands.{bytes_of, command_of, form_of};
+ghost use Rattle.command_words.specs.ClapTable.{all_commands, command_named, program, repeated_argument};
+ghost use Rattle.command_words.specs.ClapTable.{required_argument, with_arguments, with_command, with_scripts};
 ghost use Rattle.command_words.specs.ClapReads.{command_read};
 
+use crate::table::{ALL_NAMES, CommandName, Row, row_of};
 use clap::error::ErrorKind;
 use clap::{Arg, ArgMatches, Command};
 use rail_text::NoMemory;
 use std::alloc::{AllocError, Global};
-
-// The commands, by the first word of each.
-#[derive(Clone, Copy)]
-enum CommandName {
-    Run,
-    Stress,
-    Check,
-    Tables,
-    Chart,
-    Judge,
-    Audit,
-    Upgrade,
-    Token,
-    Watch,
-}
-
-// The names of all commands.
-const ALL_NAMES: [CommandName; 10] = [
-    CommandName::Run,
-    CommandName::Stress,
-    CommandName::Check,
-    CommandName::Tables,
-    CommandName::Chart,
-    CommandName::Judge,
-    CommandName::Audit,
-    CommandName::Upgrade,
-    CommandName::Token,
-    CommandName::Watch,
-];
 
 // An argument that is required.
 fn required_argument<'a>(alloc: Global, name: &'a str) -> Arg<'a>
@@ -59,45 +30,38 @@ fn repeated_argument<'a>(alloc: Global, name: &'a str) -> Arg<'a>
     required_argument(alloc, name).num_args(1..)
 }
 
-// A command with one argument.
-fn one_argument_command<'a>(
+// A command with these arguments, each required.
+fn with_arguments<'a>(
     alloc: Global,
-    name: &'a str,
-    first: &'a str,
+    word: &'a str,
+    arguments: &[&'a str],
 ) -> Result<Command<'a>, AllocError>
-    ensures shape { IfOk result (λ c. app_of c ≡ one_argument_command name.entry.now first.entry.now) }
+    ensures shape { IfOk result
+        (λ c. app_of c ≡ with_arguments word.entry.now (map (λ id. id.now) arguments.now)) }
     ensures own { IfOk result (λ c. (out-Command c).has_globals ≡ false) }
 {
-    Command::new(alloc, name).arg(required_argument(alloc, first))
+    let mut command = Command::new(alloc, word);
+    for id in arguments {
+        command = command.arg(required_argument(alloc, *id))?;
+    }
+    Ok(command)
 }
 
-// A command with two arguments.
-fn two_argument_command<'a>(
+// The command with scripts behind its arguments, if it has them.
+fn with_scripts<'a>(
     alloc: Global,
-    name: &'a str,
-    first: &'a str,
-    second: &'a str,
+    command: Command<'a>,
+    has_scripts: bool,
 ) -> Result<Command<'a>, AllocError>
-    ensures shape { IfOk result (λ c. app_of c ≡ two_argument_command name.entry.now first.entry.now second.entry.now) }
+    requires own { (out-Command command).has_globals ≡ false }
+    ensures shape { IfOk result (λ c. app_of c ≡ with_scripts (app_of command.entry) has_scripts) }
     ensures own { IfOk result (λ c. (out-Command c).has_globals ≡ false) }
 {
-    one_argument_command(alloc, name, first)?.arg(required_argument(alloc, second))
-}
-
-// `run PLAN SCRIPT..`
-fn run_command<'a>(alloc: Global) -> Result<Command<'a>, AllocError>
-    ensures shape { IfOk result (λ c. app_of c ≡ run_command) }
-    ensures own { IfOk result (λ c. (out-Command c).has_globals ≡ false) }
-{
-    one_argument_command(alloc, "run", "plan")?.arg(repeated_argument(alloc, "script"))
-}
-
-// `watch N PLAN SCRIPT..`
-fn watch_command<'a>(alloc: Global) -> Result<Command<'a>, AllocError>
-    ensures shape { IfOk result (λ c. app_of c ≡ watch_command) }
-    ensures own { IfOk result (λ c. (out-Command c).has_globals ≡ false) }
-{
-    two_argument_command(alloc, "watch", "rounds", "plan")?.arg(repeated_argument(alloc, "script"))
+    if has_scripts {
+        command.arg(repeated_argument(alloc, "script"))
+    } else {
+        Ok(command)
+    }
 }
 
 // The program. clap is given its words without its own name in front.
@@ -112,18 +76,9 @@ fn command_named<'a>(alloc: Global, name: CommandName) -> Result<Command<'a>, Al
     ensures shape { IfOk result (λ c. app_of c ≡ command_named name) }
     ensures own { IfOk result (λ c. (out-Command c).has_globals ≡ false) }
 {
-    match name {
-        CommandName::Run => run_command(alloc),
-        CommandName::Stress => one_argument_command(alloc, "stress", "trains"),
-        CommandName::Check => one_argument_command(alloc, "check", "plan"),
-        CommandName::Tables => two_argument_command(alloc, "tables", "plan", "box"),
-        CommandName::Chart => two_argument_command(alloc, "chart", "plan", "box"),
-        CommandName::Judge => two_argument_command(alloc, "judge", "plan", "journal"),
-        CommandName::Audit => two_argument_command(alloc, "audit", "plan", "journal"),
-        CommandName::Upgrade => one_argument_command(alloc, "upgrade", "plan"),
-        CommandName::Token => one_argument_command(alloc, "token", "script"),
-        CommandName::Watch => watch_command(alloc),
-    }
+    let Row(word, arguments, has_scripts) = row_of(name);
+    let command = with_arguments(alloc, word, arguments)?;
+    with_scripts(alloc, command, has_scripts)
 }
 
 // The program with one more command.
@@ -149,10 +104,15 @@ fn all_commands<'a>(alloc: Global) -> Result<Command<'a>, AllocError>
     Ok(commands)
 }
 
-/// What clap finds in words that have the form of a command.
-pub(crate) fn matches_of<'a>(alloc: Global, words: &'a [String]) -> Result<ArgMatches<'a>, NoMemory>
-    requires { has_command_form (bytes_of words.now) ≡ true }
-    ensures { IfOk result (λ m. command_read (subcommand_rows_of m) ≡ command_of (bytes_of words.now)) }
+/// What clap finds in words that have the form of this command.
+pub(crate) fn matches_of<'a>(
+    alloc: Global,
+    words: &'a [String],
+    name: CommandName,
+) -> Result<ArgMatches<'a>, NoMemory>
+    requires { form_of (bytes_of words.now) ≡ Some name }
+    ensures { IfOk result (λ m. option_and_then (command_read name) (option_map (λ p. p.1) (subcommand_rows_of m))
+        ≡ command_of (bytes_of words.now)) }
 {
     let commands = all_commands(alloc)?;
     match commands.try_get_matches_from(words) {

@@ -1,16 +1,15 @@
 //! The words of a command line.
 
-ghost use Rattle.std.specs.Prelude.{◌≡◌, IfOk, codes, string_bytes};
+ghost use Rattle.std.specs.Prelude.{◌≡◌, ◌≤◌, IfOk, IfSome, codes, string_bytes};
 ghost use Rattle.std.specs.List.{list_all};
 ghost use Rattle.std.specs.Option.{option_and_then, option_map};
-ghost use Rattle.clap.specs.Words.{first_of, found_of, rows_of, subcommand_rows_of};
-ghost use Rattle.command_words.specs.Commands.{bytes_of, command_of, count_of, desk_command_of, desk_shown};
-ghost use Rattle.command_words.specs.Commands.{is_plain_word, most_rounds, shown};
-ghost use Rattle.command_words.specs.ClapTable.{has_word_count, has_command_form};
-ghost use Rattle.command_words.specs.ClapReads.{command_line_read, command_read, desk_read, plan_read, run_read};
-ghost use Rattle.command_words.specs.ClapReads.{stress_read, watch_read};
+ghost use Rattle.clap.specs.Words.{first_of, found_of, rows_of};
+ghost use Rattle.command_words.specs.Commands.{IsCounted, at_desk, bytes_of, command_of, count_of, desk_command_of};
+ghost use Rattle.command_words.specs.Commands.{desk_shown, form_named, form_of, is_plain_word, most_rounds, shown};
+ghost use Rattle.command_words.specs.ClapReads.{command_read, desk_read, plan_read};
 
 use crate::clap_words::matches_of;
+use crate::table::{CommandName, may_have, name_of};
 use clap::ArgMatches;
 use rail_text::{NoMemory, read_number};
 use std::alloc::Global;
@@ -79,33 +78,40 @@ fn are_plain_words(words: &[String]) -> bool
     words.iter().all(|word| is_plain_word(word.as_str()))
 }
 
-// Whether so many words may stand behind the first word of a command.
-fn has_word_count(first: &str, count: usize) -> bool
-    ensures { result ≡ has_word_count first.now count }
+// The command with this first word, if so many words may stand behind it.
+fn form_named(first: &str, count: usize) -> Option<CommandName>
+    ensures { result ≡ form_named first.now count }
 {
-    match first {
-        "run" => count >= 2,
-        "watch" => count >= 3,
-        "tables" | "chart" | "judge" | "audit" => count == 2,
-        "stress" | "check" | "upgrade" | "token" => count == 1,
-        _ => false,
+    let name = name_of(first)?;
+    if may_have(name, count) {
+        Some(name)
+    } else {
+        None
     }
 }
 
-// Whether words have the form of a command: plain, and as many as the command has.
-fn has_command_form(words: &[String]) -> bool
-    ensures { result ≡ has_command_form (bytes_of words.now) }
+// The command of which words have the form: plain, the first its own, and as many behind it as it has.
+fn form_of(words: &[String]) -> Option<CommandName>
+    ensures { result ≡ form_of (bytes_of words.now) }
 {
     match words {
-        [] => false,
-        [first, rest @ ..] => are_plain_words(words) && has_word_count(first.as_str(), rest.len()),
+        [] => None,
+        [first, rest @ ..] => {
+            if are_plain_words(words) {
+                form_named(first.as_str(), rest.len())
+            } else {
+                None
+            }
+        }
     }
 }
 
 // The plan and the scripts of `run`.
 #[tactic(auto, using(crate::proofs::MatchRules::match_rules))]
 fn read_run<'a>(alloc: Global, found: &ArgMatches<'a>) -> Result<Option<CommandLine<'a>>, NoMemory>
-    ensures { IfOk result (λ command. option_map shown command ≡ run_read (rows_of (found_of found.now))) }
+    ensures read { IfOk result
+        (λ command. option_map shown command ≡ command_read CommandName.Run (rows_of (found_of found.now))) }
+    ensures counted { IfOk result (λ command. IfSome command IsCounted) }
 {
     let (Some(plan), Some(scripts)) = (found.get_str("plan"), found.get_strs("script")) else {
         return Ok(None);
@@ -117,7 +123,8 @@ fn read_run<'a>(alloc: Global, found: &ArgMatches<'a>) -> Result<Option<CommandL
 // The count that a word names, from 1 to the most.
 #[tactic(auto, using(crate::proofs::MatchRules::count_rules))]
 fn read_count(word: &str, most: u32) -> Option<u32>
-    ensures { result ≡ count_of most word.now }
+    ensures exact { result ≡ count_of most word.now }
+    ensures within { IfSome result (λ count. (1 ≤ count) × (count ≤ most)) }
 {
     let count = read_number(word.as_bytes())?;
     if (1..=u64::from(most)).contains(&count) {
@@ -130,7 +137,8 @@ fn read_count(word: &str, most: u32) -> Option<u32>
 // The number of trains of `stress`.
 #[tactic(auto, using(crate::proofs::MatchRules::match_rules))]
 fn read_stress<'a>(found: &ArgMatches<'a>) -> Option<CommandLine<'a>>
-    ensures { option_map shown result ≡ stress_read (rows_of (found_of found.now)) }
+    ensures read { option_map shown result ≡ command_read CommandName.Stress (rows_of (found_of found.now)) }
+    ensures counted { IfSome result IsCounted }
 {
     let trains = read_count(found.get_str("trains")?, MOST_MADE_TRAINS)?;
     Some(CommandLine::Stress { trains })
@@ -139,8 +147,9 @@ fn read_stress<'a>(found: &ArgMatches<'a>) -> Option<CommandLine<'a>>
 // The rounds of `watch`.
 #[tactic(auto, using(crate::proofs::MatchRules::match_rules))]
 fn read_rounds(found: &ArgMatches<'_>) -> Option<u32>
-    ensures { result
+    ensures exact { result
         ≡ option_and_then (count_of most_rounds) (first_of (codes "rounds") (rows_of (found_of found.now))) }
+    ensures within { IfSome result (λ rounds. (1 ≤ rounds) × (rounds ≤ most_rounds)) }
 {
     read_count(found.get_str("rounds")?, MOST_ROUNDS)
 }
@@ -151,7 +160,9 @@ fn read_watch<'a>(
     alloc: Global,
     found: &ArgMatches<'a>,
 ) -> Result<Option<CommandLine<'a>>, NoMemory>
-    ensures { IfOk result (λ command. option_map shown command ≡ watch_read (rows_of (found_of found.now))) }
+    ensures read { IfOk result
+        (λ command. option_map shown command ≡ command_read CommandName.Watch (rows_of (found_of found.now))) }
+    ensures counted { IfOk result (λ command. IfSome command IsCounted) }
 {
     let Some(rounds) = read_rounds(found) else {
         return Ok(None);
@@ -167,42 +178,42 @@ fn read_watch<'a>(
     }))
 }
 
-// A command of the desk that names a plan, by its name and what clap found.
+// A command of the desk that names a plan, of what clap found for its arguments.
 #[tactic(auto, using(crate::proofs::MatchRules::match_rules))]
-fn read_plan<'a>(name: &str, found: &ArgMatches<'a>) -> Option<DeskCommand<'a>>
-    ensures { option_map desk_shown result ≡ plan_read name.now (rows_of (found_of found.now)) }
+fn read_plan<'a>(name: CommandName, found: &ArgMatches<'a>) -> Option<DeskCommand<'a>>
+    ensures { option_map desk_shown result ≡ plan_read name (rows_of (found_of found.now)) }
 {
     let plan = found.get_str("plan")?;
     match name {
-        "check" => Some(DeskCommand::Check { plan }),
-        "tables" => {
+        CommandName::Check => Some(DeskCommand::Check { plan }),
+        CommandName::Tables => {
             let box_name = found.get_str("box")?;
             Some(DeskCommand::Tables { plan, box_name })
         }
-        "chart" => {
+        CommandName::Chart => {
             let box_name = found.get_str("box")?;
             Some(DeskCommand::Chart { plan, box_name })
         }
-        "judge" => {
+        CommandName::Judge => {
             let journal = found.get_str("journal")?;
             Some(DeskCommand::Judge { plan, journal })
         }
-        "audit" => {
+        CommandName::Audit => {
             let journal = found.get_str("journal")?;
             Some(DeskCommand::Audit { plan, journal })
         }
-        "upgrade" => Some(DeskCommand::Upgrade { plan }),
+        CommandName::Upgrade => Some(DeskCommand::Upgrade { plan }),
         _ => None,
     }
 }
 
-// A command of the desk, by its name and what clap found.
+// A command of the desk, of what clap found for its arguments.
 #[tactic(auto, using(crate::proofs::MatchRules::match_rules))]
-fn read_desk<'a>(name: &str, found: &ArgMatches<'a>) -> Option<DeskCommand<'a>>
-    ensures { option_map desk_shown result ≡ desk_read name.now (rows_of (found_of found.now)) }
+fn read_desk<'a>(name: CommandName, found: &ArgMatches<'a>) -> Option<DeskCommand<'a>>
+    ensures { option_map desk_shown result ≡ desk_read name (rows_of (found_of found.now)) }
 {
     match name {
-        "token" => {
+        CommandName::Token => {
             let script = found.get_str("script")?;
             Some(DeskCommand::Token { script })
         }
@@ -210,19 +221,20 @@ fn read_desk<'a>(name: &str, found: &ArgMatches<'a>) -> Option<DeskCommand<'a>>
     }
 }
 
-// Any command, by its name and what clap found.
-fn read_command_line<'a>(
+// Any command, of what clap found for its arguments.
+fn read_command<'a>(
     alloc: Global,
-    name: &str,
+    name: CommandName,
     found: &ArgMatches<'a>,
 ) -> Result<Option<CommandLine<'a>>, NoMemory>
-    ensures { IfOk result
-        (λ command. option_map shown command ≡ command_line_read name.now (rows_of (found_of found.now))) }
+    ensures read { IfOk result
+        (λ command. option_map shown command ≡ command_read name (rows_of (found_of found.now))) }
+    ensures counted { IfOk result (λ command. IfSome command IsCounted) }
 {
     match name {
-        "run" => read_run(alloc, found),
-        "stress" => Ok(read_stress(found)),
-        "watch" => read_watch(alloc, found),
+        CommandName::Run => read_run(alloc, found),
+        CommandName::Stress => Ok(read_stress(found)),
+        CommandName::Watch => read_watch(alloc, found),
         _ => Ok(read_desk(name, found).map(CommandLine::Desk)),
     }
 }
@@ -231,38 +243,46 @@ fn read_command_line<'a>(
 /// more, `stress N`, with N from 1 to 200, `watch N PLAN SCRIPT..`, with N from 1 to 1000 and one
 /// script or more, `check PLAN`, `tables PLAN BOX`, `chart PLAN BOX`, `judge PLAN JOURNAL`,
 /// `audit PLAN JOURNAL`, `upgrade PLAN` or `token SCRIPT`. No word is empty or begins with `-`.
-#[tactic(auto, using(crate::proofs::FoundCommands::command_rules))]
+#[tactic(auto, unfolding(crate::specs::Commands::command_of))]
 pub fn command_of<'a>(
     alloc: Global,
     words: &'a [String],
 ) -> Result<Option<CommandLine<'a>>, NoMemory>
-    ensures { IfOk result (λ found. option_map shown found ≡ command_of (bytes_of words.now)) }
+    ensures read { IfOk result (λ found. option_map shown found ≡ command_of (bytes_of words.now)) }
+    ensures counted { IfOk result (λ found. IfSome found IsCounted) }
 {
-    if !has_command_form(words) {
+    let Some(name) = form_of(words) else {
         return Ok(None);
-    }
-    let matches = matches_of(alloc, words)?;
+    };
+    let matches = matches_of(alloc, words, name)?;
     match matches.subcommand() {
-        Some((name, found)) => read_command_line(alloc, name, found),
+        Some((_, found)) => read_command(alloc, name, found),
         None => Ok(None),
+    }
+}
+
+// The command, if the desk serves it.
+#[tactic(auto, using(crate::proofs::AtDesk::desk_is_served))]
+fn at_desk(line: CommandLine<'_>) -> Option<DeskCommand<'_>>
+    ensures { option_map desk_shown result ≡ at_desk (Some (shown line.entry)) }
+{
+    match line {
+        CommandLine::Desk(command) => Some(command),
+        _ => None,
     }
 }
 
 /// The command of these words, if the desk serves it: every command but `run`, `stress` and
 /// `watch`.
-#[tactic(auto, using(crate::proofs::FoundCommands::desk_rules), unfolding(crate::specs::Commands::desk_command_of))]
+#[tactic(auto, unfolding(crate::specs::Commands::desk_command_of))]
 pub fn desk_command_of<'a>(
     alloc: Global,
     words: &'a [String],
 ) -> Result<Option<DeskCommand<'a>>, NoMemory>
     ensures { IfOk result (λ found. option_map desk_shown found ≡ desk_command_of (bytes_of words.now)) }
 {
-    if !has_command_form(words) {
-        return Ok(None);
-    }
-    let matches = matches_of(alloc, words)?;
-    match matches.subcommand() {
-        Some((name, found)) => Ok(read_desk(name, found)),
+    match command_of(alloc, words)? {
+        Some(line) => Ok(at_desk(line)),
         None => Ok(None),
     }
 }

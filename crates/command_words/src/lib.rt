@@ -3,6 +3,7 @@
 
 mod clap_words;
 mod command;
+mod table;
 
 pub use command::{
     CommandLine, DeskCommand, MOST_MADE_TRAINS, MOST_ROUNDS, command_of, desk_command_of,

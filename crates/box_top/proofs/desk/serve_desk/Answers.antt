@@ -1,15 +1,15 @@
-use Rattle.std.proofs.Common.{refl}
 use Rattle.command_words.specs.Commands.{desk_shown}
-use Rattle.box_top.proofs.DeskDone.{desk_done}
-use Rattle.box_top.proofs.Outcomes.{outcome_printed}
+use Rattle.box_top.proofs.DeskDone.{desk_done, desk_works_none}
+use Rattle.box_top.proofs.Serving.{outcome_served}
 use Rattle.box_top.proofs.desk.serve_desk.Goals as goal
 
-pub returns-clause-printed : goal.returns-clause-printed
-returns-clause-printed g c =
-    outcome_printed c.desk_outcome-outcome.result (λ text. text.items) (g.S.Shelf.held c.args.shelf.now) _
-    (desk_shown c.args.command) _ _ _ refl c.desk_outcome-outcome.ensures.told c.put_outcome.ensures.took
-
-pub returns-clause-reported : goal.returns-clause-reported
-returns-clause-reported g c done =
-    desk_done c.args.command c.desk_outcome-outcome.result (λ text. text.items) (g.S.Shelf.held c.args.shelf.now) _ _ _
-    c.desk_outcome-outcome.ensures.told c.desk_outcome-outcome.ensures.sound c.put_outcome.ensures.took done
+pub returns : goal.returns
+returns g c =
+    let put = c.put_outcome.ensures in
+    let made = c.desk_outcome-outcome.ensures in
+    outcome_served g.S.Shelf.held g.S.Shelf.faults g.K.Sink.taken g.K.Sink.faults c.desk_outcome-outcome.result
+    (λ text. text.items) (desk_shown c.args.command) _ _ _ _ _ made.told
+    put.took put.sink put.not_fetched put.no_memory made.fault made.same
+    (λ done. desk_works_none c.args.command (g.S.Shelf.held c.args.shelf.now) (g.K.Sink.taken c.args.out.now)
+    (g.K.Sink.taken c.put_outcome.new.out))
+    (desk_done c.args.command c.desk_outcome-outcome.result (λ text. text.items) _ _ _ _ made.told made.sound put.took)

@@ -1,58 +1,23 @@
-use Rattle.std.proofs.Common.{◌≡◌, Option, Some, sym, subst}
+use Rattle.std.proofs.Common.{◌≡◌, Some, refl}
 use Rattle.command_words.specs.Commands.{Command, bytes_of, command_of}
-use Rattle.text_fetch.specs.FromTexts.{named}
-use Rattle.box_top.specs.Top.{Printed}
-use Rattle.command_words.proofs.CountWords.{stress_is_few, watch_is_few}
+use Rattle.line_runs.specs.Made.{IsSummaryOf}
+use Rattle.text_fetch.specs.FromTexts.{Gives}
+use Rattle.box_top.specs.Outcomes.{SummaryOf}
+use Rattle.box_top.proofs.Headlines.{stress_done}
+use Rattle.box_top.proofs.Outcomes.{makes_print}
+use Rattle.box_top.proofs.Serving.{outcome_served}
 use Rattle.box_top.proofs.top.serve.Goals as goal
 
-pub serve_stress-requires-clause-low : goal.serve_stress-requires-clause-low
-serve_stress-requires-clause-low g c κs within =
+pub returns-in-Ok-Some-Stress : goal.returns-in-Ok-Some-Stress
+returns-in-Ok-Some-Stress g c =
     let words : Some (Command.Stress c.in-Ok-Some-Stress.trains) ≡ command_of (bytes_of c.args.words.now) =
-    rw (c.in-Ok-Some-Stress.field-0-is, c.in-Ok-Some-Stress.field-0-0-is) at c.in-Ok-Some-Stress.ensures in
-    (stress_is_few (bytes_of c.args.words.now) c.in-Ok-Some-Stress.trains (sym words)).0
-
-pub serve_stress-requires-clause-high : goal.serve_stress-requires-clause-high
-serve_stress-requires-clause-high g c κs within =
-    let words : Some (Command.Stress c.in-Ok-Some-Stress.trains) ≡ command_of (bytes_of c.args.words.now) =
-    rw (c.in-Ok-Some-Stress.field-0-is, c.in-Ok-Some-Stress.field-0-0-is) at c.in-Ok-Some-Stress.ensures in
-    (stress_is_few (bytes_of c.args.words.now) c.in-Ok-Some-Stress.trains (sym words)).1
-
-pub serve_watch-requires-clause-low : goal.serve_watch-requires-clause-low
-serve_watch-requires-clause-low g c κs within =
-    let words : Some (Command.Watch c.in-Ok-Some-Watch.rounds c.in-Ok-Some-Watch.plan.now
-    (named c.in-Ok-Some-Watch.scripts.items)) ≡ command_of (bytes_of c.args.words.now) =
-    rw (c.in-Ok-Some-Watch.field-0-is, c.in-Ok-Some-Watch.field-0-0-is) at c.in-Ok-Some-Watch.ensures in
-    (watch_is_few (bytes_of c.args.words.now) c.in-Ok-Some-Watch.rounds _ _ (sym words)).0
-
-pub serve_watch-requires-clause-high : goal.serve_watch-requires-clause-high
-serve_watch-requires-clause-high g c κs within =
-    let words : Some (Command.Watch c.in-Ok-Some-Watch.rounds c.in-Ok-Some-Watch.plan.now
-    (named c.in-Ok-Some-Watch.scripts.items)) ≡ command_of (bytes_of c.args.words.now) =
-    rw (c.in-Ok-Some-Watch.field-0-is, c.in-Ok-Some-Watch.field-0-0-is) at c.in-Ok-Some-Watch.ensures in
-    (watch_is_few (bytes_of c.args.words.now) c.in-Ok-Some-Watch.rounds _ _ (sym words)).1
-
-pub returns-in-Ok-Some-Run-clause-printed : goal.returns-in-Ok-Some-Run-clause-printed
-returns-in-Ok-Some-Run-clause-printed g c =
-    let words : Some (Command.Run c.in-Ok-Some-Run.plan.now (named c.in-Ok-Some-Run.scripts.items))
-    ≡ command_of (bytes_of c.args.words.now) =
-    rw (c.in-Ok-Some-Run.field-0-is, c.in-Ok-Some-Run.field-0-0-is) at c.in-Ok-Some-Run.ensures in
-    subst (λ (o : Option Command). Printed (g.S.Shelf.held c.args.shelf.now) o (g.K.Sink.taken c.args.out.now)
-    (g.K.Sink.taken c.serve_run.new.out) c.serve_run.result) words
-    (rw c.deref.ensures.value at c.serve_run.ensures.printed)
-
-pub returns-in-Ok-Some-Stress-clause-printed : goal.returns-in-Ok-Some-Stress-clause-printed
-returns-in-Ok-Some-Stress-clause-printed g c =
-    let words : Some (Command.Stress c.in-Ok-Some-Stress.trains) ≡ command_of (bytes_of c.args.words.now) =
-    rw (c.in-Ok-Some-Stress.field-0-is, c.in-Ok-Some-Stress.field-0-0-is) at c.in-Ok-Some-Stress.ensures in
-    subst (λ (o : Option Command). Printed (g.S.Shelf.held c.args.shelf.now) o (g.K.Sink.taken c.args.out.now)
-    (g.K.Sink.taken c.serve_stress.new.out) c.serve_stress.result) words
-    (c.serve_stress.ensures.printed (g.S.Shelf.held c.args.shelf.now))
-
-pub returns-in-Ok-Some-Watch-clause-printed : goal.returns-in-Ok-Some-Watch-clause-printed
-returns-in-Ok-Some-Watch-clause-printed g c =
-    let words : Some (Command.Watch c.in-Ok-Some-Watch.rounds c.in-Ok-Some-Watch.plan.now
-    (named c.in-Ok-Some-Watch.scripts.items)) ≡ command_of (bytes_of c.args.words.now) =
-    rw (c.in-Ok-Some-Watch.field-0-is, c.in-Ok-Some-Watch.field-0-0-is) at c.in-Ok-Some-Watch.ensures in
-    subst (λ (o : Option Command). Printed (g.S.Shelf.held c.args.shelf.now) o (g.K.Sink.taken c.args.out.now)
-    (g.K.Sink.taken c.serve_watch.new.out) c.serve_watch.result) words
-    (rw c.deref-in-Ok-Some-Watch.ensures.value at c.serve_watch.ensures.printed)
+    rw (c.in-Ok-Some-Stress.field-0-is, c.in-Ok-Some-Stress.field-0-0-is) at c.in-Ok-Some-Stress.ensures.read in
+    let put = c.put_outcome.ensures in
+    let made = c.stress_outcome-outcome.ensures in
+    let trains = c.in-Ok-Some-Stress.trains in
+    rw (← words) (outcome_served g.S.Shelf.held g.S.Shelf.faults g.K.Sink.taken g.K.Sink.faults
+    c.stress_outcome-outcome.result (λ text. text.items) (Command.Stress trains) _ _ _ _ _
+    (makes_print IsSummaryOf SummaryOf (λ n text h. h) c.stress_outcome-outcome.result (λ text. text.items)
+    (Gives trains) made.told)
+    put.took put.sink put.not_fetched put.no_memory (λ e. absurd (made.no_fault e)) (λ n. refl)
+    (stress_done trains c.stress_outcome-outcome.result (λ text. text.items) _ _ _ made.told put.took) (λ done. tt))

@@ -1,21 +1,24 @@
-use Rattle.std.proofs.Common.{refl}
 use Rattle.command_words.specs.Commands.{Command}
 use Rattle.line_runs.specs.Watched.{IsWatchOf}
 use Rattle.text_fetch.specs.FromTexts.{named}
+use Rattle.text_fetch.specs.Runs.{run_told}
 use Rattle.box_top.specs.Outcomes.{WatchOf}
 use Rattle.box_top.proofs.Headlines.{watch_done}
-use Rattle.box_top.proofs.Outcomes.{makes_print, outcome_printed}
+use Rattle.box_top.proofs.Outcomes.{makes_print}
+use Rattle.box_top.proofs.Serving.{outcome_served}
 use Rattle.box_top.proofs.top.serve_watch.Goals as goal
 
-pub returns-clause-printed : goal.returns-clause-printed
-returns-clause-printed g c =
-    outcome_printed c.watch_outcome-outcome.result (λ text. text.items) (g.S.Shelf.held c.args.shelf.now) _
-    (Command.Watch c.args.rounds c.args.plan.now (named c.args.scripts.now)) _ _ _ refl
-    (makes_print (IsWatchOf c.args.rounds) (WatchOf c.args.rounds) (λ run text h. h) c.watch_outcome-outcome.result
-    (λ text. text.items) _ c.watch_outcome-outcome.ensures.told) c.put_outcome.ensures.took
-
-pub returns-clause-headline : goal.returns-clause-headline
-returns-clause-headline g c done told =
-    watch_done c.args.rounds c.watch_outcome-outcome.result (λ text. text.items) (g.S.Shelf.held c.args.shelf.now)
-    c.args.plan.now (named c.args.scripts.now) _ _ _ c.watch_outcome-outcome.ensures.told c.put_outcome.ensures.took
-    done told
+pub returns : goal.returns
+returns g c =
+    let put = c.put_outcome.ensures in
+    let made = c.watch_outcome-outcome.ensures in
+    let rounds = c.args.rounds in
+    outcome_served g.S.Shelf.held g.S.Shelf.faults g.K.Sink.taken g.K.Sink.faults c.watch_outcome-outcome.result
+    (λ text. text.items) (Command.Watch rounds c.args.plan.now (named c.args.scripts.now)) _ _ _ _ _
+    (makes_print (IsWatchOf rounds) (WatchOf rounds) (λ run text h. h) c.watch_outcome-outcome.result
+    (λ text. text.items) (run_told (g.S.Shelf.held c.args.shelf.now) c.args.plan.now (named c.args.scripts.now))
+    made.told)
+    put.took put.sink put.not_fetched put.no_memory made.fault made.same
+    (λ done told. watch_done rounds c.watch_outcome-outcome.result (λ text. text.items)
+    (g.S.Shelf.held c.args.shelf.now) c.args.plan.now (named c.args.scripts.now) _ _ _ made.told put.took done told)
+    (λ done. tt)

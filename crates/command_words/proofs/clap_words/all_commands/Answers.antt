@@ -3,8 +3,9 @@ use Rattle.std.proofs.Common.{◌∙◌, ◌+◌, ap, sym, drop}
 use Rattle.std.proofs.lemmas.List.{at_drop_more}
 use Rattle.std.specs.List.{fold}
 use Rattle.clap.specs.Words.{app_of}
-use Rattle.command_words.specs.ClapTable.{all_names, with_command}
-use Rattle.command_words.specs.declared.clap_words.CommandName.TheVariants as names
+use Rattle.command_words.specs.Commands.{all_names}
+use Rattle.command_words.specs.ClapTable.{with_command}
+use Rattle.command_words.specs.declared.table.CommandName.TheVariants as names
 use Rattle.command_words.proofs.clap_words.all_commands.Goals as goal
 
 pub loop-name-preserved : goal.loop-name-preserved
