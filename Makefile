@@ -1,7 +1,7 @@
 # The crates whose tests try what no words reach.
 TESTS = $(patsubst crates/%/,%,$(wildcard crates/*_tests/))
 
-.PHONY: demo build cases quick $(TESTS) bench soak loaded races faults edge sizes planted contracts test
+.PHONY: demo build cases quick $(TESTS) bench soak loaded races faults edge typed sizes planted contracts test
 
 example = run data/example.plan data/ash.script data/beech.script data/cedar.script
 
@@ -35,9 +35,10 @@ $(TESTS):
 bench:
 	python3 bench/times.py $(BESIDE) crates/box_main/out/box_main
 
-# Six that try the program that `make build` leaves: it works made lines for MINUTES, with bad signalmen; large lines
-# beside busy processes; lines that `signalbox` rehearsed; each allocation is refused in turn; bad files, outputs and
-# words; the greatest texts. Each stops with status 0 where it found nothing.
+# Seven that try the programs that `make build`, and `rt run` in crates/signalbox, leave: it works made lines for
+# MINUTES, with bad signalmen; large lines beside busy processes; lines that `signalbox` rehearsed; each allocation is
+# refused in turn; bad files, outputs and words; a box worked in a pseudo-terminal; the greatest texts. Each stops with
+# status 0 where it found nothing.
 MINUTES = 10
 
 soak:
@@ -54,6 +55,9 @@ faults:
 
 edge:
 	python3 hostile/edge.py crates/box_main/out/box_main
+
+typed:
+	python3 hostile/typed.py crates/signalbox/out/signalbox
 
 sizes:
 	python3 hostile/sizes.py crates/box_main/out/box_main

@@ -2,3 +2,5 @@ mod Stopped
 mod Onward
 mod NextText
 mod Faults
+mod EachScript
+mod ByName

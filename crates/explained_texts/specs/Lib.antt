@@ -1,2 +1,3 @@
 pub mod Troubles
 pub mod Gathered
+pub mod Others

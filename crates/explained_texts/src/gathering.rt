@@ -36,9 +36,9 @@ pub struct RunTexts {
 
 /// A script, with its text.
 #[derive(Drop)]
-struct ScriptWithText {
-    script: Script,
-    bytes: Vec<u8>,
+pub(crate) struct ScriptWithText {
+    pub(crate) script: Script,
+    pub(crate) bytes: Vec<u8>,
 }
 
 // The plan that the bytes of text 1 spell, where it has so many boxes.
@@ -79,8 +79,8 @@ fn fetch_plan<S: ReasonedShelf>(
     plan
 }
 
-// The script of a box under a name, as text `box_no + 2`.
-fn fetch_script<S: ReasonedShelf>(
+/// The script of a box under a name, as text `box_no + 2`.
+pub(crate) fn fetch_script<S: ReasonedShelf>(
     alloc: Global,
     shelf: &mut S,
     plan: &Plan,

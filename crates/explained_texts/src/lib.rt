@@ -3,11 +3,13 @@
 
 mod fetching;
 mod gathering;
+mod others;
 mod reading;
 mod shelf;
 mod trouble;
 
 pub use fetching::fetch_text;
 pub use gathering::{RunTexts, fetch_run};
+pub use others::{OthersTexts, fetch_others};
 pub use shelf::ReasonedShelf;
 pub use trouble::{Trouble, trouble_with};

@@ -1,5 +1,6 @@
 -- What is taken, and what is told, of words, by whether clap takes them.
-use Rattle.std.proofs.Common.{◌≡◌, ℕ, Bool, true, false, List, Option, Some, None, cond, refl, ◌⊎◌, inl, inr, codes}
+use Rattle.std.proofs.Common.{◌≡◌, ℕ, Bool, true, false, List, Option, Some, None, cond, refl, ◌⊎◌, inl, inr}
+use Rattle.std.proofs.Common.{codes, sym, ◌∙◌}
 use Rattle.clap.specs.Words.{Text, takes}
 use Rattle.signalbox_words.specs.Commands.{Command, command_of}
 use Rattle.signalbox_words.specs.Table.{program}
@@ -26,6 +27,23 @@ asked_none held texts status old new refused = go (takes program texts) refused 
   go : (t : Bool) → ¬ (t ≡ true) → Headline held (cond t (command_of texts) None) status old new
   go true other = absurd (other refl)
   go false other = tt
+
+-- words that clap takes ask for the command that they are
+pub asked_is : (texts : List Text) (command other : Command) → command_of texts ≡ Some command
+    → asked texts ≡ Some other → command ≡ other
+asked_is texts command other is asks = go (takes program texts) asks where
+  go : (t : Bool) → cond t (command_of texts) None ≡ Some other → command ≡ other
+  go true e = (let same : Some command ≡ Some other = sym is ∙ e in cc)
+  go false e = absurd cc
+
+-- words that clap doesn't take ask for none
+pub asks_none : (texts : List Text) (other : Command) → ¬ (takes program texts ≡ true) ⊎ (command_of texts ≡ None)
+    → asked texts ≡ Some other → ⊥
+asks_none texts other none asks = go (takes program texts) none asks where
+  go : (t : Bool) → ¬ (t ≡ true) ⊎ (command_of texts ≡ None) → cond t (command_of texts) None ≡ Some other → ⊥
+  go true (inl other) e = other refl
+  go true (inr is) e = (let same : None ≡ Some other = sym is ∙ e in absurd cc)
+  go false none e = absurd cc
 
 -- ---- what is told
 
@@ -54,5 +72,6 @@ pub fault_without_memory : (held : Held) (counts : FaultCounts) (command : Optio
     → FaultIsTold held counts command old new before now
 fault_without_memory held counts None old new before now told = tt
 fault_without_memory held counts (Some (Command.Tidy file)) old new before now told = tt
+fault_without_memory held counts (Some (Command.Work wanted)) old new before now told = tt
 fault_without_memory held counts (Some (Command.Rehearse wanted)) old new before now told =
     λ n fault refused. (codes "signalbox: out of memory\n", (inr (inr refl), told))

@@ -1,4 +1,6 @@
 mod Asked
 mod Fetched
+pub mod Written
+mod Grown
 mod NamedTexts
 mod Reported

@@ -1,3 +1,4 @@
 pub mod Top
 pub mod Told
 pub mod Rehearsing
+pub mod Hand

@@ -86,13 +86,14 @@ pub record IsAnswered (held : Held) (wanted : Rehearsing) (text : List ℕ) (sta
 -- ---- any command
 
 -- what is taken, and the status, where a command is done: of a tidying the text under the name with its form mended;
--- of a rehearsal what comes of it
+-- of a rehearsal what comes of it; what is taken of a box worked by hand is told by IsHandWorked
 abbrev pub Headline : Held → Option Command → Status → Option (List ℕ) → Option (List ℕ) → Type 0
 Headline held None status old new = Unit {0}
 Headline held (Some (Command.Tidy file)) status old new =
     IfSome (held file) (λ all. new ≡ appended old (tidy_text all)) × (status ≡ statuses.Done)
 Headline held (Some (Command.Rehearse wanted)) status old new =
     (text : List ℕ) × IsAnswered held wanted text status × (new ≡ appended old text)
+Headline held (Some (Command.Work wanted)) status old new = status ≡ statuses.Done
 
 -- nothing was taken, or the front part of a text
 abbrev pub TakesFront : Option (List ℕ) → Option (List ℕ) → Type 0

@@ -3,6 +3,7 @@
 
 mod answering;
 mod files;
+mod hand;
 mod rehearsing;
 mod status;
 mod tidying;

@@ -1,24 +1,30 @@
 //! The top call of `signalbox`.
 
 ghost use Rattle.std.specs.Prelude.{◌≡◌, ◌≢◌, ℕ, List, Some};
-ghost use Rattle.signalbox_words.specs.Commands.{bytes_of, shown};
+ghost use Rattle.signalbox_words.specs.Commands.{Command, Working, bytes_of, shown};
+ghost use Rattle.signalbox_top.specs.Hand.{IsHandWorked};
 ghost use Rattle.signalbox_top.specs.Top.{Headline, TakesFront, asked};
 ghost use Rattle.signalbox_top.specs.Told.{FaultIsTold, TellsWhy};
 
 use crate::answering::{put_result, tell};
+use crate::hand::{HandWanted, serve_work};
 use crate::rehearsing::{Wanted, serve_rehearse};
 use crate::status::Status;
 use crate::tidying::serve_tidy;
 use explained_texts::ReasonedShelf;
+use hand_working::{LineSource, Store, Terminal};
 use rail_text::{NoMemory, Sink};
 use signalbox_words::{SignalboxCommand, Words, read_words};
 use std::alloc::Global;
 
 // Does a command.
-fn serve<S: ReasonedShelf, K: Sink, L: Sink>(
+fn serve<S: ReasonedShelf, N: LineSource, W: Store, K: Sink, L: Sink>(
     alloc: Global,
     command: SignalboxCommand<'_>,
+    terminal: Terminal,
     shelf: &mut S,
+    source: &mut N,
+    store: &mut W,
     out: &mut K,
     told: &mut L,
 ) -> Status
@@ -30,6 +36,9 @@ fn serve<S: ReasonedShelf, K: Sink, L: Sink>(
     ensures fault { result ≡ Status.Failed → FaultIsTold (S.held shelf.old)
         (record { before = S.faults shelf.old; now = S.faults shelf.new }) (Some (shown command.entry))
         (L.taken told.old) (L.taken told.new) (L.faults told.old) (L.faults told.new) }
+    ensures worked { (wanted : Working) → shown command.entry ≡ Command.Work wanted → result ≢ Status.Failed
+        → IsHandWorked (S.held shelf.old) wanted terminal (N.given source.old) (N.given source.new) (K.taken out.old)
+        (K.taken out.new) (W.written store.new) }
     ensures same { (n : List ℕ) → S.held shelf.new n ≡ S.held shelf.old n }
 {
     match command {
@@ -50,6 +59,30 @@ fn serve<S: ReasonedShelf, K: Sink, L: Sink>(
             drop(scripts);
             status
         }
+        SignalboxCommand::Work {
+            hint,
+            plain,
+            screen,
+            plan,
+            box_name,
+            scripts,
+            journal,
+            script,
+        } => {
+            let wanted = HandWanted {
+                hint,
+                plain,
+                screen,
+                plan,
+                box_name,
+                scripts: &scripts,
+                journal,
+                script,
+            };
+            let status = serve_work(alloc, &wanted, terminal, shelf, source, store, out, told);
+            drop(scripts);
+            status
+        }
     }
 }
 
@@ -58,6 +91,10 @@ fn serve<S: ReasonedShelf, K: Sink, L: Sink>(
 ///
 /// `tidy FILE` puts the text under that name with its form mended. `rehearse PLAN SCRIPT..` rehearses the scripts and
 /// puts the report; with `--journal` the journal in its place; with `--to-refusal` it ends at the first refused call.
+/// `work PLAN BOX SCRIPT..` lets a man work that box by the lines of `source`; where nobody types these at a terminal,
+/// they are echoed; with `--hint` it is told what is due; with `--screen` the box is drawn anew behind each line that
+/// is typed; with `--plain` a terminal's colours aren't shown; with `--journal FILE` and `--script FILE` the journal
+/// and his calls are written to `store`. His prompts go to `told`.
 /// `--help`, `help COMMAND` and `--version` put what they ask for, as results.
 ///
 /// - `Done`: it is done, and nothing was found.
@@ -65,10 +102,13 @@ fn serve<S: ReasonedShelf, K: Sink, L: Sink>(
 /// - `Failed`: it could not be done. Of the results nothing was taken, or a front part where the sink failed; a line
 ///   tells why, unless that sink failed too. A text that is refused is explained, with the line and the cause for which
 ///   `box_main` refuses it.
-pub fn signalbox_top<S: ReasonedShelf, K: Sink, L: Sink>(
+pub fn signalbox_top<S: ReasonedShelf, N: LineSource, W: Store, K: Sink, L: Sink>(
     alloc: Global,
     words: &[String],
+    terminal: Terminal,
     shelf: &mut S,
+    source: &mut N,
+    store: &mut W,
     out: &mut K,
     told: &mut L,
 ) -> Status
@@ -80,10 +120,15 @@ pub fn signalbox_top<S: ReasonedShelf, K: Sink, L: Sink>(
     ensures fault { result ≡ Status.Failed → FaultIsTold (S.held shelf.old)
         (record { before = S.faults shelf.old; now = S.faults shelf.new }) (asked (bytes_of words.now))
         (L.taken told.old) (L.taken told.new) (L.faults told.old) (L.faults told.new) }
+    ensures worked { (wanted : Working) → asked (bytes_of words.now) ≡ Some (Command.Work wanted)
+        → result ≢ Status.Failed → IsHandWorked (S.held shelf.old) wanted terminal (N.given source.old)
+        (N.given source.new) (K.taken out.old) (K.taken out.new) (W.written store.new) }
     ensures same { (n : List ℕ) → S.held shelf.new n ≡ S.held shelf.old n }
 {
     match read_words(alloc, words) {
-        Ok(Words::Command(command)) => serve(alloc, command, shelf, out, told),
+        Ok(Words::Command(command)) => serve(
+            alloc, command, terminal, shelf, source, store, out, told,
+        ),
         Ok(Words::Shown(text)) => put_result(out, told, text.as_bytes(), Status::Done),
         Ok(Words::Wrong(text)) => tell(told, text.as_str()),
         Err(NoMemory) => tell(told, "signalbox: out of memory\n"),

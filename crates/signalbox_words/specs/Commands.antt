@@ -19,10 +19,25 @@ pub record Rehearsing : Type 0 where
   pub plan : List ℕ
   pub scripts : List (List ℕ)
 
--- Tidy: a text is printed with its form mended; Rehearse: a plan's line is rehearsed by the scripts of its boxes.
+-- What is wanted where a box is worked by hand: the names of the plan and of the box, and of the scripts of the other
+-- boxes; whether it is told what is due, whether all is without colour, and whether the box is drawn anew; and the
+-- names of the files to which the journal and his calls are written, if they are.
+pub record Working : Type 0 where
+  pub hint : Bool
+  pub plain : Bool
+  pub screen : Bool
+  pub plan : List ℕ
+  pub box_name : List ℕ
+  pub scripts : List (List ℕ)
+  pub journal : Option (List ℕ)
+  pub script : Option (List ℕ)
+
+-- Tidy: a text is printed with its form mended; Rehearse: a plan's line is rehearsed by the scripts of its boxes; Work:
+-- one of its boxes is worked by hand.
 pub data Command : Type 0 where
   Tidy : List ℕ → Command
   Rehearse : Rehearsing → Command
+  Work : Working → Command
 
 -- the command with the names as their bytes
 abbrev pub shown : SignalboxCommand → Command
@@ -33,6 +48,17 @@ shown (commands.Rehearse to_refusal as_journal plan scripts) =
       as_journal = as_journal;
       plan = plan.now;
       scripts = map (λ name. name.now) scripts.items;
+    })
+shown (commands.Work hint plain screen plan box_name scripts journal script) =
+    Command.Work (record {
+      hint = hint;
+      plain = plain;
+      screen = screen;
+      plan = plan.now;
+      box_name = box_name.now;
+      scripts = map (λ name. name.now) scripts.items;
+      journal = option_map (λ name. name.now) journal;
+      script = option_map (λ name. name.now) script;
     })
 
 -- words as their bytes
@@ -68,11 +94,41 @@ rehearsal_with rows names =
 abbrev pub rehearse_read : List Row → Option Command
 rehearse_read rows = option_map (rehearsal_with rows) (names_read rows)
 
+-- the names of a plan, of a box and of scripts, where there are all
+abbrev pub line_names : Option Text → Option (Text × List Text) → Option (Text × Text × List Text)
+line_names None names = None
+line_names (Some plan) None = None
+line_names (Some plan) (Some names) = Some (plan, names.0, names.1)
+
+-- PLAN BOX SCRIPT..
+abbrev pub line_read : List Row → Option (Text × Text × List Text)
+line_read rows =
+    line_names (first_of (codes "plan") rows) (both_names (first_of (codes "box") rows) (all_of (codes "others") rows))
+
+-- a box of these names is worked by hand, with the files that are named
+abbrev pub working_with : List Row → Text × Text × List Text → Command
+working_with rows names =
+    Command.Work (record {
+      hint = is_given (first_of (codes "hint") rows);
+      plain = is_given (first_of (codes "plain") rows);
+      screen = is_given (first_of (codes "screen") rows);
+      plan = names.0;
+      box_name = names.1;
+      scripts = names.2;
+      journal = first_of (codes "journal") rows;
+      script = first_of (codes "script") rows;
+    })
+
+-- `work [--hint] [--journal FILE] [--plain] [--screen] [--script FILE] PLAN BOX SCRIPT..`
+abbrev pub work_read : List Row → Option Command
+work_read rows = option_map (working_with rows) (line_read rows)
+
 -- a command, by its name and the values that clap found
 abbrev pub command_read : Text → List Row → Option Command
 command_read name rows =
     if bytes_eq name (codes "tidy") then option_map Command.Tidy (first_of (codes "file") rows)
     else if bytes_eq name (codes "rehearse") then rehearse_read rows
+    else if bytes_eq name (codes "work") then work_read rows
     else None
 
 -- the command of these words, as clap reads them by the table of commands

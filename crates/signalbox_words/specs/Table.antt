@@ -18,6 +18,10 @@ repeated_argument id = record (required_argument id) {
 abbrev pub flag : Text → Rule
 flag id = record (new_rule id) { long = Some id; action = Some SetTrue }
 
+-- an option that names a file: `--`, its name, and that of the file
+abbrev pub file_option : Text → Rule
+file_option id = record (new_rule id) { long = Some id; value_names = 1 }
+
 -- `tidy FILE`
 abbrev pub tidy_command : App
 tidy_command = with_rule (new_app (codes "tidy")) (required_argument (codes "file"))
@@ -38,6 +42,38 @@ plan_form = with_rule flags_form (required_argument (codes "plan"))
 abbrev pub rehearse_command : App
 rehearse_command = with_rule plan_form (repeated_argument (codes "script"))
 
+-- `work --hint`
+abbrev pub hint_form : App
+hint_form = with_rule (new_app (codes "work")) (flag (codes "hint"))
+
+-- the same with `--journal FILE`
+abbrev pub journal_form : App
+journal_form = with_rule hint_form (file_option (codes "journal"))
+
+-- the same with `--plain`
+abbrev pub plain_form : App
+plain_form = with_rule journal_form (flag (codes "plain"))
+
+-- the same with `--screen`
+abbrev pub screen_form : App
+screen_form = with_rule plain_form (flag (codes "screen"))
+
+-- the same with `--script FILE`
+abbrev pub files_form : App
+files_form = with_rule screen_form (file_option (codes "script"))
+
+-- the same with `PLAN`
+abbrev pub line_form : App
+line_form = with_rule files_form (required_argument (codes "plan"))
+
+-- the same with `BOX`
+abbrev pub box_form : App
+box_form = with_rule line_form (required_argument (codes "box"))
+
+-- `work [--hint] [--journal FILE] [--plain] [--screen] [--script FILE] PLAN BOX SCRIPT..`
+abbrev pub work_command : App
+work_command = with_rule box_form (repeated_argument (codes "others"))
+
 -- the program with no command; clap is given its words without its own name in front
 abbrev pub bare_program : App
 bare_program = record (new_app (codes "signalbox")) {
@@ -51,4 +87,6 @@ bare_program = record (new_app (codes "signalbox")) {
 
 -- the program with all its commands
 abbrev pub program : App
-program = with_subcommand (with_subcommand bare_program rehearse_command.top) tidy_command.top
+program =
+    with_subcommand (with_subcommand (with_subcommand bare_program rehearse_command.top) work_command.top)
+    tidy_command.top

@@ -5,7 +5,8 @@ ghost use Rattle.std.specs.Option.{option_map};
 ghost use Rattle.clap.specs.Words.{first_of, found_of, rows_of};
 ghost use Rattle.clap.specs.Values.{kind_of};
 ghost use Rattle.signalbox_words.specs.Commands.{AreRead, Command, TellsFault, bytes_of, command_read, is_given};
-ghost use Rattle.signalbox_words.specs.Commands.{names_read, rehearsal_with, rehearse_read, shown};
+ghost use Rattle.signalbox_words.specs.Commands.{line_read, names_read, rehearsal_with, rehearse_read, shown};
+ghost use Rattle.signalbox_words.specs.Commands.{work_read, working_with};
 
 use crate::table::program;
 use clap::error::ErrorKind;
@@ -28,6 +29,25 @@ pub enum SignalboxCommand<'a> {
         as_journal: bool,
         plan: &'a str,
         scripts: Vec<&'a str>,
+    },
+    /// `work [--hint] [--journal FILE] [--plain] [--screen] [--script FILE] PLAN BOX SCRIPT..`: a box of a plan's line
+    /// is worked by hand.
+    Work {
+        /// It is told what is due.
+        hint: bool,
+        /// All is without colour.
+        plain: bool,
+        /// The box is drawn anew behind each line.
+        screen: bool,
+        plan: &'a str,
+        /// The name of the box.
+        box_name: &'a str,
+        /// The scripts of the other boxes.
+        scripts: Vec<&'a str>,
+        /// The file to which the journal is written.
+        journal: Option<&'a str>,
+        /// The file to which his calls are written as a script.
+        script: Option<&'a str>,
     },
 }
 
@@ -109,6 +129,67 @@ fn read_rehearse<'a>(
     }
 }
 
+// The names of the plan, the box and the scripts of `work`.
+#[tactic(auto, using(crate::proofs::MatchRules::match_rules))]
+fn read_line<'a, 'm>(found: &'m ArgMatches<'a>) -> Option<(&'a str, &'a str, &'m [&'a str])>
+    ensures { option_map (λ names. (names.0.now, names.1.now, map (λ name. name.now) names.2.now)) result
+        ≡ line_read (rows_of (found_of found.entry.now)) }
+{
+    let (Some(plan), Some(box_name), Some(scripts)) = (
+        found.get_str("plan"),
+        found.get_str("box"),
+        found.get_strs("others"),
+    ) else {
+        return None;
+    };
+    Some((plan, box_name, scripts))
+}
+
+// A box of these names that is worked by hand, with the files that are named.
+#[tactic(auto, using(crate::proofs::MatchRules::match_rules))]
+fn working_with<'a>(
+    alloc: Global,
+    found: &ArgMatches<'a>,
+    plan: &'a str,
+    box_name: &'a str,
+    scripts: &[&'a str],
+) -> Result<SignalboxCommand<'a>, NoMemory>
+    ensures { IfOk result (λ command. shown command ≡ working_with (rows_of (found_of found.now))
+        (plan.entry.now, box_name.entry.now, map (λ name. name.now) scripts.now)) }
+{
+    let hint = has_flag(found, "hint");
+    let plain = has_flag(found, "plain");
+    let screen = has_flag(found, "screen");
+    let scripts = Vec::from_slice(alloc, scripts)?;
+    let journal = found.get_str("journal");
+    let script = found.get_str("script");
+    Ok(SignalboxCommand::Work {
+        hint,
+        plain,
+        screen,
+        plan,
+        box_name,
+        scripts,
+        journal,
+        script,
+    })
+}
+
+// The plan, the box, the scripts and the files of `work`.
+fn read_work<'a>(
+    alloc: Global,
+    found: &ArgMatches<'a>,
+) -> Result<Option<SignalboxCommand<'a>>, NoMemory>
+    ensures { IfOk result (λ command. option_map shown command ≡ work_read (rows_of (found_of found.now))) }
+{
+    match read_line(found) {
+        Some((plan, box_name, scripts)) => {
+            Ok(Some(working_with(alloc, found, plan, box_name, scripts)?))
+        }
+        None => Ok(None),
+    }
+}
+
 // A command, by its name and what clap found.
 fn read_command<'a>(
     alloc: Global,
@@ -121,6 +202,7 @@ fn read_command<'a>(
     match name {
         "tidy" => Ok(read_tidy(found)),
         "rehearse" => read_rehearse(alloc, found),
+        "work" => read_work(alloc, found),
         _ => Ok(None),
     }
 }

@@ -3,8 +3,10 @@
 ghost use Rattle.std.specs.Prelude.{◌≡◌, false, IfOk};
 ghost use Rattle.clap.specs.Words.{app_of, rule_of};
 ghost use Rattle.clap.specs.declared.builder.command.Command.TheViews.{out-Command};
-ghost use Rattle.signalbox_words.specs.Table.{bare_program, flag, flags_form, plan_form, program, rehearse_command};
-ghost use Rattle.signalbox_words.specs.Table.{repeated_argument, required_argument, tidy_command, to_refusal_form};
+ghost use Rattle.signalbox_words.specs.Table.{bare_program, box_form, file_option, files_form, flag, flags_form};
+ghost use Rattle.signalbox_words.specs.Table.{hint_form, journal_form, line_form, plain_form, plan_form, program};
+ghost use Rattle.signalbox_words.specs.Table.{rehearse_command, repeated_argument, required_argument, screen_form};
+ghost use Rattle.signalbox_words.specs.Table.{tidy_command, to_refusal_form, work_command};
 
 use clap::{Arg, ArgAction, Command};
 use std::alloc::{AllocError, Global};
@@ -41,6 +43,32 @@ Each line gets one line feed as its end, and single spaces between its words; by
 
     signalbox tidy oak.script > mended.script";
 
+const WORK_ABOUT: &str = "Lets you work one box yourself, reply by reply";
+
+const WORK_AFTER: &str = "\
+The scripts of all other boxes stand in the order of these. You type calls as a script has them, and each is answered;
+behind each the others go on by their scripts, as far as they come without you. Type help for what may be typed, and
+end, or the end of input, to go off duty: then come your register, your refused calls, and where you worked against
+the nine rules. Lines from a file or a pipe are echoed, so that what is printed is a transcript. On a terminal
+refusals and what you notice are coloured, but with --plain, or where NO_COLOR is set.
+
+    signalbox work valley.plan Oak elm.script";
+
+const HINT_HELP: &str = "Tells before each line what is due, where exactly one thing is";
+
+const PLAIN_HELP: &str = "Shows no colours on a terminal";
+
+const SCREEN_HELP: &str =
+    "Draws the box anew above the prompt after each line, on a terminal of 80 by 24";
+
+const BOX_HELP: &str = "The name of the box that you work";
+
+const OTHERS_HELP: &str = "The scripts of the other boxes, in their order";
+
+const SAVED_JOURNAL_HELP: &str = "Writes the journal of the line to FILE, for `box_main judge`";
+
+const SAVED_SCRIPT_HELP: &str = "Writes your calls to FILE as a script";
+
 // An argument that is required.
 fn required_argument<'a>(alloc: Global, id: &'a str, name: &'a str, help: &'a str) -> Arg<'a>
     ensures rule { rule_of result ≡ required_argument id.entry.now }
@@ -69,6 +97,14 @@ fn flag<'a>(alloc: Global, id: &'a str, help: &'a str) -> Arg<'a>
         .long(id)
         .action(ArgAction::SetTrue)
         .help(help)
+}
+
+// An option that names a file: `--`, its name, and that of the file.
+fn file_option<'a>(alloc: Global, id: &'a str, help: &'a str) -> Arg<'a>
+    ensures rule { rule_of result ≡ file_option id.entry.now }
+    ensures own { result.global ≡ false }
+{
+    Arg::new(alloc, id).long(id).value_name("FILE").help(help)
 }
 
 // `rehearse --to-refusal`
@@ -106,6 +142,73 @@ fn rehearse_command<'a>(alloc: Global) -> Result<Command<'a>, AllocError>
     plan_form(alloc)?.arg(repeated_argument(alloc, "script", "SCRIPT", SCRIPT_HELP))
 }
 
+// `work --hint`
+fn hint_form<'a>(alloc: Global) -> Result<Command<'a>, AllocError>
+    ensures shape { IfOk result (λ c. app_of c ≡ hint_form) }
+    ensures own { IfOk result (λ c. (out-Command c).has_globals ≡ false) }
+{
+    Command::new(alloc, "work")
+        .about(WORK_ABOUT)
+        .after_help(WORK_AFTER)
+        .arg(flag(alloc, "hint", HINT_HELP))
+}
+
+// The same with `--journal FILE`.
+fn journal_form<'a>(alloc: Global) -> Result<Command<'a>, AllocError>
+    ensures shape { IfOk result (λ c. app_of c ≡ journal_form) }
+    ensures own { IfOk result (λ c. (out-Command c).has_globals ≡ false) }
+{
+    hint_form(alloc)?.arg(file_option(alloc, "journal", SAVED_JOURNAL_HELP))
+}
+
+// The same with `--plain`.
+fn plain_form<'a>(alloc: Global) -> Result<Command<'a>, AllocError>
+    ensures shape { IfOk result (λ c. app_of c ≡ plain_form) }
+    ensures own { IfOk result (λ c. (out-Command c).has_globals ≡ false) }
+{
+    journal_form(alloc)?.arg(flag(alloc, "plain", PLAIN_HELP))
+}
+
+// The same with `--screen`.
+fn screen_form<'a>(alloc: Global) -> Result<Command<'a>, AllocError>
+    ensures shape { IfOk result (λ c. app_of c ≡ screen_form) }
+    ensures own { IfOk result (λ c. (out-Command c).has_globals ≡ false) }
+{
+    plain_form(alloc)?.arg(flag(alloc, "screen", SCREEN_HELP))
+}
+
+// The same with `--script FILE`.
+fn files_form<'a>(alloc: Global) -> Result<Command<'a>, AllocError>
+    ensures shape { IfOk result (λ c. app_of c ≡ files_form) }
+    ensures own { IfOk result (λ c. (out-Command c).has_globals ≡ false) }
+{
+    screen_form(alloc)?.arg(file_option(alloc, "script", SAVED_SCRIPT_HELP))
+}
+
+// The same with `PLAN`.
+fn line_form<'a>(alloc: Global) -> Result<Command<'a>, AllocError>
+    ensures shape { IfOk result (λ c. app_of c ≡ line_form) }
+    ensures own { IfOk result (λ c. (out-Command c).has_globals ≡ false) }
+{
+    files_form(alloc)?.arg(required_argument(alloc, "plan", "PLAN", PLAN_HELP))
+}
+
+// The same with `BOX`.
+fn box_form<'a>(alloc: Global) -> Result<Command<'a>, AllocError>
+    ensures shape { IfOk result (λ c. app_of c ≡ box_form) }
+    ensures own { IfOk result (λ c. (out-Command c).has_globals ≡ false) }
+{
+    line_form(alloc)?.arg(required_argument(alloc, "box", "BOX", BOX_HELP))
+}
+
+// `work [--hint] [--journal FILE] [--plain] [--screen] [--script FILE] PLAN BOX SCRIPT..`
+fn work_command<'a>(alloc: Global) -> Result<Command<'a>, AllocError>
+    ensures shape { IfOk result (λ c. app_of c ≡ work_command) }
+    ensures own { IfOk result (λ c. (out-Command c).has_globals ≡ false) }
+{
+    box_form(alloc)?.arg(repeated_argument(alloc, "others", "SCRIPT", OTHERS_HELP))
+}
+
 // `tidy FILE`
 fn tidy_command<'a>(alloc: Global) -> Result<Command<'a>, AllocError>
     ensures shape { IfOk result (λ c. app_of c ≡ tidy_command) }
@@ -136,6 +239,10 @@ pub(crate) fn program<'a>(alloc: Global) -> Result<Command<'a>, AllocError>
     ensures { IfOk result (λ c. app_of c ≡ program) }
 {
     let rehearse = rehearse_command(alloc)?;
+    let work = work_command(alloc)?;
     let tidy = tidy_command(alloc)?;
-    bare_program(alloc)?.subcommand(rehearse)?.subcommand(tidy)
+    bare_program(alloc)?
+        .subcommand(rehearse)?
+        .subcommand(work)?
+        .subcommand(tidy)
 }

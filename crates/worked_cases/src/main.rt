@@ -8,6 +8,7 @@ mod case_folder;
 mod case_line;
 mod case_reader;
 mod case_shelf;
+mod case_store;
 mod cases;
 mod charts;
 mod codes;

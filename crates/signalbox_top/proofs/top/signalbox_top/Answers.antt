@@ -1,7 +1,9 @@
 use Rattle.std.proofs.Common.{rules, arith, inl}
 use Rattle.signalbox_words.specs.Commands.{bytes_of, shown}
 use Rattle.signalbox_top.specs.Top.{asked}
-use Rattle.signalbox_top.proofs.Asked.{asked_command, asked_none, fault_asked, fault_of_none, fault_without_memory}
+use Rattle.signalbox_words.specs.Commands.{Command}
+use Rattle.signalbox_top.proofs.Asked.{asked_command, asked_is, asked_none, fault_asked, fault_of_none}
+use Rattle.signalbox_top.proofs.Asked.{fault_without_memory}
 use Rattle.signalbox_top.proofs.top.signalbox_top.Goals as goal
 
 pub returns-in-Ok-Command-clause-headline : goal.returns-in-Ok-Command-clause-headline
@@ -29,3 +31,9 @@ pub returns-in-Err-clause-fault : goal.returns-in-Err-clause-fault
 returns-in-Err-clause-fault g c =
     λ failed. fault_without_memory _ _ (asked (bytes_of c.args.words.now)) _ _ _ _
     (c.tell-in-Err.ensures.line (omega arith))
+
+pub returns-in-Ok-Command-clause-worked : goal.returns-in-Ok-Command-clause-worked
+returns-in-Ok-Command-clause-worked g c =
+    λ wanted asks done. c.serve.ensures.worked wanted
+    (asked_is (bytes_of c.args.words.now) (shown c.in-Ok-Command.command) (Command.Work wanted) (search rules) asks)
+    done
