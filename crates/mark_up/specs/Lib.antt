@@ -1,0 +1,4 @@
+pub mod Escapes
+pub mod Tags
+pub mod Attributes
+pub mod Documents
