@@ -1,10 +1,13 @@
 //! The shapes of a picture.
 
-ghost use Rattle.std.specs.Prelude.{◌≡◌, ◌∷◌, OnOk};
+ghost use Rattle.std.specs.Prelude.{◌≡◌, ◌++◌, ◌∷◌, IfOk, OnOk, string_bytes};
+ghost use Rattle.frame_picture.specs.Shapes.{group_start, line_text, number_text, polygon_text, rect_text, turn_text};
+ghost use Rattle.frame_picture.specs.Shapes.{upright_text, words_text};
 ghost use Rattle.mark_up.specs.declared.tags.Tag.TheVariants.{Group};
 
 use mark_up::{EmptyTag, Name, Page, Tag, Value};
 use std::alloc::{AllocError, Global};
+use std::fmt::Write;
 
 /// A point, counted from the left and from the top.
 #[derive(Clone, Copy, Debug)]
@@ -23,6 +26,7 @@ impl Point {
 }
 
 // A rectangle with this corner at its left and top.
+#[tactic(auto, unfolding(crate::specs::Shapes::rect_text))]
 pub fn put_rect(
     page: &mut Page,
     class: &str,
@@ -30,7 +34,8 @@ pub fn put_rect(
     width: u64,
     height: u64,
 ) -> Result<(), AllocError>
-    ensures { OnOk result (page.new.open_tags ≡ page.old.open_tags) }
+    ensures text { OnOk result (page.new.text ≡ page.old.text ++ rect_text class.now corner width height) }
+    ensures tags { OnOk result (page.new.open_tags ≡ page.old.open_tags) }
 {
     page.put(
         EmptyTag::Rect,
@@ -45,8 +50,10 @@ pub fn put_rect(
 }
 
 // A line from one point to another.
+#[tactic(auto, unfolding(crate::specs::Shapes::line_text))]
 pub fn put_line(page: &mut Page, class: &str, from: Point, to: Point) -> Result<(), AllocError>
-    ensures { OnOk result (page.new.open_tags ≡ page.old.open_tags) }
+    ensures text { OnOk result (page.new.text ≡ page.old.text ++ line_text class.now from to) }
+    ensures tags { OnOk result (page.new.open_tags ≡ page.old.open_tags) }
 {
     page.put(
         EmptyTag::Line,
@@ -61,8 +68,10 @@ pub fn put_line(page: &mut Page, class: &str, from: Point, to: Point) -> Result<
 }
 
 // A closed figure with these corners.
+#[tactic(auto, unfolding(crate::specs::Shapes::polygon_text))]
 pub fn put_polygon(page: &mut Page, class: &str, corners: &str) -> Result<(), AllocError>
-    ensures { OnOk result (page.new.open_tags ≡ page.old.open_tags) }
+    ensures text { OnOk result (page.new.text ≡ page.old.text ++ polygon_text class.now corners.now) }
+    ensures tags { OnOk result (page.new.open_tags ≡ page.old.open_tags) }
 {
     page.put(
         EmptyTag::Polygon,
@@ -74,8 +83,10 @@ pub fn put_polygon(page: &mut Page, class: &str, corners: &str) -> Result<(), Al
 }
 
 // A text.
+#[tactic(auto, unfolding(crate::specs::Shapes::words_text))]
 pub fn put_words(page: &mut Page, class: &str, at: Point, text: &str) -> Result<(), AllocError>
-    ensures { OnOk result (page.new.open_tags ≡ page.old.open_tags) }
+    ensures text { OnOk result (page.new.text ≡ page.old.text ++ words_text class.now at text.now) }
+    ensures tags { OnOk result (page.new.open_tags ≡ page.old.open_tags) }
 {
     page.put_text(
         Tag::Text,
@@ -89,6 +100,7 @@ pub fn put_words(page: &mut Page, class: &str, at: Point, text: &str) -> Result<
 }
 
 // A number.
+#[tactic(auto, unfolding(crate::specs::Shapes::number_text))]
 pub fn put_number(
     page: &mut Page,
     alloc: Global,
@@ -96,13 +108,28 @@ pub fn put_number(
     at: Point,
     number: u32,
 ) -> Result<(), AllocError>
-    ensures { OnOk result (page.new.open_tags ≡ page.old.open_tags) }
+    ensures text { OnOk result (page.new.text ≡ page.old.text ++ number_text class.now at number) }
+    ensures tags { OnOk result (page.new.open_tags ≡ page.old.open_tags) }
 {
     let text = format!(in alloc; "{number}")?;
     put_words(page, class, at, text.as_str())
 }
 
-// A text that is read from below upwards.
+// The turn by which words at a point are read upwards.
+#[tactic(auto, unfolding(crate::specs::Shapes::turn_text))]
+fn turn_text(alloc: Global, at: Point) -> Result<String, AllocError>
+    ensures { IfOk result (λ text. string_bytes text ≡ turn_text at) }
+{
+    let (x, y) = (at.x, at.y);
+    let mut text = String::new(alloc);
+    text.push_str("translate(")?;
+    write!(text, "{x} {y}")?;
+    text.push_str(") rotate(-90)")?;
+    Ok(text)
+}
+
+// Words that are read from a point upwards.
+#[tactic(auto, unfolding(crate::specs::Shapes::upright_text))]
 pub fn put_upright(
     page: &mut Page,
     alloc: Global,
@@ -110,10 +137,10 @@ pub fn put_upright(
     at: Point,
     text: &str,
 ) -> Result<(), AllocError>
-    ensures { OnOk result (page.new.open_tags ≡ page.old.open_tags) }
+    ensures text { OnOk result (page.new.text ≡ page.old.text ++ upright_text class.now at text.now) }
+    ensures tags { OnOk result (page.new.open_tags ≡ page.old.open_tags) }
 {
-    let (x, y) = (at.x, at.y);
-    let turn = format!(in alloc; "translate({x} {y}) rotate(-90)")?;
+    let turn = turn_text(alloc, at)?;
     page.put_text(
         Tag::Text,
         &[
@@ -125,8 +152,10 @@ pub fn put_upright(
 }
 
 // Begins a group of shapes that is told as one by this name.
+#[tactic(auto, unfolding(crate::specs::Shapes::group_start))]
 pub fn begin_group(page: &mut Page, name: &str) -> Result<(), AllocError>
-    ensures { OnOk result (page.new.open_tags ≡ Group ∷ page.old.open_tags) }
+    ensures text { OnOk result (page.new.text ≡ page.old.text ++ group_start name.now) }
+    ensures tags { OnOk result (page.new.open_tags ≡ Group ∷ page.old.open_tags) }
 {
     page.start(
         Tag::Group,

@@ -1,6 +1,8 @@
 //! The drawing of the levers.
 
-ghost use Rattle.std.specs.Prelude.{◌≡◌, ◌<◌, ◌^◌, OnOk, length};
+ghost use Rattle.std.specs.Prelude.{◌≡◌, ◌++◌, ◌<◌, ◌^◌, IfOk, OnOk, length, string_bytes};
+ghost use Rattle.frame_picture.specs.Levers.{body_class, kind_letter, letter_class, lever_name, lever_shapes};
+ghost use Rattle.frame_picture.specs.Levers.{lever_text, levers_text};
 
 use crate::drawing::{Point, begin_group, put_number, put_rect, put_upright, put_words};
 use crate::places::{Layout, column_of};
@@ -8,9 +10,12 @@ use crate::works::works;
 use line_plan::{BoxPlan, Kind, Lever};
 use mark_up::Page;
 use std::alloc::{AllocError, Global};
+use std::fmt::Write;
 
 // The letter of a lever's kind, by which it is known without its colour.
-pub fn kind_letter(kind: Kind) -> &'static str {
+pub fn kind_letter(kind: Kind) -> &'static str
+    ensures { result.now ≡ kind_letter kind }
+{
     match kind {
         Kind::Signal => "S",
         Kind::Points => "P",
@@ -21,7 +26,9 @@ pub fn kind_letter(kind: Kind) -> &'static str {
 }
 
 // The class of a lever's body.
-pub fn body_class(kind: Kind) -> &'static str {
+pub fn body_class(kind: Kind) -> &'static str
+    ensures { result.now ≡ body_class kind }
+{
     match kind {
         Kind::Signal => "lever stop",
         Kind::Points => "lever points",
@@ -32,19 +39,26 @@ pub fn body_class(kind: Kind) -> &'static str {
 }
 
 // The class of the letter on a lever's body.
-pub fn letter_class(kind: Kind) -> &'static str {
+pub fn letter_class(kind: Kind) -> &'static str
+    ensures { result.now ≡ letter_class kind }
+{
     match kind {
+        Kind::Signal | Kind::Points | Kind::Lock => "mid bright",
         Kind::Distant | Kind::Spare => "mid dark",
-        _ => "mid bright",
     }
 }
 
 // The name by which a lever is told: its number and what it works.
-fn lever_name(alloc: Global, number: u32, words: &str) -> Result<String, AllocError> {
-    format!(in alloc; "lever {number}: {words}")
+fn lever_name(alloc: Global, number: u32, words: &str) -> Result<String, AllocError>
+    ensures { IfOk result (λ text. string_bytes text ≡ lever_name number words.now) }
+{
+    let mut text = String::new(alloc);
+    write!(text, "lever {number}: {words}")?;
+    Ok(text)
 }
 
 // The shapes of a lever whose column begins at `x`.
+#[tactic(auto, unfolding(crate::specs::Levers::lever_shapes))]
 fn put_lever_shapes(
     page: &mut Page,
     alloc: Global,
@@ -53,7 +67,8 @@ fn put_lever_shapes(
     corner: Point,
 ) -> Result<(), AllocError>
     requires { (corner.x < 2 ^ 40) × (corner.y < 2 ^ 40) }
-    ensures { OnOk result (page.new.open_tags ≡ page.old.open_tags) }
+    ensures text { OnOk result (page.new.text ≡ page.old.text ++ lever_shapes lever words.now corner) }
+    ensures tags { OnOk result (page.new.open_tags ≡ page.old.open_tags) }
 {
     let (x, y) = (corner.x, corner.y);
     put_upright(page, alloc, "small", Point::new(x + 21, y), words)?;
@@ -82,6 +97,7 @@ fn put_lever_shapes(
 }
 
 // Draws a lever.
+#[tactic(auto, unfolding(crate::specs::Levers::lever_text))]
 fn put_lever(
     page: &mut Page,
     alloc: Global,
@@ -90,7 +106,8 @@ fn put_lever(
     lever: Lever,
 ) -> Result<(), AllocError>
     requires { 0 < length page.old.open_tags }
-    ensures { OnOk result (page.new.open_tags ≡ page.old.open_tags) }
+    ensures text { OnOk result (page.new.text ≡ page.old.text ++ lever_text plan.now layout.now lever) }
+    ensures tags { OnOk result (page.new.open_tags ≡ page.old.open_tags) }
 {
     let words = works(alloc, plan, lever)?;
     let name = lever_name(alloc, lever.number, words.as_str())?;
@@ -109,7 +126,8 @@ pub fn put_levers(
     levers: &[Lever],
 ) -> Result<(), AllocError>
     requires { 0 < length page.old.open_tags }
-    ensures { OnOk result (page.new.open_tags ≡ page.old.open_tags) }
+    ensures text { OnOk result (page.new.text ≡ page.old.text ++ levers_text plan.now layout.now levers.now) }
+    ensures tags { OnOk result (page.new.open_tags ≡ page.old.open_tags) }
 {
     for lever in levers {
         put_lever(page, alloc, plan, layout, *lever)?;

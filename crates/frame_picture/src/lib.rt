@@ -9,7 +9,6 @@ mod frame_drawing;
 mod key_drawing;
 mod picture;
 mod places;
-mod row_drawing;
 mod scene;
 mod works;
 

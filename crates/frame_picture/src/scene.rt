@@ -93,7 +93,8 @@ fn bar_of(bridle: &Bridle, channel: u32) -> Bar
 // The bars of bridles, each in its channel.
 fn bars_of(alloc: Global, bridles: &[Bridle], channels: &[u32]) -> Result<Vec<Bar>, NoMemory>
     requires { length channels.now ≡ length bridles.now }
-    ensures { IfOk result (λ bars. bars.items ≡ bars_of bridles.now channels.now) }
+    ensures bars { IfOk result (λ bars. bars.items ≡ bars_of bridles.now channels.now) }
+    ensures each { IfOk result (λ bars. length bars.items ≡ length bridles.now) }
 {
     let mut bars = Vec::new(alloc);
     for (i, bridle) in bridles.iter().enumerate() {
@@ -137,8 +138,10 @@ fn table_fits(table: &Table)
 }
 
 // The bridles of a locking table.
+#[tactic(auto, using(crate::proofs::Lengths::length_compiled))]
 fn bridles_of(alloc: Global, table: &Table) -> Result<Vec<Bridle>, NoMemory>
     ensures bridles { IfOk result (λ bridles. bridles.items ≡ compiled 1 table.now) }
+    ensures each { IfOk result (λ bridles. length bridles.items ≡ length table.now) }
     ensures few { IfOk result (λ bridles. length bridles.items < 2 ^ 32) }
     ensures fits { IfOk result (λ bridles. All (BridleFits most_levers) bridles.items) }
 {
@@ -157,7 +160,8 @@ fn scene_with(
     chart: &Chart,
 ) -> Result<Scene, NoMemory>
     requires { length chart.now.channels ≡ length bridles.now }
-    ensures { IfOk result (λ scene. scene ≡ scene_with levers.now bridles.now chart.now) }
+    ensures scene { IfOk result (λ scene. scene ≡ scene_with levers.now bridles.now chart.now) }
+    ensures each { IfOk result (λ scene. length scene.bars ≡ length bridles.now) }
 {
     let channels = chart.channels.as_slice();
     let mut drawn = Vec::new(alloc);
@@ -176,6 +180,7 @@ fn scene_with(
 /// locking chart, which has the fewest; and on each its dogs.
 pub fn scene_of(alloc: Global, plan: &BoxPlan) -> Result<Scene, NoMemory>
     ensures scene { IfOk result (λ scene. scene ≡ scene_of plan.now) }
+    ensures each { IfOk result (λ scene. length scene.bars ≡ length plan.now.rows) }
     ensures chart { OnOk result (IsChartOf (spans_of (bridles_of plan.now)) (chart_of (bridles_of plan.now))) }
 {
     let bridles = bridles_of(alloc, &plan.table)?;

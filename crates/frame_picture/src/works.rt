@@ -1,29 +1,17 @@
 //! What a lever works, in words.
 
+ghost use Rattle.std.specs.Prelude.{◌≡◌, ◌++◌, IfOk, OnOk, string_bytes};
+ghost use Rattle.frame_picture.specs.Levers.{place_name, route_text, signal_text, works};
+ghost use Rattle.line_plan.specs.Frames.{signal_of};
+
 use line_plan::{BoxPlan, Kind, Lever, To, way_word};
 use std::alloc::{AllocError, Global};
-
-// What the lever of a signal works: the arm of a signal, from where to where.
-fn signal_words(alloc: Global, plan: &BoxPlan, lever: u32) -> Result<String, AllocError> {
-    let Some(signal) = plan.signal(lever) else {
-        return format!(in alloc; "signal");
-    };
-    let from = place_name(plan, signal.from);
-    match signal.to {
-        To::Place(place) => {
-            let to = place_name(plan, place);
-            format!(in alloc; "{from} to {to}")
-        }
-        To::Section(way) => {
-            let way = way_word(way);
-            format!(in alloc; "starter {way}, {from}")
-        }
-        To::Away => format!(in alloc; "{from} away"),
-    }
-}
+use std::fmt::Write;
 
 // The name of a place; nothing where the box has no such place.
-fn place_name(plan: &BoxPlan, place: u32) -> &str {
+fn place_name(plan: &BoxPlan, place: u32) -> &str
+    ensures { result.now ≡ place_name plan.now place }
+{
     if (place as usize) < plan.places.len() {
         plan.places.name_of(place)
     } else {
@@ -31,10 +19,42 @@ fn place_name(plan: &BoxPlan, place: u32) -> &str {
     }
 }
 
+// Puts from where a signal leads, and where to.
+fn put_route(out: &mut String, plan: &BoxPlan, from: &str, to: To) -> Result<(), AllocError>
+    ensures { OnOk result (string_bytes out.new ≡ string_bytes out.old ++ route_text plan.now from.now to) }
+{
+    match to {
+        To::Place(place) => {
+            let name = place_name(plan, place);
+            write!(out, "{from} to {name}")
+        }
+        To::Section(way) => {
+            let way = way_word(way);
+            write!(out, "starter {way}, {from}")
+        }
+        To::Away => write!(out, "{from} away"),
+    }
+}
+
+// What the lever of a signal works.
+fn signal_text(alloc: Global, plan: &BoxPlan, lever: u32) -> Result<String, AllocError>
+    ensures { IfOk result (λ text. string_bytes text ≡ signal_text plan.now (signal_of plan.now lever)) }
+{
+    let mut text = String::new(alloc);
+    match plan.signal(lever) {
+        Some(signal) => put_route(&mut text, plan, place_name(plan, signal.from), signal.to)?,
+        None => text.push_str("signal")?,
+    }
+    Ok(text)
+}
+
 /// What a lever works, as `DB to DP`, `starter down, DP` or `points`.
-pub fn works(alloc: Global, plan: &BoxPlan, lever: Lever) -> Result<String, AllocError> {
+#[tactic(auto, unfolding(crate::specs::Levers::works))]
+pub fn works(alloc: Global, plan: &BoxPlan, lever: Lever) -> Result<String, AllocError>
+    ensures { IfOk result (λ text. string_bytes text ≡ works plan.now lever) }
+{
     match lever.kind {
-        Kind::Signal => signal_words(alloc, plan, lever.number),
+        Kind::Signal => signal_text(alloc, plan, lever.number),
         Kind::Distant => format!(in alloc; "distant"),
         Kind::Points => format!(in alloc; "points"),
         Kind::Lock => format!(in alloc; "facing point lock"),
@@ -42,7 +62,7 @@ pub fn works(alloc: Global, plan: &BoxPlan, lever: Lever) -> Result<String, Allo
     }
 }
 
-/// How many characters the longest words of what levers work have.
+/// How many characters the longest words of what levers work have, 200 at most.
 pub fn longest_words(alloc: Global, plan: &BoxPlan) -> Result<u32, AllocError> {
     let mut longest = 0;
     for lever in plan.levers.as_slice() {
