@@ -1,5 +1,6 @@
 -- The levers of a picture, as they are written.
-use Rattle.std.specs.Prelude.{ℕ, ◌+◌, List, ◌++◌, Option, Some, None, codes, decimal, slice_get, unwrap_or, []}
+use Rattle.std.specs.Prelude.{ℕ, ◌+◌, List, [], ◌∷◌, ◌++◌, Option, Some, None, codes, decimal, length, max, min}
+use Rattle.std.specs.Prelude.{slice_get, unwrap_or}
 use Rattle.std.specs.List.{flat_map}
 use Rattle.line_plan.specs.declared.frame.Kind.{Kind}
 use Rattle.line_plan.specs.declared.frame.Kind.TheVariants as kinds
@@ -43,6 +44,12 @@ works_of box_plan number kinds.Spare = codes "spare"
 
 unfoldable pub works : BoxFields → Lever → List ℕ
 works box_plan lever = works_of box_plan lever.number lever.kind
+
+-- how many characters the longest words have of what these levers work; 200 at most
+abbrev pub longest_words : BoxFields → List Lever → ℕ
+longest_words box_plan [] = 0
+longest_words box_plan (lever ∷ levers) =
+    max (min (length (works box_plan lever)) 200) (longest_words box_plan levers)
 
 -- ---- how a kind is known
 

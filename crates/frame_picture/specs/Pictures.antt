@@ -4,7 +4,7 @@ use Rattle.line_plan.specs.declared.frame.Kind.{Kind}
 use Rattle.line_plan.specs.declared.frame.Kind.TheVariants as kinds
 use Rattle.line_plan.specs.Frames.{BoxFields, frame_size}
 use Rattle.mark_up.specs.declared.attributes.Name.TheVariants as names
-use Rattle.mark_up.specs.Attributes.{ValueFields}
+use Rattle.mark_up.specs.Attributes.{ValueFields as Value}
 use Rattle.mark_up.specs.Tags.{prolog}
 use Rattle.mark_up.specs.declared.tags.Tag.TheVariants as tags
 use Rattle.mark_up.specs.Documents.{end_tag, start_tag}
@@ -15,7 +15,7 @@ use Rattle.frame_picture.specs.declared.picture.TheConstants.{STYLE}
 use Rattle.frame_picture.specs.declared.places.Layout.{Layout}
 use Rattle.frame_picture.specs.declared.scene.Scene.{Scene}
 use Rattle.frame_picture.specs.Channels.{bars_text, channels_text, dogs_text, rows_text, tappets_text}
-use Rattle.frame_picture.specs.Levers.{body_class, kind_letter, letter_class, levers_text}
+use Rattle.frame_picture.specs.Levers.{body_class, kind_letter, letter_class, levers_text, longest_words}
 use Rattle.frame_picture.specs.Places.{groove_length, height, point, rows_end, tappets_top, width}
 use Rattle.frame_picture.specs.Shapes.{rect_text, words_text}
 
@@ -26,7 +26,8 @@ picture_name box_plan = codes "Lever frame of " ++ box_plan.name
 -- how many rows and channels there are
 abbrev pub counts_text : Layout → List ℕ
 counts_text layout =
-    codes "rows of the locking table: " ++ decimal layout.rows ++ codes "; " ++ codes "channels: " ++ decimal layout.channels
+    codes "rows of the locking table: " ++ decimal layout.rows ++ codes "; " ++ codes "channels: "
+    ++ decimal layout.channels
 
 -- the title of a picture, and its style
 unfoldable pub title_text : List ℕ → List ℕ
@@ -88,16 +89,18 @@ view_text layout = codes "0 0 " ++ decimal (width layout) ++ codes " " ++ decima
 -- a picture of a width and a height begins, under a name and with a part that is seen
 unfoldable pub begun_text : ℕ → ℕ → List ℕ → List ℕ → List ℕ
 begun_text wide high name view = prolog tags.Svg ++ start_tag tags.Svg
-    ((names.Namespace, ValueFields.Text (codes "http://www.w3.org/2000/svg"))
-    ∷ (names.Width, ValueFields.Number wide) ∷ (names.Height, ValueFields.Number high)
-    ∷ (names.ViewBox, ValueFields.Text view) ∷ (names.Role, ValueFields.Text (codes "group"))
-    ∷ (names.Label, ValueFields.Text name) ∷ [])
+    ((names.Namespace, Value.Text (codes "http://www.w3.org/2000/svg"))
+    ∷ (names.Width, Value.Number wide) ∷ (names.Height, Value.Number high)
+    ∷ (names.ViewBox, Value.Text view) ∷ (names.Role, Value.Text (codes "group"))
+    ∷ (names.Label, Value.Text name) ∷ [])
 
--- the text is the picture of a box's scene, in a layout with room for all of its levers, channels and rows
+-- the text is the picture of a box's scene, laid out for its levers, channels and rows, and for what the levers
+-- work
 pub record IsPicture (box_plan : BoxFields) (scene : Scene) (text : List ℕ) : Type 0 where
   pub layout : Layout
   pub levers : layout.levers ≡ frame_size box_plan.levers
   pub channels : layout.channels ≡ scene.channels
   pub rows : layout.rows ≡ length box_plan.rows
+  pub longest : layout.longest ≡ longest_words box_plan box_plan.levers
   pub shape : text ≡ begun_text (width layout) (height layout) (picture_name box_plan) (view_text layout)
       ++ inner_text box_plan layout scene ++ end_tag tags.Svg

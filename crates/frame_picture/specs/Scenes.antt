@@ -1,8 +1,9 @@
 -- What a picture of a frame shows.
-use Rattle.std.specs.Prelude.{ℕ, List, [], ◌∷◌, ◌++◌, map, max, min}
+use Rattle.std.specs.Prelude.{ℕ, ◌+◌, ◌≤◌, ◌⊎◌, List, [], ◌∷◌, ◌++◌, map, max, min}
 use Rattle.bridle_frame.specs.declared.bridle.Bridle.{Bridle}
 use Rattle.bridle_frame.specs.declared.bridle.Dog.{Dog}
 use Rattle.frame_chart.specs.declared.charts.Chart.{Chart}
+use Rattle.frame_chart.specs.declared.span.Span.{Span}
 use Rattle.frame_chart.specs.Laying.{chart_of}
 use Rattle.frame_chart.specs.Printing.{bridles_of}
 use Rattle.line_plan.specs.declared.frame.Lever.{Lever}
@@ -10,6 +11,7 @@ use Rattle.line_plan.specs.Frames.{BoxFields}
 use Rattle.frame_picture.specs.declared.scene.Bar.{Bar}
 use Rattle.frame_picture.specs.declared.scene.LaidDog.{LaidDog}
 use Rattle.frame_picture.specs.declared.scene.Scene.{Scene}
+use Rattle.frame_picture.specs.Places.{column_of}
 
 -- a bar once these dogs are added: it reaches their levers too
 abbrev pub widened_bar : Bar → List Dog → Bar
@@ -62,3 +64,12 @@ scene_with levers bridles chart =
 -- what is shown of a box: its levers, and the bridles of its locking table in the fewest channels
 abbrev pub scene_of : BoxFields → Scene
 scene_of box_plan = scene_with box_plan.levers (bridles_of box_plan) (chart_of (bridles_of box_plan))
+
+-- the span of a bar
+abbrev pub span_of_bar : Bar → Span
+span_of_bar bar = record { lowest = bar.lowest; highest = bar.highest }
+
+-- one bar ends in a column before that in which the other begins
+abbrev pub AreBesideOneAnother : Bar → Bar → Type 0
+AreBesideOneAnother one other =
+    (column_of one.highest + 36 ≤ column_of other.lowest) ⊎ (column_of other.highest + 36 ≤ column_of one.lowest)

@@ -1,10 +1,10 @@
 //! The drawing of the locking chart, and of its rows as a list.
 
 ghost use Rattle.std.specs.Prelude.{◌≡◌, ◌+◌, ◌++◌, ◌<◌, ◌≤◌, ◌^◌, IfOk, OnOk, length, string_bytes};
-ghost use Rattle.frame_picture.specs.Channels.{bar_name, bar_text, bars_text, channel_text, channels_text, corner_text};
-ghost use Rattle.frame_picture.specs.Channels.{dog_text, dogs_text, notch_corners, notch_letter, notch_text, notches_text};
-ghost use Rattle.frame_picture.specs.Channels.{reach, row_line, rows_from, rows_head, rows_text, tappet_text, tappets_text};
-ghost use Rattle.frame_picture.specs.Channels.{wedge_corners, wedge_text};
+ghost use Rattle.frame_picture.specs.Channels.{bar_name, bar_text, bars_text, channel_text, channels_text};
+ghost use Rattle.frame_picture.specs.Channels.{corner_text, dog_text, dogs_text, notch_corners, notch_letter};
+ghost use Rattle.frame_picture.specs.Channels.{notch_text, notches_text, reach, row_line, rows_from, rows_head};
+ghost use Rattle.frame_picture.specs.Channels.{rows_text, tappet_text, tappets_text, wedge_corners, wedge_text};
 ghost use Rattle.locking_table.specs.Printing.{row_text};
 
 use crate::drawing::{Point, begin_group, put_line, put_number, put_polygon, put_rect, put_words};

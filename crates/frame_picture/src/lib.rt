@@ -7,10 +7,12 @@ mod chart_drawing;
 mod drawing;
 mod frame_drawing;
 mod key_drawing;
+mod laws;
 mod picture;
 mod places;
 mod scene;
 mod works;
 
+pub use laws::apart_law;
 pub use picture::{draw_scene, frame_picture};
 pub use scene::{Bar, LaidDog, Scene, scene_of};

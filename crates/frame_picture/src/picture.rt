@@ -1,6 +1,7 @@
 //! The picture of a frame.
 
 ghost use Rattle.std.specs.Prelude.{◌≡◌, ◌++◌, ◌∷◌, ◌<◌, [], IfOk, OnOk, length, string_bytes};
+ghost use Rattle.frame_picture.specs.Levers.{longest_words};
 ghost use Rattle.frame_picture.specs.Pictures.{IsPicture, begun_text, chart_text, counts_text, head_text, inner_text};
 ghost use Rattle.frame_picture.specs.Pictures.{picture_name, title_text, view_text};
 ghost use Rattle.frame_picture.specs.Places.{height, width};
@@ -43,6 +44,7 @@ fn layout_of(alloc: Global, plan: &BoxPlan, scene: &Scene) -> Result<Layout, All
     ensures levers { IfOk result (λ layout. layout.levers ≡ frame_size plan.now.levers) }
     ensures channels { IfOk result (λ layout. layout.channels ≡ scene.now.channels) }
     ensures rows { IfOk result (λ layout. layout.rows ≡ length plan.now.rows) }
+    ensures longest { IfOk result (λ layout. layout.longest ≡ longest_words plan.now plan.now.levers) }
 {
     Ok(Layout {
         levers: plan.frame_size(),

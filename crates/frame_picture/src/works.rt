@@ -1,7 +1,7 @@
 //! What a lever works, in words.
 
 ghost use Rattle.std.specs.Prelude.{◌≡◌, ◌++◌, IfOk, OnOk, string_bytes};
-ghost use Rattle.frame_picture.specs.Levers.{place_name, route_text, signal_text, works};
+ghost use Rattle.frame_picture.specs.Levers.{longest_words, place_name, route_text, signal_text, works};
 ghost use Rattle.line_plan.specs.Frames.{signal_of};
 
 use line_plan::{BoxPlan, Kind, Lever, To, way_word};
@@ -62,12 +62,14 @@ pub fn works(alloc: Global, plan: &BoxPlan, lever: Lever) -> Result<String, Allo
     }
 }
 
-/// How many characters the longest words of what levers work have, 200 at most.
-pub fn longest_words(alloc: Global, plan: &BoxPlan) -> Result<u32, AllocError> {
-    let mut longest = 0;
+/// How many characters the longest words have of what a box's levers work; 200 at most.
+pub fn longest_words(alloc: Global, plan: &BoxPlan) -> Result<u32, AllocError>
+    ensures { IfOk result (λ longest. longest ≡ longest_words plan.now plan.now.levers) }
+{
+    let mut longest: u32 = 0;
     for lever in plan.levers.as_slice() {
         let words = works(alloc, plan, *lever)?;
-        longest = words.len().min(200).max(longest);
+        longest = longest.max(words.len().min(200) as u32);
     }
-    Ok(longest as u32)
+    Ok(longest)
 }

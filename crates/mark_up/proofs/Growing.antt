@@ -1,5 +1,6 @@
 -- How a page grows.
-use Rattle.std.proofs.Common.{◌≡◌, ◌<◌, ◌∙◌, ℕ, List, [], ◌∷◌, ◌++◌, IsTrue, length, reverse, subst, sym, refl, ap, arith}
+use Rattle.std.proofs.Common.{◌≡◌, ◌<◌, ◌∙◌, ℕ, List, [], ◌∷◌, ◌++◌, IsTrue, length}
+use Rattle.std.proofs.Common.{reverse, subst, sym, refl, ap, arith}
 use Rattle.std.proofs.Common.{◌-◌, append_assoc, append-nil, get_or, suc, take, take-suc}
 use Rattle.std.proofs.lemmas.List.{length-reverse, reverse-append, take_all}
 use Rattle.mark_up.specs.declared.tags.Tag.{Tag}

@@ -65,7 +65,8 @@ value_text (ValueFields.Text text) = quoted text
 
 -- an attribute behind a space
 unfoldable pub attribute_text : AttributeFields → List ℕ
-attribute_text attribute = codes " " ++ attribute_name attribute.0 ++ codes "=\"" ++ value_text attribute.1 ++ codes "\""
+attribute_text attribute =
+    codes " " ++ attribute_name attribute.0 ++ codes "=\"" ++ value_text attribute.1 ++ codes "\""
 
 -- an attribute of this name is among them
 abbrev pub has_name : List ℕ → List AttributeFields → Bool

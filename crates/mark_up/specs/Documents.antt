@@ -21,8 +21,8 @@ empty_tag tag attributes = codes "<" ++ empty_name tag ++ flat_map attribute_tex
 
 -- ---- documents
 
--- the content of an element: text, escaped, and elements, each with its content between its start tag and its end tag or
--- written as an empty-element tag; no tag has two attributes of one name
+-- the content of an element: text, escaped, and elements, each with its content between its start tag and its end tag
+-- or written as an empty-element tag; no tag has two attributes of one name
 pub data IsContent : List ℕ → Type 0 where
   Nothing : IsContent []
   Text : (before text : List ℕ) → IsContent before → IsContent (before ++ escaped text)

@@ -100,7 +100,8 @@ fn put_value(out: &mut String, value: Value<'_>) -> Result<(), AllocError>
 
 #[tactic(auto, unfolding(crate::specs::Attributes::attribute_text))]
 fn put_attribute(out: &mut String, attribute: &Attribute<'_>) -> Result<(), AllocError>
-    ensures { OnOk result (string_bytes out.new ≡ string_bytes out.old ++ attribute_text (attribute.now.0, told_value attribute.now.1)) }
+    ensures { OnOk result (string_bytes out.new
+        ≡ string_bytes out.old ++ attribute_text (attribute.now.0, told_value attribute.now.1)) }
 {
     let (name, value) = *attribute;
     out.push_str(" ")?;
@@ -112,7 +113,8 @@ fn put_attribute(out: &mut String, attribute: &Attribute<'_>) -> Result<(), Allo
 
 /// Puts attributes behind a text.
 pub fn put_attributes(out: &mut String, attributes: &[Attribute<'_>]) -> Result<(), AllocError>
-    ensures { OnOk result (string_bytes out.new ≡ string_bytes out.old ++ flat_map attribute_text (told attributes.now)) }
+    ensures { OnOk result (string_bytes out.new
+        ≡ string_bytes out.old ++ flat_map attribute_text (told attributes.now)) }
 {
     for attribute in attributes {
         put_attribute(out, attribute)?;

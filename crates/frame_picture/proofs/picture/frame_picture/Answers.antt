@@ -16,4 +16,5 @@ returns-clause-picture c =
     c.index-as_slice-box_no.is ∙ (ap (λ (boxes : List BoxFields). get_or boxes c.args.box_no its) same
     ∙ get_or_default _ _ _ _ c.requires) in
     let IsIts : BoxFields → Type 0 = λ box_plan. IsPicture box_plan (scene_of box_plan) text in
-    subst IsIts here (subst (λ scene. IsPicture its scene text) c.in_ok-scene.ensures.scene c.in_ok-draw_scene.ensures.picture)
+    subst IsIts here (subst (λ scene. IsPicture its scene text) c.in_ok-scene.ensures.scene
+    c.in_ok-draw_scene.ensures.picture)
