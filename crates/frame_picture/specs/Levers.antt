@@ -90,7 +90,7 @@ lever_shapes lever words corner =
     upright_text (codes "small") (point (corner.x + 21) corner.y) words
     ++ rect_text (codes "handle") (point (corner.x + 15) (corner.y + 8)) 6 30
     ++ rect_text (body_class lever.kind) (point (corner.x + 9) (corner.y + 34)) 18 86
-    ++ rect_text (codes "plate") (point (corner.x + 7) (corner.y + 50)) 22 16
+    ++ rect_text (codes "plate") (point (corner.x + 5) (corner.y + 50)) 26 16
     ++ number_text (codes "mid dark") (point (corner.x + 18) (corner.y + 62)) lever.number
     ++ words_text (letter_class lever.kind) (point (corner.x + 18) (corner.y + 88)) (kind_letter lever.kind)
 

@@ -80,7 +80,7 @@ fn put_lever_shapes(
         18,
         86,
     )?;
-    put_rect(page, "plate", Point::new(x + 7, y + 50), 22, 16)?;
+    put_rect(page, "plate", Point::new(x + 5, y + 50), 26, 16)?;
     put_number(
         page,
         alloc,

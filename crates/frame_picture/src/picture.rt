@@ -28,7 +28,8 @@ use std::fmt::Write;
 const STYLE: &str = "text{font-family:'DejaVu Sans',Verdana,sans-serif;fill:#1c1c1c}\
 .paper{fill:#ffffff}.head{font-size:20px;font-weight:bold}.sub{font-size:13px}.small{font-size:10px}\
 .mid{font-size:11px;font-weight:bold;text-anchor:middle}.row{font-size:11px}.tiny{font-size:7px}\
-.end{text-anchor:end}.letter{font-size:8px;font-weight:bold;text-anchor:middle;fill:#ffffff}\
+.end{text-anchor:end}.small,.row,.tiny{font-family:'DejaVu Sans Mono','Liberation Mono','Courier New',monospace}\
+.letter{font-size:8px;font-weight:bold;text-anchor:middle;fill:#ffffff}\
 .bright{fill:#ffffff}.dark{fill:#1c1c1c}.handle{fill:#b9bec4;stroke:#6b7178}\
 .lever{stroke:#6b7178;stroke-width:1.5}.stop{fill:#c0122b}.distant{fill:#ffd21f}.points{fill:#1c1c1c}\
 .lock{fill:#1f5fc4}.spare{fill:#ffffff}.plate{fill:#ffffff;stroke:#6b7178}.floor{fill:#6b7178}\
