@@ -10,6 +10,6 @@ mod trouble;
 
 pub use fetching::fetch_text;
 pub use gathering::{RunTexts, fetch_run};
-pub use others::{OthersTexts, fetch_others};
+pub use others::{OthersTexts, fetch_box, fetch_others};
 pub use shelf::ReasonedShelf;
 pub use trouble::{Trouble, trouble_with};

@@ -49,6 +49,37 @@ fn box_named(plan: &Plan, name: &str) -> Option<u32>
     plan.box_names.number_of_word(name.as_bytes())
 }
 
+// The plan has no box of this name.
+fn no_such_box(alloc: Global, name: &str) -> Trouble
+    ensures { (held : Held) → IsExplainedByName held result }
+{
+    trouble_with(alloc, name, "the plan has no box of this name")
+}
+
+/// The plan of this name, and the number of its box of that name.
+pub fn fetch_box<S: ReasonedShelf>(
+    alloc: Global,
+    shelf: &mut S,
+    plan_name: &str,
+    box_name: &str,
+) -> Result<(Plan, u32), Trouble>
+    ensures plan { IfOk result (λ found. IsGiven found.0 (plan_told (S.held shelf.old) plan_name.now)) }
+    ensures at { IfOk result (λ found. found.1 < length found.0.boxes) }
+    ensures named { IfOk result
+        (λ found. position (bytes_eq box_name.now) (names_of found.0.boxes) ≡ Some found.1) }
+    ensures explained { IfErr result (IsExplainedByName (S.held shelf.old)) }
+    ensures same { (n : List ℕ) → S.held shelf.new n ≡ S.held shelf.old n }
+{
+    let plan = fetch_plan(alloc, shelf, plan_name)?;
+    match box_named(&plan, box_name) {
+        Some(box_no) => Ok((plan, box_no)),
+        None => {
+            drop(plan);
+            Err(no_such_box(alloc, box_name))
+        }
+    }
+}
+
 // The script of a box: that of box `own` is empty, and any other is fetched.
 fn script_of_box<S: ReasonedShelf>(
     alloc: Global,
@@ -111,7 +142,7 @@ fn own_box(alloc: Global, plan: &Plan, name: &str, count: usize) -> Result<u32, 
     ensures explained { (held : Held) → IfErr result (IsExplainedByName held) }
 {
     let Some(own) = box_named(plan, name) else {
-        return Err(trouble_with(alloc, name, "the plan has no box of this name"));
+        return Err(no_such_box(alloc, name));
     };
     if plan.boxes.len() - 1 != count {
         return Err(trouble_with(

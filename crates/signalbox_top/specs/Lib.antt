@@ -2,3 +2,4 @@ pub mod Top
 pub mod Told
 pub mod Rehearsing
 pub mod Hand
+pub mod Framing

@@ -22,6 +22,7 @@ use Rattle.text_fetch.specs.Runs.{Run, run_told}
 use Rattle.explained_texts.specs.Gathered.{AreTextsOf}
 use Rattle.signalbox_words.specs.Commands.{Command, Rehearsing, command_of}
 use Rattle.signalbox_words.specs.Table.{program}
+use Rattle.signalbox_top.specs.Framing.{IsFrameOf}
 use Rattle.signalbox_top.specs.declared.status.Status.{Status}
 use Rattle.signalbox_top.specs.declared.status.Status.TheVariants as statuses
 use Rattle.tidy_text.specs.Tidy.{tidy_text}
@@ -86,7 +87,8 @@ pub record IsAnswered (held : Held) (wanted : Rehearsing) (text : List ℕ) (sta
 -- ---- any command
 
 -- what is taken, and the status, where a command is done: of a tidying the text under the name with its form mended;
--- of a rehearsal what comes of it; what is taken of a box worked by hand is told by IsHandWorked
+-- of a rehearsal what comes of it; of a frame its picture; what is taken of a box worked by hand is told by
+-- IsHandWorked
 abbrev pub Headline : Held → Option Command → Status → Option (List ℕ) → Option (List ℕ) → Type 0
 Headline held None status old new = Unit {0}
 Headline held (Some (Command.Tidy file)) status old new =
@@ -94,6 +96,8 @@ Headline held (Some (Command.Tidy file)) status old new =
 Headline held (Some (Command.Rehearse wanted)) status old new =
     (text : List ℕ) × IsAnswered held wanted text status × (new ≡ appended old text)
 Headline held (Some (Command.Work wanted)) status old new = status ≡ statuses.Done
+Headline held (Some (Command.Frame plan box_name)) status old new =
+    (text : List ℕ) × IsFrameOf held plan box_name text × (new ≡ appended old text) × (status ≡ statuses.Done)
 
 -- nothing was taken, or the front part of a text
 abbrev pub TakesFront : Option (List ℕ) → Option (List ℕ) → Type 0

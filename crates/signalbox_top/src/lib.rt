@@ -3,6 +3,7 @@
 
 mod answering;
 mod files;
+mod framing;
 mod hand;
 mod rehearsing;
 mod status;

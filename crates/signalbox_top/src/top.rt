@@ -7,6 +7,7 @@ ghost use Rattle.signalbox_top.specs.Top.{Headline, TakesFront, asked};
 ghost use Rattle.signalbox_top.specs.Told.{FaultIsTold, TellsWhy};
 
 use crate::answering::{put_result, tell};
+use crate::framing::serve_frame;
 use crate::hand::{HandWanted, serve_work};
 use crate::rehearsing::{Wanted, serve_rehearse};
 use crate::status::Status;
@@ -43,6 +44,9 @@ fn serve<S: ReasonedShelf, N: LineSource, W: Store, K: Sink, L: Sink>(
 {
     match command {
         SignalboxCommand::Tidy { file } => serve_tidy(alloc, file, shelf, out, told),
+        SignalboxCommand::Frame { plan, box_name } => {
+            serve_frame(alloc, plan, box_name, shelf, out, told)
+        }
         SignalboxCommand::Rehearse {
             to_refusal,
             as_journal,
@@ -95,6 +99,7 @@ fn serve<S: ReasonedShelf, N: LineSource, W: Store, K: Sink, L: Sink>(
 /// they are echoed; with `--hint` it is told what is due; with `--screen` the box is drawn anew behind each line that
 /// is typed; with `--plain` a terminal's colours aren't shown; with `--journal FILE` and `--script FILE` the journal
 /// and his calls are written to `store`. His prompts go to `told`.
+/// `frame PLAN BOX` puts a picture of the lever frame of that box.
 /// `--help`, `help COMMAND` and `--version` put what they ask for, as results.
 ///
 /// - `Done`: it is done, and nothing was found.

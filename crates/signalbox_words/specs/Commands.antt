@@ -33,11 +33,13 @@ pub record Working : Type 0 where
   pub script : Option (List ℕ)
 
 -- Tidy: a text is printed with its form mended; Rehearse: a plan's line is rehearsed by the scripts of its boxes; Work:
--- one of its boxes is worked by hand.
+-- one of its boxes is worked by hand; Frame: the lever frame of one of its boxes is drawn, a plan and a box by their
+-- names.
 pub data Command : Type 0 where
   Tidy : List ℕ → Command
   Rehearse : Rehearsing → Command
   Work : Working → Command
+  Frame : List ℕ → List ℕ → Command
 
 -- the command with the names as their bytes
 abbrev pub shown : SignalboxCommand → Command
@@ -60,6 +62,7 @@ shown (commands.Work hint plain screen plan box_name scripts journal script) =
       journal = option_map (λ name. name.now) journal;
       script = option_map (λ name. name.now) script;
     })
+shown (commands.Frame plan box_name) = Command.Frame plan.now box_name.now
 
 -- words as their bytes
 abbrev pub bytes_of : List (String Global) → List Text
@@ -123,12 +126,23 @@ working_with rows names =
 abbrev pub work_read : List Row → Option Command
 work_read rows = option_map (working_with rows) (line_read rows)
 
+-- the frame of a box of these names
+abbrev pub frame_with : Option Text → Option Text → Option Command
+frame_with None box_name = None
+frame_with (Some plan) None = None
+frame_with (Some plan) (Some box_name) = Some (Command.Frame plan box_name)
+
+-- `frame PLAN BOX`
+abbrev pub frame_read : List Row → Option Command
+frame_read rows = frame_with (first_of (codes "plan") rows) (first_of (codes "box") rows)
+
 -- a command, by its name and the values that clap found
 abbrev pub command_read : Text → List Row → Option Command
 command_read name rows =
     if bytes_eq name (codes "tidy") then option_map Command.Tidy (first_of (codes "file") rows)
     else if bytes_eq name (codes "rehearse") then rehearse_read rows
     else if bytes_eq name (codes "work") then work_read rows
+    else if bytes_eq name (codes "frame") then frame_read rows
     else None
 
 -- the command of these words, as clap reads them by the table of commands

@@ -74,6 +74,14 @@ box_form = with_rule line_form (required_argument (codes "box"))
 abbrev pub work_command : App
 work_command = with_rule box_form (repeated_argument (codes "others"))
 
+-- `frame PLAN`
+abbrev pub drawn_form : App
+drawn_form = with_rule (new_app (codes "frame")) (required_argument (codes "plan"))
+
+-- `frame PLAN BOX`
+abbrev pub frame_command : App
+frame_command = with_rule drawn_form (required_argument (codes "box"))
+
 -- the program with no command; clap is given its words without its own name in front
 abbrev pub bare_program : App
 bare_program = record (new_app (codes "signalbox")) {
@@ -85,8 +93,11 @@ bare_program = record (new_app (codes "signalbox")) {
   };
 }
 
+-- the program with the commands that work a line
+abbrev pub line_program : App
+line_program = with_subcommand (with_subcommand bare_program rehearse_command.top) work_command.top
+
 -- the program with all its commands
 abbrev pub program : App
 program =
-    with_subcommand (with_subcommand (with_subcommand bare_program rehearse_command.top) work_command.top)
-    tidy_command.top
+    with_subcommand (with_subcommand line_program frame_command.top) tidy_command.top

@@ -4,8 +4,8 @@ ghost use Rattle.std.specs.Prelude.{◌≡◌, IfOk, codes, map};
 ghost use Rattle.std.specs.Option.{option_map};
 ghost use Rattle.clap.specs.Words.{first_of, found_of, rows_of};
 ghost use Rattle.clap.specs.Values.{kind_of};
-ghost use Rattle.signalbox_words.specs.Commands.{AreRead, Command, TellsFault, bytes_of, command_read, is_given};
-ghost use Rattle.signalbox_words.specs.Commands.{line_read, names_read, rehearsal_with, rehearse_read, shown};
+ghost use Rattle.signalbox_words.specs.Commands.{AreRead, Command, TellsFault, bytes_of, command_read, frame_read};
+ghost use Rattle.signalbox_words.specs.Commands.{is_given, line_read, names_read, rehearsal_with, rehearse_read, shown};
 ghost use Rattle.signalbox_words.specs.Commands.{work_read, working_with};
 
 use crate::table::program;
@@ -48,6 +48,12 @@ pub enum SignalboxCommand<'a> {
         journal: Option<&'a str>,
         /// The file to which his calls are written as a script.
         script: Option<&'a str>,
+    },
+    /// `frame PLAN BOX`: the lever frame of a box is drawn.
+    Frame {
+        plan: &'a str,
+        /// The name of the box.
+        box_name: &'a str,
     },
 }
 
@@ -190,6 +196,17 @@ fn read_work<'a>(
     }
 }
 
+// The plan and the box of `frame`.
+#[tactic(auto, using(crate::proofs::MatchRules::match_rules))]
+fn read_frame<'a>(found: &ArgMatches<'a>) -> Option<SignalboxCommand<'a>>
+    ensures { option_map shown result ≡ frame_read (rows_of (found_of found.now)) }
+{
+    let (Some(plan), Some(box_name)) = (found.get_str("plan"), found.get_str("box")) else {
+        return None;
+    };
+    Some(SignalboxCommand::Frame { plan, box_name })
+}
+
 // A command, by its name and what clap found.
 fn read_command<'a>(
     alloc: Global,
@@ -203,6 +220,7 @@ fn read_command<'a>(
         "tidy" => Ok(read_tidy(found)),
         "rehearse" => read_rehearse(alloc, found),
         "work" => read_work(alloc, found),
+        "frame" => Ok(read_frame(found)),
         _ => Ok(None),
     }
 }

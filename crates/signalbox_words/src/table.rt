@@ -3,10 +3,11 @@
 ghost use Rattle.std.specs.Prelude.{◌≡◌, false, IfOk};
 ghost use Rattle.clap.specs.Words.{app_of, rule_of};
 ghost use Rattle.clap.specs.declared.builder.command.Command.TheViews.{out-Command};
-ghost use Rattle.signalbox_words.specs.Table.{bare_program, box_form, file_option, files_form, flag, flags_form};
-ghost use Rattle.signalbox_words.specs.Table.{hint_form, journal_form, line_form, plain_form, plan_form, program};
-ghost use Rattle.signalbox_words.specs.Table.{rehearse_command, repeated_argument, required_argument, screen_form};
-ghost use Rattle.signalbox_words.specs.Table.{tidy_command, to_refusal_form, work_command};
+ghost use Rattle.signalbox_words.specs.Table.{bare_program, box_form, drawn_form, file_option, files_form};
+ghost use Rattle.signalbox_words.specs.Table.{flag, flags_form, frame_command, hint_form, journal_form};
+ghost use Rattle.signalbox_words.specs.Table.{line_form, line_program, plain_form, plan_form, program};
+ghost use Rattle.signalbox_words.specs.Table.{rehearse_command, repeated_argument, required_argument};
+ghost use Rattle.signalbox_words.specs.Table.{screen_form, tidy_command, to_refusal_form, work_command};
 
 use clap::{Arg, ArgAction, Command};
 use std::alloc::{AllocError, Global};
@@ -68,6 +69,16 @@ const OTHERS_HELP: &str = "The scripts of the other boxes, in their order";
 const SAVED_JOURNAL_HELP: &str = "Writes the journal of the line to FILE, for `box_main judge`";
 
 const SAVED_SCRIPT_HELP: &str = "Writes your calls to FILE as a script";
+
+const FRAME_ABOUT: &str = "Draws the lever frame of a box, with its locking, as an SVG picture";
+
+const FRAME_AFTER: &str = "\
+The levers stand in their colours, with their numbers and what they work; under them the locking chart with the fewest
+channels: tappets as columns, bridles as bars, each with its row of the locking table.
+
+    signalbox frame valley.plan Oak > oak.svg";
+
+const DRAWN_BOX_HELP: &str = "The name of the box";
 
 // An argument that is required.
 fn required_argument<'a>(alloc: Global, id: &'a str, name: &'a str, help: &'a str) -> Arg<'a>
@@ -209,6 +220,25 @@ fn work_command<'a>(alloc: Global) -> Result<Command<'a>, AllocError>
     box_form(alloc)?.arg(repeated_argument(alloc, "others", "SCRIPT", OTHERS_HELP))
 }
 
+// `frame PLAN`
+fn drawn_form<'a>(alloc: Global) -> Result<Command<'a>, AllocError>
+    ensures shape { IfOk result (λ c. app_of c ≡ drawn_form) }
+    ensures own { IfOk result (λ c. (out-Command c).has_globals ≡ false) }
+{
+    Command::new(alloc, "frame")
+        .about(FRAME_ABOUT)
+        .after_help(FRAME_AFTER)
+        .arg(required_argument(alloc, "plan", "PLAN", PLAN_HELP))
+}
+
+// `frame PLAN BOX`
+fn frame_command<'a>(alloc: Global) -> Result<Command<'a>, AllocError>
+    ensures shape { IfOk result (λ c. app_of c ≡ frame_command) }
+    ensures own { IfOk result (λ c. (out-Command c).has_globals ≡ false) }
+{
+    drawn_form(alloc)?.arg(required_argument(alloc, "box", "BOX", DRAWN_BOX_HELP))
+}
+
 // `tidy FILE`
 fn tidy_command<'a>(alloc: Global) -> Result<Command<'a>, AllocError>
     ensures shape { IfOk result (λ c. app_of c ≡ tidy_command) }
@@ -234,15 +264,20 @@ fn bare_program<'a>(alloc: Global) -> Result<Command<'a>, AllocError>
         .bin_name("signalbox")
 }
 
+// The program with the commands that work a line.
+fn line_program<'a>(alloc: Global) -> Result<Command<'a>, AllocError>
+    ensures { IfOk result (λ c. app_of c ≡ line_program) }
+{
+    let rehearse = rehearse_command(alloc)?;
+    let work = work_command(alloc)?;
+    bare_program(alloc)?.subcommand(rehearse)?.subcommand(work)
+}
+
 /// The program with all its commands.
 pub(crate) fn program<'a>(alloc: Global) -> Result<Command<'a>, AllocError>
     ensures { IfOk result (λ c. app_of c ≡ program) }
 {
-    let rehearse = rehearse_command(alloc)?;
-    let work = work_command(alloc)?;
+    let frame = frame_command(alloc)?;
     let tidy = tidy_command(alloc)?;
-    bare_program(alloc)?
-        .subcommand(rehearse)?
-        .subcommand(work)?
-        .subcommand(tidy)
+    line_program(alloc)?.subcommand(frame)?.subcommand(tidy)
 }
