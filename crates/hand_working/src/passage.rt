@@ -6,7 +6,7 @@ ghost use Rattle.line_law.specs.declared.call.Call.{Call};
 ghost use Rattle.line_law.specs.Known.{KnowsCall, moments_of};
 ghost use Rattle.script_text.specs.Entries.{IsSpelled};
 ghost use Rattle.line_plan.specs.Plans.{box_at as box_plan_at};
-ghost use Rattle.typed_words.specs.Typed.{TypedLine, shown};
+ghost use Rattle.typed_words.specs.Typed.{TypedLine, line_read, shown};
 ghost use Rattle.box_view.specs.Look.{look_text};
 ghost use Rattle.box_view.specs.Moves.{TellsMoves};
 ghost use Rattle.hand_working.specs.Duties.{after_typed, doings_of, post_of, state_at};
@@ -297,6 +297,8 @@ pub(crate) fn serve_line<W: Store>(
         ≡ after_line (post_of duty.old) (doings_of duty.old) line.now) }
     ensures told { IfOk result (λ passage. IsPassage manner (post_of duty.old) (doings_of duty.old) line.now
         (string_bytes passage.text)) }
+    ensures ends { IfOk result (λ passage. passage.ends ≡ is_end (line_read duty.old.session.plan
+        duty.old.session.box_no duty.old.moment line.now)) }
 {
     let session = duty.session();
     session.meets_conditions();

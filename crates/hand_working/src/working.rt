@@ -1,9 +1,10 @@
 //! A man works his box: he types lines, and each is answered.
 
-ghost use Rattle.std.specs.Prelude.{◌≡◌, ◌<◌, ◌≤◌, IfOk, length};
+ghost use Rattle.std.specs.Prelude.{◌≡◌, ◌<◌, ◌≤◌, IfOk, length, not, true};
 ghost use Rattle.hand_working.specs.Duties.{doings_of, post_of};
-ghost use Rattle.hand_working.specs.Passages.{after_line};
-ghost use Rattle.hand_working.specs.Works.{AreLines, Grows, IsWorked, PutsPassage};
+ghost use Rattle.typed_words.specs.Typed.{line_read};
+ghost use Rattle.hand_working.specs.Passages.{after_line, is_end};
+ghost use Rattle.hand_working.specs.Works.{AreLines, AreOnward, Grows, IsWorked, PutsPassage};
 ghost use Rattle.rail_text.specs.Bytes.{appended};
 
 use crate::duty::Duty;
@@ -122,6 +123,8 @@ fn answer_line<W: Store, K: Sink, L: Sink>(
         ≡ after_line (post_of duty.old) (doings_of duty.old) line.now) }
     ensures put { IfOk result (λ _. PutsPassage manner (post_of duty.old) (doings_of duty.old) line.now
         (K.taken out.old) (K.taken out.new)) }
+    ensures onward { IfOk result (λ more. more ≡ not (is_end (line_read duty.old.session.plan
+        duty.old.session.box_no duty.old.moment line.now))) }
     ensures grows { Grows (K.taken out.old) (K.taken out.new) }
     ensures told { Grows (L.taken told.old) (L.taken told.new) }
     ensures later { L.faults told.old ≤ L.faults told.new }
@@ -145,6 +148,8 @@ fn work_line<N: LineSource, W: Store, K: Sink, L: Sink>(
     requires room { length duty.old.session.calls < MOST_MADE }
     ensures post { post_of duty.new ≡ post_of duty.old }
     ensures lines { IfOk result (λ _. AreLines manner (post_of duty.old) (doings_of duty.old)
+        (doings_of duty.new) (N.given source.old) (N.given source.new) (K.taken out.old) (K.taken out.new)) }
+    ensures onward { IfOk result (λ more. more ≡ true → AreOnward manner (post_of duty.old) (doings_of duty.old)
         (doings_of duty.new) (N.given source.old) (N.given source.new) (K.taken out.old) (K.taken out.new)) }
     ensures grows { Grows (K.taken out.old) (K.taken out.new) }
     ensures told { Grows (L.taken told.old) (L.taken told.new) }

@@ -1,5 +1,5 @@
-use Rattle.std.proofs.Common.{arith, ◌∙◌}
-use Rattle.hand_working.proofs.Transcripts.{grows_more, lines_onward}
+use Rattle.std.proofs.Common.{arith, refl, rules, ◌∙◌}
+use Rattle.hand_working.proofs.Transcripts.{grows_more, grows_none, lines_onward, onward_none, onward_then}
 use Rattle.hand_working.proofs.working.work_lines.Goals as goal
 
 pub returns-in_err-work_line-clause-grows : goal.returns-in_err-work_line-clause-grows
@@ -30,8 +30,8 @@ pub loop-preserved : goal.loop-preserved
 loop-preserved g c = record {
   post = c.work_line.ensures.post ∙ c.loop.invariant.post;
   lines =
-      lines_onward _ _ _ _ _ _ _ _ _ _ _ _ c.loop.invariant.post c.loop.invariant.lines
-      c.in_ok-work_line.ensures.lines;
+      onward_then _ _ _ _ _ _ _ _ _ _ _ _ c.loop.invariant.post c.loop.invariant.lines
+      (c.in_ok-work_line.ensures.onward (search rules));
   grows =
       grows_more (g.K.Sink.taken c.args.out.now) (g.K.Sink.taken c.loop.out) (g.K.Sink.taken c.work_line.new.out)
       c.loop.invariant.grows c.work_line.ensures.grows;
@@ -39,4 +39,13 @@ loop-preserved g c = record {
       grows_more (g.L.Sink.taken c.args.told.now) (g.L.Sink.taken c.loop.told) (g.L.Sink.taken c.work_line.new.told)
       c.loop.invariant.told c.work_line.ensures.told;
   later = omega (arith, c.loop.invariant.later, c.work_line.ensures.later);
+}
+
+pub loop-init : goal.loop-init
+loop-init g c = record {
+  post = refl;
+  lines = onward_none _ _ _ _ _;
+  grows = grows_none _;
+  told = grows_none _;
+  later = omega arith;
 }
