@@ -148,7 +148,7 @@ impl DeskLine {
             return None;
         }
         let (worked, by_law) = self.perform(plan, box_no, call);
-        if !worked.reply.is(&by_law) {
+        if !worked.reply.is_same(&by_law) {
             return None;
         }
         Some(worked)
@@ -160,7 +160,7 @@ impl DeskLine {
         ensures { IsWorked plan.now self.new }
     {
         match self.call(plan, entry.box_no, &entry.call) {
-            Some(worked) => worked.reply.is(&entry.reply),
+            Some(worked) => worked.reply.is_same(&entry.reply),
             None => false,
         }
     }

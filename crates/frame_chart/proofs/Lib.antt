@@ -8,3 +8,4 @@ pub mod Counts
 pub mod Layouts
 pub mod Columns
 pub mod Orders
+pub mod Lengths

@@ -18,4 +18,4 @@ pub use charting::chart;
 pub use charts::Chart;
 pub use checking::chart_holds;
 pub use laws::{rule_leaves_one_layout, shown_chart_has_fewest};
-pub use printing::{print_box_chart, print_chart};
+pub use printing::{bridles_of, print_box_chart, print_chart};

@@ -191,9 +191,11 @@ fn table_fits(table: &Table)
     let _rows = table.rows();
 }
 
-// The bridles of a locking table.
-fn bridles_of(alloc: Global, table: &Table) -> Result<Vec<Bridle>, NoMemory>
+/// The bridles of a locking table: one for each row, in order, which fit a frame of the most levers.
+#[tactic(auto, using(crate::proofs::Lengths::length_compiled))]
+pub fn bridles_of(alloc: Global, table: &Table) -> Result<Vec<Bridle>, NoMemory>
     ensures bridles { IfOk result (λ bridles. bridles.items ≡ compiled 1 table.now) }
+    ensures each { IfOk result (λ bridles. length bridles.items ≡ length table.now) }
     ensures few { IfOk result (λ bridles. length bridles.items < 2 ^ 32) }
     ensures fits { IfOk result (λ bridles. All (BridleFits most_levers) bridles.items) }
 {

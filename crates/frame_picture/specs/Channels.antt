@@ -8,13 +8,13 @@ use Rattle.locking_table.specs.declared.row.Row.{Row}
 use Rattle.locking_table.specs.Printing.{row_text}
 use Rattle.mark_up.specs.declared.tags.Tag.TheVariants as tags
 use Rattle.mark_up.specs.Documents.{end_tag}
-use Rattle.frame_picture.specs.declared.drawing.Point.{Point}
+use Rattle.picture_shapes.specs.declared.shapes.Point.{Point}
 use Rattle.frame_picture.specs.declared.places.Layout.{Layout}
 use Rattle.frame_picture.specs.declared.scene.Bar.{Bar}
 use Rattle.frame_picture.specs.declared.scene.LaidDog.{LaidDog}
 use Rattle.frame_picture.specs.Places.{channel_at, chart_end, column_of, groove_length, point, row_lines, rows_top}
 use Rattle.frame_picture.specs.Places.{tappet_length, tappets_top}
-use Rattle.frame_picture.specs.Shapes.{group_start, line_text, number_text, polygon_text, rect_text, words_text}
+use Rattle.picture_shapes.specs.Shapes.{group_start, line_text, number_text, polygon_text, rect_text, words_text}
 
 -- ---- channels and tappets
 

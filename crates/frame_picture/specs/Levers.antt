@@ -12,10 +12,10 @@ use Rattle.line_plan.specs.Frames.{BoxFields, signal_of}
 use Rattle.line_plan.specs.Ways.{way_word}
 use Rattle.mark_up.specs.declared.tags.Tag.TheVariants as tags
 use Rattle.mark_up.specs.Documents.{end_tag}
-use Rattle.frame_picture.specs.declared.drawing.Point.{Point}
+use Rattle.picture_shapes.specs.declared.shapes.Point.{Point}
 use Rattle.frame_picture.specs.declared.places.Layout.{Layout}
 use Rattle.frame_picture.specs.Places.{column_of, levers_top, point}
-use Rattle.frame_picture.specs.Shapes.{group_start, number_text, rect_text, upright_text, words_text}
+use Rattle.picture_shapes.specs.Shapes.{group_start, number_text, rect_text, upright_text, words_text}
 
 -- ---- what a lever works
 

@@ -1,6 +1,5 @@
 pub mod Scenes
 pub mod Places
-pub mod Shapes
 pub mod Levers
 pub mod Channels
 pub mod Pictures

@@ -9,7 +9,7 @@ use Rattle.mark_up.specs.Tags.{prolog}
 use Rattle.mark_up.specs.declared.tags.Tag.TheVariants as tags
 use Rattle.mark_up.specs.Documents.{end_tag, start_tag}
 use Rattle.mark_up.specs.Escapes.{escaped}
-use Rattle.frame_picture.specs.declared.drawing.Point.{Point}
+use Rattle.picture_shapes.specs.declared.shapes.Point.{Point}
 use Rattle.frame_picture.specs.declared.key_drawing.TheConstants.{BRIDLES, NOTCHES}
 use Rattle.frame_picture.specs.declared.picture.TheConstants.{STYLE}
 use Rattle.frame_picture.specs.declared.places.Layout.{Layout}
@@ -17,7 +17,7 @@ use Rattle.frame_picture.specs.declared.scene.Scene.{Scene}
 use Rattle.frame_picture.specs.Channels.{bars_text, channels_text, dogs_text, rows_text, tappets_text}
 use Rattle.frame_picture.specs.Levers.{body_class, kind_letter, letter_class, levers_text, longest_words}
 use Rattle.frame_picture.specs.Places.{groove_length, height, point, rows_end, tappets_top, width}
-use Rattle.frame_picture.specs.Shapes.{rect_text, words_text}
+use Rattle.picture_shapes.specs.Shapes.{rect_text, words_text}
 
 -- the name of a picture
 unfoldable pub picture_name : BoxFields → List ℕ

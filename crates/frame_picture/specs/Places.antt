@@ -1,6 +1,6 @@
 -- Where things stand in a picture, in units of which a lever's column takes 36.
 use Rattle.std.specs.Prelude.{ℕ, ◌+◌, ◌-◌, ◌*◌, ◌/◌, max}
-use Rattle.frame_picture.specs.declared.drawing.Point.{Point}
+use Rattle.picture_shapes.specs.declared.shapes.Point.{Point}
 use Rattle.frame_picture.specs.declared.places.Layout.{Layout}
 
 -- the point so far from the left and from the top

@@ -7,13 +7,13 @@ ghost use Rattle.frame_picture.specs.Channels.{notch_text, notches_text, reach, 
 ghost use Rattle.frame_picture.specs.Channels.{rows_text, tappet_text, tappets_text, wedge_corners, wedge_text};
 ghost use Rattle.locking_table.specs.Printing.{row_text};
 
-use crate::drawing::{Point, begin_group, put_line, put_number, put_polygon, put_rect, put_words};
 use crate::places::{LINE, Layout, ROW_COLUMN, column_of};
 use crate::scene::{Bar, LaidDog};
 use bridle_frame::Notches;
 use line_plan::Lever;
 use locking_table::{Row, put_row};
 use mark_up::Page;
+use picture_shapes::{Point, begin_group, put_line, put_number, put_polygon, put_rect, put_words};
 use std::alloc::{AllocError, Global};
 use std::fmt::Write;
 

@@ -4,11 +4,11 @@ ghost use Rattle.std.specs.Prelude.{◌≡◌, ◌++◌, ◌<◌, ◌^◌, IfOk,
 ghost use Rattle.frame_picture.specs.Levers.{body_class, kind_letter, letter_class, lever_name, lever_shapes};
 ghost use Rattle.frame_picture.specs.Levers.{lever_text, levers_text};
 
-use crate::drawing::{Point, begin_group, put_number, put_rect, put_upright, put_words};
 use crate::places::{Layout, column_of};
 use crate::works::works;
 use line_plan::{BoxPlan, Kind, Lever};
 use mark_up::Page;
+use picture_shapes::{Point, begin_group, put_number, put_rect, put_upright, put_words};
 use std::alloc::{AllocError, Global};
 use std::fmt::Write;
 

@@ -3,12 +3,12 @@
 ghost use Rattle.std.specs.Prelude.{◌≡◌, ◌++◌, ◌<◌, ◌^◌, OnOk, codes};
 ghost use Rattle.frame_picture.specs.Pictures.{key_text, kind_text, other_kinds_text, signal_kinds_text};
 ghost use Rattle.frame_picture.specs.Places.{point};
-ghost use Rattle.frame_picture.specs.Shapes.{words_text};
+ghost use Rattle.picture_shapes.specs.Shapes.{words_text};
 
-use crate::drawing::{Point, put_rect, put_words};
 use crate::frame_drawing::{body_class, kind_letter, letter_class};
 use line_plan::Kind;
 use mark_up::Page;
+use picture_shapes::{Point, put_rect, put_words};
 use std::alloc::AllocError;
 
 // What bars and dogs are.

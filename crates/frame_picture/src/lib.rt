@@ -4,7 +4,6 @@
 #![tactic(auto)]
 
 mod chart_drawing;
-mod drawing;
 mod frame_drawing;
 mod key_drawing;
 mod laws;

@@ -12,7 +12,6 @@ ghost use Rattle.mark_up.specs.Documents.{IsDocument, end_tag};
 ghost use Rattle.mark_up.specs.declared.tags.Tag.TheVariants.{Svg};
 
 use crate::chart_drawing::{put_bars, put_channels, put_dogs, put_rows, put_tappets};
-use crate::drawing::{Point, put_rect, put_words};
 use crate::frame_drawing::put_levers;
 use crate::key_drawing::{BRIDLES, NOTCHES, put_key};
 use crate::places::Layout;
@@ -20,6 +19,7 @@ use crate::scene::{Scene, scene_of};
 use crate::works::longest_words;
 use line_plan::{BoxPlan, Plan};
 use mark_up::{Name, Page, Tag, Value};
+use picture_shapes::{Point, put_rect, put_words};
 use rail_text::NoMemory;
 use std::alloc::{AllocError, Global};
 use std::fmt::Write;

@@ -1,23 +1,17 @@
 //! What a picture of a frame shows.
 
 ghost use Rattle.std.specs.Prelude.{◌≡◌, ◌++◌, ◌<◌, ◌^◌, All, IfOk, OnOk, length, map};
-ghost use Rattle.bridle_frame.specs.Seated.{BridleFits};
 ghost use Rattle.frame_chart.specs.Charts.{IsChartOf};
 ghost use Rattle.frame_chart.specs.Laying.{chart_of};
 ghost use Rattle.frame_chart.specs.Printing.{bridles_of};
 ghost use Rattle.frame_chart.specs.Spans.{spans_of};
 ghost use Rattle.frame_picture.specs.Scenes.{bar_of, bars_of, dogs_of, laid_dogs, scene_of, scene_with, widened_bar};
-ghost use Rattle.locking_table.specs.Places.{most_levers};
-ghost use Rattle.locking_table.specs.Sound.{RowFits};
-ghost use Rattle.tappet_compiler.specs.Compiled.{compiled};
 
 use bridle_frame::{Bridle, Dog, Notches};
-use frame_chart::{Chart, chart};
+use frame_chart::{Chart, bridles_of, chart};
 use line_plan::{BoxPlan, Items, Lever};
-use locking_table::Table;
 use rail_text::NoMemory;
 use std::alloc::Global;
-use tappet_compiler::compile;
 
 /// The bar of a bridle, in its channel. Rows, channels and levers are numbered from 1.
 #[derive(Clone, Copy, Debug, PartialEq, Eq)]
@@ -128,28 +122,6 @@ fn dogs_of(alloc: Global, bridles: &[Bridle], channels: &[u32]) -> Result<Vec<La
         lay_dogs(&mut laid, bridle.row, channels[i], bridle.dogs.as_slice())?;
     }
     Ok(laid)
-}
-
-// A law: a frame of the most levers has each lever that the rows of a table name.
-fn table_fits(table: &Table)
-    ensures { All (RowFits most_levers) table.now }
-{
-    let _rows = table.rows();
-}
-
-// The bridles of a locking table.
-#[tactic(auto, using(crate::proofs::Lengths::length_compiled))]
-fn bridles_of(alloc: Global, table: &Table) -> Result<Vec<Bridle>, NoMemory>
-    ensures bridles { IfOk result (λ bridles. bridles.items ≡ compiled 1 table.now) }
-    ensures each { IfOk result (λ bridles. length bridles.items ≡ length table.now) }
-    ensures few { IfOk result (λ bridles. length bridles.items < 2 ^ 32) }
-    ensures fits { IfOk result (λ bridles. All (BridleFits most_levers) bridles.items) }
-{
-    table_fits(table);
-    match compile(alloc, table) {
-        Ok(bridles) => Ok(bridles),
-        Err(_) => Err(NoMemory),
-    }
 }
 
 // The scene of levers, and of bridles as a chart lays them.

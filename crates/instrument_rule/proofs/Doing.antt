@@ -52,7 +52,7 @@ use Rattle.instrument_rule.specs.declared.view.View.{View}
 use Rattle.instrument_rule.specs.Calls.{DecidedAt, MayStep, OpFits, Sits, WasSeen, bell_on, block_on, here_at, line_on}
 use Rattle.instrument_rule.specs.Calls.{looks_by, op_word, room_seen}
 use Rattle.instrument_rule.specs.Rule.{Fits, Kept, LaneFree, Roomy, most_entries}
-use Rattle.instrument_rule.specs.Told.{MadeOrSaw, Met, Tells, done, glanced}
+use Rattle.instrument_rule.specs.Told.{MadeOrSaw, WordRead, Tells, done, glanced}
 use Rattle.instrument_rule.specs.Views.{caller_of, held, seeing}
 use Rattle.instrument_rule.proofs.Keeps.{Grows, M, extends, looks_on}
 use Rattle.instrument_rule.proofs.Lasting.{code_lasts, out_pair, room_lasts}
@@ -469,7 +469,7 @@ module _ (plan : PlanFields) (is : IsPlan plan) where
           found = k.packed (op_word (caller_of me.0.posts) call.act op)
               (of_line plan is call op last me.0 may fits k.log (get_or s.words 0 0) k.legal k.short fit)
 
-          met : Met plan k.log (op_word (caller_of me.0.posts) call.act op) me.0
+          met : WordRead plan k.log (op_word (caller_of me.0.posts) call.act op) me.0
               (get_or s.words (word_place (length plan.boxes) (op_word (caller_of me.0.posts) call.act op)) 0)
           met = record {
             seen = fit.seen;

@@ -20,7 +20,7 @@ use Rattle.instrument_rule.specs.Views.{caller_of, missed, seeing, settled, with
 
 -- A word that read n had that number after a legal history, of fewer than 2^32 entries, which begins with all that the
 -- seat had seen and has no other entry of its boxes.
-pub record Met (plan : PlanFields) (log : List Entry) (word : Word) (v : View) (n : ℕ) : Type 0 where
+pub record WordRead (plan : PlanFields) (log : List Entry) (word : Word) (v : View) (n : ℕ) : Type 0 where
   pub seen : Seen log v.posts v.seen
   pub legal : IsLegal plan log
   pub few : length log < 2 ^ 32
@@ -30,7 +30,7 @@ pub record Met (plan : PlanFields) (log : List Entry) (word : Word) (v : View) (
 -- call there, and the seat has then seen the history with the entry.
 pub record Made (plan : PlanFields) (b : ℕ) (call : Call) (op : WordOp) (v : View) (n : ℕ) (w : View) : Type 0 where
   pub log : List Entry
-  pub met : Met plan log (op_word b call.act op) v n
+  pub met : WordRead plan log (op_word b call.act op) v n
   pub legal : IsLegal plan (log ++ entry_of plan (state_of plan log) b call ∷ [])
   pub its_word : op_word b call.act op ≡ word_of plan (entry_of plan (state_of plan log) b call)
   pub sure : DecidedAt plan b call op v.seen n
@@ -40,7 +40,7 @@ pub record Made (plan : PlanFields) (b : ℕ) (call : Call) (op : WordOp) (v : V
 pub record Saw (plan : PlanFields) (word : Word) (looks glances : ℕ) (room : Option Way) (v : View) (n : ℕ) (w : View)
     : Type 0 where
   pub log : List Entry
-  pub met : Met plan log word v n
+  pub met : WordRead plan log word v n
   pub now : w ≡ seeing v log looks glances room
 
 -- an operation for a call of the seat's first box makes its entry, or sees

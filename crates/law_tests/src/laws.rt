@@ -26,7 +26,7 @@ fn ways_moments_and_replies(rt: HostRuntime) {
     );
     holds(&rt, "a day of minutes", moments_of(1) == DAY_OF_MINUTES);
     holds(&rt, "a day of seconds", moments_of(2) == DAY_OF_SECONDS);
-    let is_same = Reply::Put.is(&Reply::Put) & !Reply::Put.is(&Reply::Pulled);
+    let is_same = Reply::Put.is_same(&Reply::Put) & !Reply::Put.is_same(&Reply::Pulled);
     holds(&rt, "replies are told apart", is_same);
     let is_not_yet = Reply::TrainNotYet { j: 1 }.is_not_yet() & !Reply::Put.is_not_yet();
     holds(&rt, "awaits are told from others", is_not_yet);

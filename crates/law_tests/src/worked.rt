@@ -144,7 +144,7 @@ fn gets_reply(plan: &Plan, line: &mut Plain, entry: &Entry) -> bool
     }
     let answer = line.answer(plan, entry.box_no, &entry.call);
     let reply = line.perform(plan, entry.box_no, &entry.call);
-    answer.is(&entry.reply) & reply.is(&entry.reply)
+    answer.is_same(&entry.reply) & reply.is_same(&entry.reply)
 }
 
 // Makes these calls in turn on a line. Are their answers and replies those that stand beside them?

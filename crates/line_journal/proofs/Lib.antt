@@ -11,7 +11,7 @@ pub mod Deciding
 pub mod Lefts
 pub mod Looping
 pub mod Deciders
-pub mod RestsIn
+pub mod KeepersIn
 pub mod Opening
 pub mod Nearby
 pub mod Passing

@@ -15,7 +15,7 @@ use Rattle.line_law.specs.declared.call.Reply.TheVariants.{HeldByInstrument, See
 use Rattle.line_law.specs.declared.call.Reply.TheVariants.{NoTrainAt, TrainNotYet}
 use Rattle.line_law.proofs.Found.{found_All, found_test}
 use Rattle.word_laws.specs.Footprint.{way_at}
-use Rattle.line_journal.specs.declared.rests.Keeper.{Keeper}
+use Rattle.line_journal.specs.declared.keeper.Keeper.{Keeper}
 use Rattle.line_journal.specs.Halves.{pair_for}
 use Rattle.word_laws.specs.TellsWord.{kind_told}
 use Rattle.line_journal.specs.FitTests.{is_word}

@@ -9,10 +9,10 @@ use Rattle.line_law.specs.declared.call.Entry.{Entry}
 use Rattle.line_law.specs.declared.state.PairState.{PairState}
 use Rattle.word_laws.specs.TellsWord.{kind_told}
 use Rattle.line_journal.specs.declared.merging.MergeState.{MergeState}
-use Rattle.line_journal.specs.declared.rests.Keeper.{Keeper}
+use Rattle.line_journal.specs.declared.keeper.Keeper.{Keeper}
 use Rattle.line_journal.specs.FitTests.{is_word}
 use Rattle.line_journal.specs.Halves.{made, pair_for}
-use Rattle.line_journal.specs.Keepers.{AreRests, IsFirstAwake, IsOpen, IsPlacing, opens_from, pair_woken, woken}
+use Rattle.line_journal.specs.Keepers.{AreKeepers, IsFirstAwake, IsOpen, IsPlacing, opens_from, pair_woken, woken}
 use Rattle.line_journal.specs.Lists.{count_left}
 use Rattle.line_journal.specs.Merging.{AreOfLine, HoldsAt, IsUnderWay, Merges}
 use Rattle.line_journal.specs.Order.{list_at, placed}
@@ -21,7 +21,7 @@ use Rattle.line_journal.proofs.Answering.{awake_below, below_as, placing_left, p
 use Rattle.line_journal.proofs.Looping.{of_boxes, own_box, pair_count}
 use Rattle.line_journal.proofs.Nearby.{asleep_as, none_opens, none_wakes}
 use Rattle.line_journal.proofs.Opening.{below_next}
-use Rattle.line_journal.proofs.RestsIn.{rests_next}
+use Rattle.line_journal.proofs.KeepersIn.{keepers_next}
 use Rattle.line_journal.proofs.Tallies.{next_leaves, next_walked, tallies_kept, tallies_leave}
 
 -- ---- the next entry of a box is placed or passed over
@@ -32,13 +32,13 @@ past_asleep awake b c other down = sym (get_or-set_other awake b c false true ot
 
 -- a box that isn't open falls asleep
 pub holds_past : {plan : PlanFields} {pairs after : List PairState} {lists left : List (List Entry)}
-    {rests cut : List (List Keeper)} {awake woke : List Bool} {b from : ℕ}
-    → IsUnderWay plan pairs lists rests awake b → b < length lists → (IsOpen plan pairs lists b → ⊥)
-    → AreRests plan lists cut → after ≡ pairs → left ≡ lists → woke ≡ slice_set awake b false → from ≡ b + 1
+    {keepers cut : List (List Keeper)} {awake woke : List Bool} {b from : ℕ}
+    → IsUnderWay plan pairs lists keepers awake b → b < length lists → (IsOpen plan pairs lists b → ⊥)
+    → AreKeepers plan lists cut → after ≡ pairs → left ≡ lists → woke ≡ slice_set awake b false → from ≡ b + 1
     → IsUnderWay plan after left cut woke from
-holds_past {plan} {pairs} {after} {lists} {left} {rests} {cut} {awake} {woke} {b} {from}
+holds_past {plan} {pairs} {after} {lists} {left} {keepers} {cut} {awake} {woke} {b} {from}
     holds within shut are p l a f = record {
-      are_rests = subst (λ (ls : List (List Entry)). AreRests plan ls cut) (sym l) are;
+      are_keepers = subst (λ (ls : List (List Entry)). AreKeepers plan ls cut) (sym l) are;
       each = ap (λ (bs : List Bool). length bs) a ∙ length-set awake b false ∙ holds.each
           ∙ ap (λ (ls : List (List Entry)). length ls) (sym l);
       asleep = asleep_as plan pairs after lists left (slice_set awake b false) woke p l a
@@ -52,19 +52,19 @@ holds_past {plan} {pairs} {after} {lists} {left} {rests} {cut} {awake} {woke} {b
 
 -- the next entry of one that is open is placed
 pub holds_behind : {plan : PlanFields} {pairs after : List PairState} {lists left : List (List Entry)}
-    {rests cut : List (List Keeper)} {awake woke : List Bool} {b from : ℕ} {e : Entry}
-    → AreOfLine plan pairs lists → IsUnderWay plan pairs lists rests awake b → b < length lists
+    {keepers cut : List (List Keeper)} {awake woke : List Bool} {b from : ℕ} {e : Entry}
+    → AreOfLine plan pairs lists → IsUnderWay plan pairs lists keepers awake b → b < length lists
     → list_at lists b ≡ e ∷ drop 1 (list_at lists b) → is_word (kind_told e.reply) ≡ true
-    → IsOpen plan pairs lists b → AreRests plan lists cut → after ≡ made plan pairs e → left ≡ placed lists b
+    → IsOpen plan pairs lists b → AreKeepers plan lists cut → after ≡ made plan pairs e → left ≡ placed lists b
     → woke ≡ pair_woken (pair_for plan e) awake → from ≡ pair_for plan e → IsUnderWay plan after left cut woke from
-holds_behind {plan} {pairs} {after} {lists} {left} {rests} {cut} {awake} {woke} {b} {from} {e}
+holds_behind {plan} {pairs} {after} {lists} {left} {keepers} {cut} {awake} {woke} {b} {from} {e}
     line holds within next word was are p l a f =
     let own = (own_box plan lists b e _ line.boxes next).own in
     let wakes : woken plan e awake ≡ pair_woken (pair_for plan e) awake = rw word refl in
     let opens : opens_from plan e ≡ pair_for plan e = rw word refl in
     record {
-      are_rests = subst (λ (ls : List (List Entry)). AreRests plan ls cut) (sym l)
-          (rests_next plan lists cut b are within);
+      are_keepers = subst (λ (ls : List (List Entry)). AreKeepers plan ls cut) (sym l)
+          (keepers_next plan lists cut b are within);
       each = ap (λ (bs : List Bool). length bs) a
           ∙ length-set (slice_set awake (pair_for plan e) true) (pair_for plan e + 1) true
           ∙ length-set awake (pair_for plan e) true ∙ holds.each ∙ sym (length-set lists b _)
@@ -111,12 +111,12 @@ pub reached : {plan : PlanFields} {all : List (List Entry)} {boxes more : List �
 reached {plan} {all} {boxes} {more} {merge} {left} {asked} {b} is m same first put =
     let within = awake_within merge.left same m.holds.each first in
     let keeps = tallies_kept all merge.left boxes more b left m.leaves within put in
-    let kept = keeps.keeps plan all merge.pairs.items merge.awake.items merge.rests.items is (record {
+    let kept = keeps.keeps plan all merge.pairs.items merge.awake.items merge.keepers.items is (record {
       merges = m.merges;
       below = awake_below plan merge.pairs.items merge.left merge.awake.items asked merge.from b same m.holds.asleep
           m.holds.below first;
       asleep = m.holds.asleep;
-      are_rests = m.holds.are_rests;
+      are_keepers = m.holds.are_keepers;
     }) in
     record {
       merges = kept.merges;
@@ -127,7 +127,7 @@ reached {plan} {all} {boxes} {more} {merge} {left} {asked} {b} is m same first p
         boxes = of_boxes plan all (walked all more) merge.pairs.items left is kept.merges;
       };
       holds = record {
-        are_rests = kept.are_rests;
+        are_keepers = kept.are_keepers;
         each = m.holds.each ∙ sym keeps.count;
         asleep = kept.asleep;
         below = kept.below;

@@ -14,7 +14,7 @@ use Rattle.line_law.specs.declared.call.Entry.{Entry}
 use Rattle.line_law.specs.declared.call.Reply.TheVariants.{Put}
 use Rattle.line_law.specs.declared.state.PairState.{PairState}
 use Rattle.word_laws.specs.TellsWord.{kind_told}
-use Rattle.line_journal.specs.declared.rests.Keeper.{Keeper}
+use Rattle.line_journal.specs.declared.keeper.Keeper.{Keeper}
 use Rattle.line_journal.specs.FitTests.{is_word}
 use Rattle.line_journal.specs.Halves.{made, pair_for}
 use Rattle.line_journal.specs.Keepers.{IsOpen, opens_from}
@@ -25,7 +25,7 @@ use Rattle.line_journal.specs.Order.{list_at, placed, placed_some}
 use Rattle.line_journal.specs.Walks.{AreTalliesPlaced, IsWalk, Leaves, left_behind, walked}
 use Rattle.line_journal.proofs.Answering.{below_as}
 use Rattle.line_journal.proofs.Deciding.{fits_if, tally_fits, tally_made}
-use Rattle.line_journal.proofs.RestsIn.{rests_next}
+use Rattle.line_journal.proofs.KeepersIn.{keepers_next}
 use Rattle.line_journal.proofs.Lefts.{drop_next}
 use Rattle.line_journal.proofs.Looping.{fewer, grows, of_boxes, own_box}
 use Rattle.line_journal.proofs.Nearby.{asleep_as, none_opens, none_wakes}
@@ -56,10 +56,10 @@ tally_from plan e tally = ap (λ (w : Bool). if w then pair_for plan e else e.bo
 
 -- all is kept as it is placed
 kept_tally : (plan : PlanFields) (all : List (List Entry)) (done : List Entry) (pairs : List PairState)
-    (lists : List (List Entry)) (b : ℕ) (awake : List Bool) (rests : List (List Keeper)) (e : Entry) → IsPlan plan
-    → IsKept plan all done pairs lists b awake rests → list_at lists b ≡ e ∷ drop 1 (list_at lists b)
-    → is_word (kind_told e.reply) ≡ false → IsKept plan all (done ++ e ∷ []) pairs (placed lists b) b awake rests
-kept_tally plan all done pairs lists b awake rests e is kept next tally =
+    (lists : List (List Entry)) (b : ℕ) (awake : List Bool) (keepers : List (List Keeper)) (e : Entry) → IsPlan plan
+    → IsKept plan all done pairs lists b awake keepers → list_at lists b ≡ e ∷ drop 1 (list_at lists b)
+    → is_word (kind_told e.reply) ≡ false → IsKept plan all (done ++ e ∷ []) pairs (placed lists b) b awake keepers
+kept_tally plan all done pairs lists b awake keepers e is kept next tally =
     let opens = tally_open plan pairs lists b e next tally in
     let are = of_boxes plan all done pairs lists is kept.merges in
     let own = (own_box plan lists b e _ are next).own in
@@ -76,12 +76,12 @@ kept_tally plan all done pairs lists b awake rests e is kept next tally =
           asleep_as plan (made plan pairs e) pairs (placed lists b) (placed lists b) (woken plan e awake) awake
           (sym same) refl (sym (tally_woken plan e awake tally))
           (none_wakes plan pairs lists b e _ awake are next opens kept.asleep);
-      are_rests = rests_next plan lists rests b kept.are_rests (in_range lists b e _ next);
+      are_keepers = keepers_next plan lists keepers b kept.are_keepers (in_range lists b e _ next);
     }
 
 pub keeps_all : (b : ℕ) (done : List Entry) (lists : List (List Entry)) → KeepsMerging b done lists done lists
 keeps_all b done lists =
-    record { count = refl; fewer = omega arith; keeps = λ plan all pairs awake rests is kept. kept }
+    record { count = refl; fewer = omega arith; keeps = λ plan all pairs awake keepers is kept. kept }
 
 pub keeps_more : (b : ℕ) (done : List Entry) (lists : List (List Entry)) (more further : List Entry)
     (left after : List (List Entry)) (e : Entry) → KeepsMerging b done lists more left
@@ -98,8 +98,8 @@ keeps_more b done lists more further left after e keeps next tally f a =
         count = length-set left b _ ∙ keeps.count;
         fewer = omega (arith, less, keeps.fewer);
         keeps =
-            λ plan all pairs awake rests is kept. kept_tally plan all more pairs left b awake rests e is
-            (keeps.keeps plan all pairs awake rests is kept) next tally;
+            λ plan all pairs awake keepers is kept. kept_tally plan all more pairs left b awake keepers e is
+            (keeps.keeps plan all pairs awake keepers is kept) next tally;
       }
 
 -- one more was decided so

@@ -15,7 +15,7 @@ use Rattle.line_law.specs.Replies.{way_number}
 use Rattle.line_law.specs.declared.state.PairState.{PairState}
 use Rattle.line_journal.specs.Order.{keeps_back, list_at, placed}
 use Rattle.line_journal.specs.Halves.{Fits, made, pair_for}
-use Rattle.line_journal.specs.declared.rests.Keeper.{Keeper}
+use Rattle.line_journal.specs.declared.keeper.Keeper.{Keeper}
 use Rattle.line_journal.specs.FitTests.{is_word}
 
 -- a row of the table of keepers: the kind of a reply that may keep others back, and the count that it tells
@@ -91,38 +91,38 @@ slots = 12
 
 -- of each of these that has the number: how many entries are left from it on, and its count; on top, at the end, stands
 -- the first
-abbrev pub rests_in : PlanFields → ℕ → List Entry → List Keeper
-rests_in plan slot [] = []
-rests_in plan slot (x ∷ list) =
+abbrev pub keepers_in : PlanFields → ℕ → List Entry → List Keeper
+keepers_in plan slot [] = []
+keepers_in plan slot (x ∷ list) =
     if keeper_slot plan x == slot
-    then rests_in plan slot list ++ record { rest = length (x ∷ list); count = keeper_count x.reply } ∷ []
-    else rests_in plan slot list
+    then keepers_in plan slot list ++ record { rest = length (x ∷ list); count = keeper_count x.reply } ∷ []
+    else keepers_in plan slot list
 
 -- these are those keepers, and on top of them some that are placed
-pub record AreRestsOf (plan : PlanFields) (slot : ℕ) (list : List Entry) (rests : List Keeper) : Type 0 where
+pub record AreKeepersOf (plan : PlanFields) (slot : ℕ) (list : List Entry) (keepers : List Keeper) : Type 0 where
   pub over : List Keeper
-  pub are : rests ≡ rests_in plan slot list ++ over
+  pub are : keepers ≡ keepers_in plan slot list ++ over
   pub above : All (λ keeper. length list < keeper.rest) over
 
 -- so for the remaining entries of each box, and each number of replies that may keep others back
-pub record AreRests (plan : PlanFields) (lists : List (List Entry)) (rests : List (List Keeper)) : Type 0 where
-  pub each : length rests ≡ slots * length lists
+pub record AreKeepers (plan : PlanFields) (lists : List (List Entry)) (keepers : List (List Keeper)) : Type 0 where
+  pub each : length keepers ≡ slots * length lists
   pub are : (b slot : ℕ) → b < length lists → 2 ≤ slot → slot < slots
-      → AreRestsOf plan slot (list_at lists b) (slice_index_or rests (slots * b + slot) [])
+      → AreKeepersOf plan slot (list_at lists b) (slice_index_or keepers (slots * b + slot) [])
 
 -- the same of the boxes below this number
-pub record AreRestsBelow (plan : PlanFields) (lists : List (List Entry)) (n : ℕ) (rests : List (List Keeper)) : Type 0
-  where
-    pub each : length rests ≡ slots * n
-    pub are : (b slot : ℕ) → b < n → 2 ≤ slot → slot < slots
-        → AreRestsOf plan slot (list_at lists b) (slice_index_or rests (slots * b + slot) [])
+pub record AreKeepersBelow (plan : PlanFields) (lists : List (List Entry)) (n : ℕ)
+    (keepers : List (List Keeper)) : Type 0 where
+  pub each : length keepers ≡ slots * n
+  pub are : (b slot : ℕ) → b < n → 2 ≤ slot → slot < slots
+      → AreKeepersOf plan slot (list_at lists b) (slice_index_or keepers (slots * b + slot) [])
 
 -- the same of one list, from a place on
-pub record AreRestsFrom (plan : PlanFields) (list : List Entry) (at : ℕ) (rests : List (List Keeper)) : Type 0 where
+pub record AreKeepersFrom (plan : PlanFields) (list : List Entry) (at : ℕ) (keepers : List (List Keeper)) : Type 0 where
   pub within : at ≤ length list
-  pub each : length rests ≡ slots
+  pub each : length keepers ≡ slots
   pub are : (slot : ℕ) → 2 ≤ slot → slot < slots
-      → slice_index_or rests slot [] ≡ rests_in plan slot (drop at list)
+      → slice_index_or keepers slot [] ≡ keepers_in plan slot (drop at list)
 
 -- some of these keepers are gone from the top, all with more entries left than the most
 pub record AreCut (most : ℕ) (old new : List Keeper) : Type 0 where

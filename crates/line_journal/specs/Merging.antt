@@ -7,11 +7,11 @@ use Rattle.line_law.specs.States.{LineState, opening_state}
 use Rattle.line_law.specs.declared.state.PairState.{PairState}
 use Rattle.word_laws.specs.TellsWord.{kind_told}
 use Rattle.line_journal.specs.FitTests.{is_word}
-use Rattle.line_journal.specs.Keepers.{AreRests, NoneAsleepOpen, NoneOpenBelow}
+use Rattle.line_journal.specs.Keepers.{AreKeepers, NoneAsleepOpen, NoneOpenBelow}
 use Rattle.line_journal.specs.Lists.{AreOfBoxes, count_left}
 use Rattle.line_journal.specs.Order.{IsBoxReady, IsOrderFrom, list_at}
 use Rattle.line_journal.specs.declared.merging.MergeState.{MergeState}
-use Rattle.line_journal.specs.declared.rests.Keeper.{Keeper}
+use Rattle.line_journal.specs.declared.keeper.Keeper.{Keeper}
 
 -- these entries are done, and what remains are the parts of what a legal history goes on with after them
 pub record Remains (plan : PlanFields) (done : List Entry) (state : LineState) (lists : List (List Entry))
@@ -42,11 +42,11 @@ pub record Merges (plan : PlanFields) (all : List (List Entry)) (done : List Ent
 
 -- what the merge keeps where it looks at box b: no lower box is open, nor one that is asleep
 pub record IsKept (plan : PlanFields) (all : List (List Entry)) (done : List Entry) (pairs : List PairState)
-    (lists : List (List Entry)) (b : ℕ) (awake : List Bool) (rests : List (List Keeper)) : Type 0 where
+    (lists : List (List Entry)) (b : ℕ) (awake : List Bool) (keepers : List (List Keeper)) : Type 0 where
   pub merges : Merges plan all done pairs lists
   pub below : NoneOpenBelow plan pairs lists b
   pub asleep : NoneAsleepOpen plan pairs lists awake
-  pub are_rests : AreRests plan lists rests
+  pub are_keepers : AreKeepers plan lists keepers
 
 -- the words are those of the plan's pairs, and what remains are lists of its boxes, each of its own entries
 pub record AreOfLine (plan : PlanFields) (pairs : List PairState) (lists : List (List Entry)) : Type 0 where
@@ -57,8 +57,8 @@ pub record AreOfLine (plan : PlanFields) (pairs : List PairState) (lists : List 
 -- what holds of a merge between any two steps: its keepers are those of what remains, and no box below this number is
 -- open, nor one that is asleep
 pub record IsUnderWay (plan : PlanFields) (pairs : List PairState) (lists : List (List Entry))
-    (rests : List (List Keeper)) (awake : List Bool) (from : ℕ) : Type 0 where
-  pub are_rests : AreRests plan lists rests
+    (keepers : List (List Keeper)) (awake : List Bool) (from : ℕ) : Type 0 where
+  pub are_keepers : AreKeepers plan lists keepers
   pub each : length awake ≡ length lists
   pub asleep : NoneAsleepOpen plan pairs lists awake
   pub below : NoneOpenBelow plan pairs lists from
@@ -66,7 +66,7 @@ pub record IsUnderWay (plan : PlanFields) (pairs : List PairState) (lists : List
 -- the same of the state of a merge
 abbrev pub HoldsAt : PlanFields → MergeState → ℕ → Type 0
 HoldsAt plan merge from =
-    IsUnderWay plan merge.pairs.items merge.left merge.rests.items merge.awake.items from
+    IsUnderWay plan merge.pairs.items merge.left merge.keepers.items merge.awake.items from
 
 -- the first of these entries, so many, were decided on their box's own tally
 abbrev pub AreTallies : List Entry → ℕ → Type 0
@@ -87,5 +87,5 @@ pub record KeepsMerging (b : ℕ) (done : List Entry) (lists : List (List Entry)
   pub count : length left ≡ length lists
   pub fewer : count_left left ≤ count_left lists
   pub keeps : (plan : PlanFields) (all : List (List Entry)) (pairs : List PairState) (awake : List Bool)
-      (rests : List (List Keeper)) → IsPlan plan → IsKept plan all done pairs lists b awake rests
-      → IsKept plan all more pairs left b awake rests
+      (keepers : List (List Keeper)) → IsPlan plan → IsKept plan all done pairs lists b awake keepers
+      → IsKept plan all more pairs left b awake keepers

@@ -5,8 +5,8 @@ ghost use Rattle.std.specs.Prelude.{length, replicate};
 ghost use Rattle.word_laws.specs.Footprint.{way_at};
 ghost use Rattle.line_law.specs.Replies.{way_number};
 ghost use Rattle.line_journal.specs.Keepers.{
-  AreRests,
-  AreRestsFrom,
+  AreKeepers,
+  AreKeepersFrom,
   IsPassed,
   LetsPass,
   TellsFirst,
@@ -23,10 +23,10 @@ ghost use Rattle.line_journal.specs.Halves.{pair_for};
 ghost use Rattle.line_journal.specs.Lists.{AreOfBoxes};
 ghost use Rattle.line_journal.specs.Order.{list_at};
 
+use crate::keeper::{Keeper, Keepers};
 use crate::keeping::{is_kept_at, keeps_back};
-use crate::left::Left;
 use crate::lines::word_of;
-use crate::rests::{Keeper, Rests};
+use crate::remaining::Remaining;
 use block_words::Way;
 use line_law::{Entry, Reply};
 use line_plan::Plan;
@@ -114,19 +114,19 @@ fn kept_slot(entry: &Entry, way: Way) -> usize
 // What is told of the first of a box's remaining entries that has this number, if there is one.
 fn first_told(
     plan: &Plan,
-    left: &Left<'_>,
-    rests: &mut Vec<Rests>,
+    left: &Remaining<'_>,
+    keepers: &mut Vec<Keepers>,
     other: usize,
     slot: usize,
 ) -> Option<Keeper>
     requires other { other < length left.now }
     requires some { 2 ≤ slot }
     requires few { slot < slots }
-    requires rests { AreRests plan.now left.now rests.old.items }
-    ensures rests { AreRests plan.now left.now rests.new.items }
+    requires keepers { AreKeepers plan.now left.now keepers.old.items }
+    ensures keepers { AreKeepers plan.now left.now keepers.new.items }
     ensures first { TellsFirst plan.now slot (list_at left.now other) result }
 {
-    rests[SLOTS * other + slot].cut(left.of_box(other).len())
+    keepers[SLOTS * other + slot].cut(left.of_box(other).len())
 }
 
 // Whether the first of these entries that may keep one back, if there is one, lets it pass. Its count is asked first,
@@ -147,33 +147,33 @@ fn lets_pass(plan: &Plan, entry: &Entry, entries: &[Entry], first: Option<Keeper
 }
 
 // Of no entry, for each number.
-fn no_rests(alloc: Global) -> Result<Vec<Rests>, NoMemory>
-    ensures { IfOk result (λ rests. rests.items ≡ replicate slots []) }
+fn no_keepers(alloc: Global) -> Result<Vec<Keepers>, NoMemory>
+    ensures { IfOk result (λ keepers. keepers.items ≡ replicate slots []) }
 {
-    let mut rests = Vec::with_capacity(alloc, SLOTS)?;
+    let mut keepers = Vec::with_capacity(alloc, SLOTS)?;
     for _ in 0..SLOTS {
-        rests.push(Rests::new(alloc))?;
+        keepers.push(Keepers::new(alloc))?;
     }
-    Ok(rests)
+    Ok(keepers)
 }
 
 /// For each number, those of these entries that have it. The numbers of replies that keep none back, which nobody asks
 /// for, have none.
-pub fn rests_of(alloc: Global, plan: &Plan, entries: &[Entry]) -> Result<Vec<Rests>, NoMemory>
+pub fn keepers_of(alloc: Global, plan: &Plan, entries: &[Entry]) -> Result<Vec<Keepers>, NoMemory>
     requires { All (λ x. x.box_no < length plan.now.boxes) entries.now }
-    ensures { IfOk result (λ rests. AreRestsFrom plan.now entries.now 0 rests.items) }
+    ensures { IfOk result (λ keepers. AreKeepersFrom plan.now entries.now 0 keepers.items) }
 {
-    let mut rests = no_rests(alloc)?;
+    let mut keepers = no_keepers(alloc)?;
     let mut at = entries.len();
     while at > 0 {
         at -= 1;
         let entry = &entries[at];
         if let Some((kind, count)) = keeper_row(entry) {
             let rest = entries.len() - at;
-            rests[keeper_slot(plan, entry, kind)].add(Keeper { rest, count })?;
+            keepers[keeper_slot(plan, entry, kind)].add(Keeper { rest, count })?;
         }
     }
-    Ok(rests)
+    Ok(keepers)
 }
 
 // The other box of a pair.
@@ -188,8 +188,8 @@ fn other_box(here: usize, pair: usize) -> usize
 /// Most replies are kept back by none, and the others by entries of the one neighbour alone that shares their word.
 pub fn is_passed(
     plan: &Plan,
-    left: &Left<'_>,
-    rests: &mut Vec<Rests>,
+    left: &Remaining<'_>,
+    keepers: &mut Vec<Keepers>,
     box_no: usize,
     pair: usize,
     way: Way,
@@ -201,8 +201,8 @@ pub fn is_passed(
     requires way { way ≡ way_at plan.now entry.now.box_no entry.now.call }
     requires entry { entry.now.box_no < length plan.now.boxes }
     requires boxes { AreOfBoxes plan.now left.now }
-    requires rests { AreRests plan.now left.now rests.old.items }
-    ensures rests { AreRests plan.now left.now rests.new.items }
+    requires keepers { AreKeepers plan.now left.now keepers.old.items }
+    ensures keepers { AreKeepers plan.now left.now keepers.new.items }
     ensures passed { IsTrue result ↔ IsPassed plan.now left.now box_no entry.now }
 {
     if kept_by(entry) == 0 {
@@ -212,6 +212,6 @@ pub fn is_passed(
     if other >= left.boxes() {
         return true;
     }
-    let first = first_told(plan, left, rests, other, kept_slot(entry, way));
+    let first = first_told(plan, left, keepers, other, kept_slot(entry, way));
     lets_pass(plan, entry, left.of_box(other), first)
 }

@@ -2,14 +2,14 @@
 #![tactic(auto)]
 
 mod fitting;
+mod keeper;
 mod keepers;
 mod keeping;
 mod laws;
-mod left;
 mod lines;
 mod merging;
 mod order;
-mod rests;
+mod remaining;
 
 pub use fitting::is_on_word;
 pub use laws::{exchange_law, one_order_law, order_law, parts_law, reply_law};

@@ -5,7 +5,7 @@ ghost use Rattle.std.specs.Prelude.{◌^◌, IfOk, IsTrue, All, true, false, dro
 ghost use Rattle.word_laws.specs.Footprint.{way_at};
 ghost use Rattle.word_laws.specs.TellsWord.{kind_told};
 ghost use Rattle.line_journal.specs.FitTests.{is_word};
-ghost use Rattle.line_journal.specs.Keepers.{AreRests, IsFirstAwake, IsOpen, IsPlaced};
+ghost use Rattle.line_journal.specs.Keepers.{AreKeepers, IsFirstAwake, IsOpen, IsPlaced};
 ghost use Rattle.line_journal.specs.Keepers.{pair_woken};
 ghost use Rattle.line_journal.specs.Lists.{AreOfBoxes, HasSpaceFor, HaveEnded};
 ghost use Rattle.line_journal.specs.Merging.{AreOfLine, AreTallies, HoldsAt, IsNextOnWord, IsOnWordAt};
@@ -14,11 +14,11 @@ ghost use Rattle.line_journal.specs.Walks.{AreTalliesPlaced, IsWalk, walked};
 ghost use Rattle.line_journal.specs.Halves.{pair_for};
 
 use crate::fitting::{fits, is_on_word, make};
-use crate::keepers::{is_passed, rests_of};
-use crate::left::Left;
+use crate::keeper::Keepers;
+use crate::keepers::{is_passed, keepers_of};
 use crate::lines::word_of;
 use crate::order::Merged;
-use crate::rests::Rests;
+use crate::remaining::Remaining;
 use block_words::Way;
 use line_law::{Entry, Journal, PairState, open_pairs};
 use line_plan::{Items, Plan};
@@ -63,9 +63,9 @@ pub struct MergeState<'a> {
     /// The words of the pairs after what is placed.
     pub pairs: Vec<PairState>,
     /// The entries that remain, box by box.
-    pub left: Left<'a>,
+    pub left: Remaining<'a>,
     /// For each box and each number of keepers, those of its entries that have the number.
-    pub rests: Vec<Rests>,
+    pub keepers: Vec<Keepers>,
     /// Which boxes are awake.
     pub awake: Vec<bool>,
     /// From which box on the next open one is to be sought.
@@ -77,17 +77,25 @@ impl<'a> MergeState<'a> {
     // keepers of both neighbours let it pass.
     fn is_open(&mut self, plan: &Plan, box_no: usize, pair: usize, way: Way, entry: &Entry) -> bool
         requires line { AreOfLine plan.now self.old.pairs.items self.old.left }
-        requires rests { AreRests plan.now self.old.left self.old.rests.items }
+        requires keepers { AreKeepers plan.now self.old.left self.old.keepers.items }
         requires box_no { box_no < length self.old.left }
         requires next { list_at self.old.left box_no ≡ entry.now ∷ drop 1 (list_at self.old.left box_no) }
         requires pair { pair ≡ pair_for plan.now entry.now }
         requires way { way ≡ way_at plan.now entry.now.box_no entry.now.call }
-        ensures rests { AreRests plan.now self.old.left self.new.rests.items }
-        ensures same { self.new ≡ record self.old { rests = self.new.rests } }
+        ensures keepers { AreKeepers plan.now self.old.left self.new.keepers.items }
+        ensures same { self.new ≡ record self.old { keepers = self.new.keepers } }
         ensures opens { IsTrue result ↔ IsOpen plan.now self.old.pairs.items self.old.left box_no }
     {
         fits(plan, &self.pairs, pair, way, entry)
-            && is_passed(plan, &self.left, &mut self.rests, box_no, pair, way, entry)
+            && is_passed(
+                plan,
+                &self.left,
+                &mut self.keepers,
+                box_no,
+                pair,
+                way,
+                entry,
+            )
     }
 
     // Places the next entry of a box that is awake, which was decided on a word, if it is open: makes of its word what
@@ -137,7 +145,11 @@ fn tallies_in(entries: &[Entry]) -> usize
 
 // Places the next entries of a box as long as they were decided on its own tally: where no lower box is open, one after
 // another is the next.
-fn place_tallies(left: &mut Left<'_>, boxes: &mut Vec<u8>, box_no: usize) -> Result<(), NoMemory>
+fn place_tallies(
+    left: &mut Remaining<'_>,
+    boxes: &mut Vec<u8>,
+    box_no: usize,
+) -> Result<(), NoMemory>
     requires box_no { box_no < length left.old }
     requires few { box_no < 2 ^ 8 }
     ensures { IfOk result (λ done. AreTalliesPlaced box_no boxes.old.items left.old boxes.new.items left.new) }
@@ -160,16 +172,16 @@ fn all_awake(alloc: Global, count: usize) -> Result<Vec<bool>, NoMemory>
 }
 
 // For each box and each number of keepers, those of the box's entries that have the number.
-fn open_rests(alloc: Global, plan: &Plan, left: &Left<'_>) -> Result<Vec<Rests>, NoMemory>
+fn open_keepers(alloc: Global, plan: &Plan, left: &Remaining<'_>) -> Result<Vec<Keepers>, NoMemory>
     requires { AreOfBoxes plan.now left.now }
-    ensures { IfOk result (λ rests. AreRests plan.now left.now rests.items) }
+    ensures { IfOk result (λ keepers. AreKeepers plan.now left.now keepers.items) }
 {
-    let mut rests = Vec::new(alloc);
+    let mut keepers = Vec::new(alloc);
     for box_no in 0..left.boxes() {
-        let mut behind = rests_of(alloc, plan, left.of_box(box_no))?;
-        rests.append(&mut behind)?;
+        let mut behind = keepers_of(alloc, plan, left.of_box(box_no))?;
+        keepers.append(&mut behind)?;
     }
-    Ok(rests)
+    Ok(keepers)
 }
 
 // The boxes of the journal's entries, in its order.
@@ -181,14 +193,14 @@ fn merged_boxes(alloc: Global, plan: &Plan, ended: &Ended) -> Result<Vec<u8>, No
 {
     plan.meets_conditions();
     let pairs = open_pairs(alloc, plan.boxes.len() - 1)?;
-    let left = Left::new(alloc, ended.registers.as_slice())?;
-    let rests = open_rests(alloc, plan, &left)?;
+    let left = Remaining::new(alloc, ended.registers.as_slice())?;
+    let keepers = open_keepers(alloc, plan, &left)?;
     let awake = all_awake(alloc, left.boxes())?;
     let mut boxes = Vec::with_capacity(alloc, left.count())?;
     let mut merge = MergeState {
         pairs,
         left,
-        rests,
+        keepers,
         awake,
         from: 0,
     };

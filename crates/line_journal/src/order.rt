@@ -5,7 +5,7 @@ ghost use Rattle.line_journal.specs.Order.{lists_of};
 ghost use Rattle.line_journal.specs.Walks.{IsNextOf, IsWalk, walked};
 ghost use Rattle.train_register.specs.Registers.{AreParts};
 
-use crate::left::Left;
+use crate::remaining::Remaining;
 use line_law::Entry;
 use line_plan::Plan;
 use rail_text::NoMemory;
@@ -74,7 +74,7 @@ impl<'a> Merged<'a> {
         requires { many ≤ length self.now }
         ensures { IfOk result (λ walk. walk ≡ take many self.now) }
     {
-        let left = Left::new(alloc, self.registers)?;
+        let left = Remaining::new(alloc, self.registers)?;
         let boxes = &self.boxes[..many];
         Ok(Walk { left, boxes })
     }
@@ -83,7 +83,7 @@ impl<'a> Merged<'a> {
     pub fn walk(&self, alloc: Global) -> Result<Walk<'_>, NoMemory>
         ensures { IfOk result (λ walk. walk ≡ self.now) }
     {
-        let left = Left::new(alloc, self.registers)?;
+        let left = Remaining::new(alloc, self.registers)?;
         Ok(Walk {
             left,
             boxes: &self.boxes,
@@ -106,7 +106,7 @@ fn boxes_of(alloc: Global, entries: &[Entry]) -> Result<Vec<u8>, NoMemory>
 /// Goes along the entries of a journal, one after another. Contracts see those that are ahead.
 #[derive(Drop)]
 pub struct Walk<'a> {
-    left: Left<'a>,
+    left: Remaining<'a>,
     boxes: &'a [u8],
 }
 

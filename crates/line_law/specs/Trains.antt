@@ -111,6 +111,10 @@ left_by box_plan here signal =
 abbrev pub holds : List Passage → ℕ → Bool
 holds line k = list_any (λ passage. passage.number == k - 4) line
 
+-- what a train that would enter as the k-th is refused for: the plain line still holds train k - 4
+abbrev pub entry_refusal : List Passage → ℕ → Option Reply
+entry_refusal line k = if holds line k then Some (SectionFull k) else None
+
 -- a train enters a section as its k-th, unless the plain line still holds train k - 4
 abbrev pub entered : ℕ → BoxState → BoxState → Way → ℕ → List Passage → Told (List Passage)
 entered k here left way train line =

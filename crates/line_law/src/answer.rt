@@ -21,7 +21,7 @@ ghost use Rattle.line_law.specs.Ways.{of_way};
 use crate::call::{Act, Call, Reply};
 use crate::levers::starter_way;
 use crate::plain_line::PlainLine;
-use crate::state::{BoxState, PairState};
+use crate::state::{BoxState, PairState, Passage};
 use crate::step::link_of;
 use crate::tracks::train_on;
 use block_words::{Position, Way};
@@ -69,10 +69,10 @@ impl BoxState {
             (left_by plan.now (at_moment self.now moment) signal.now) way train line.now).reply ≡ result }
     {
         let k = self.sent.get(way) + 1;
-        if line.holds(k) {
-            return Reply::SectionFull { k };
+        match line.entry_refusal(k) {
+            Some(reply) => reply,
+            None => Reply::Entered { k, train },
         }
-        Reply::Entered { k, train }
     }
 
     // What a train is answered that goes where a signal leads.
@@ -160,10 +160,9 @@ impl BoxState {
         if let Some(reply) = self.berth_refusal(way, berth) {
             return reply;
         }
-        let j = self.next_number(way);
-        match pair.plain_line(way).first_train(j) {
-            Some(train) => Reply::Berthed { j, train },
-            None => Reply::NoTrainAt { j },
+        match self.next_train(pair.plain_line(way), way) {
+            Ok(Passage { number: j, train }) => Reply::Berthed { j, train },
+            Err(reply) => reply,
         }
     }
 
@@ -177,10 +176,9 @@ impl BoxState {
         if let Some(reply) = self.berth_refusal(way, berth) {
             return reply;
         }
-        let j = self.next_number(way);
-        match pair.plain_line(way).first_train(j) {
-            Some(train) => Reply::PartBerthed { j, train },
-            None => Reply::NoTrainAt { j },
+        match self.next_train(pair.plain_line(way), way) {
+            Ok(Passage { number: j, train }) => Reply::PartBerthed { j, train },
+            Err(reply) => reply,
         }
     }
 
@@ -192,10 +190,9 @@ impl BoxState {
         if self.incoming.get(way).portion.is_none() {
             return Reply::NoPortion;
         }
-        let j = self.next_number(way);
-        match pair.plain_line(way).first_train(j) {
-            Some(train) => Reply::Cleared { j, train },
-            None => Reply::NoTrainAt { j },
+        match self.next_train(pair.plain_line(way), way) {
+            Ok(Passage { number: j, train }) => Reply::Cleared { j, train },
+            Err(reply) => reply,
         }
     }
 }

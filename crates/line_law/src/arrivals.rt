@@ -1,16 +1,17 @@
 //! The arrival of trains from a section.
 
-ghost use Rattle.std.specs.Prelude.{◌≡◌, ◌<◌, ◌^◌, ◌+◌, ◌∷◌, Some, IsSome, length, drop};
+ghost use Rattle.std.specs.Prelude.{◌≡◌, ◌<◌, ◌^◌, ◌+◌, ◌∷◌, None, Some, IfErr, IfOk, IsSome, length, drop};
 ghost use Rattle.block_words.specs.declared.Way.{Way};
 ghost use Rattle.line_law.specs.Arrivals.{await_train, berth as berth_whole, berth_part, berth_refusal, berthed};
 ghost use Rattle.line_law.specs.Arrivals.{clear_portion, clear_portion_refusal, cleared, first_train, next_number};
 ghost use Rattle.line_law.specs.Arrivals.{next_train, parted};
+ghost use Rattle.line_law.specs.declared.call.Reply.TheVariants.{NoTrainAt};
 ghost use Rattle.line_law.specs.Decisions.{OnPlainLine, on_pair};
 ghost use Rattle.line_law.specs.Ways.{of_way};
 
 use crate::call::Reply;
 use crate::plain_line::PlainLine;
-use crate::state::{BoxState, Incoming, PairState};
+use crate::state::{BoxState, Incoming, PairState, Passage};
 use crate::tracks::train_on;
 use block_words::Way;
 use line_plan::Berth;
@@ -36,6 +37,21 @@ impl BoxState {
         ensures { result ≡ next_number self.now way }
     {
         self.incoming.get(way).taken + 1
+    }
+
+    /// The next train of an incoming line, where it is the first on its plain line; else the reply that it isn't there.
+    pub(crate) fn next_train(&self, line: &PlainLine, way: Way) -> Result<Passage, Reply>
+        requires { (of_way self.now.incoming way).taken < 2 ^ 32 }
+        ensures ok { IfOk result (λ next. (next.number ≡ next_number self.now way)
+            × (next_train self.now way line.now ≡ Some next.train)) }
+        ensures err { IfErr result (λ reply. (next_train self.now way line.now ≡ None)
+            × (reply ≡ NoTrainAt (next_number self.now way))) }
+    {
+        let j = self.next_number(way);
+        match line.first_train(j) {
+            Some(train) => Ok(Passage { number: j, train }),
+            None => Err(Reply::NoTrainAt { j }),
+        }
     }
 
     /// What a look for the next train on the plain line of a way is answered; nothing changes.
@@ -69,9 +85,9 @@ impl BoxState {
         requires few { (of_way self.old.incoming way).taken < 2 ^ 32 }
         ensures { berthed self.old way place line.old ≡ record { reply = result; here = self.new; word = line.new } }
     {
-        let j = self.next_number(way);
-        let Some(train) = line.first_train(j) else {
-            return Reply::NoTrainAt { j };
+        let Passage { number: j, train } = match self.next_train(line, way) {
+            Ok(next) => next,
+            Err(reply) => return reply,
         };
         line.remove_first();
         self.places.set(place as usize, Some(train));
@@ -94,9 +110,9 @@ impl BoxState {
         requires few { (of_way self.old.incoming way).taken < 2 ^ 32 }
         ensures { parted self.old way place line.now ≡ record { reply = result; here = self.new; word = line.now } }
     {
-        let j = self.next_number(way);
-        let Some(train) = line.first_train(j) else {
-            return Reply::NoTrainAt { j };
+        let Passage { number: j, train } = match self.next_train(line, way) {
+            Ok(next) => next,
+            Err(reply) => return reply,
         };
         self.places.set(place as usize, Some(train));
         let came = self.incoming.get(way);
@@ -117,9 +133,9 @@ impl BoxState {
         requires { (of_way self.old.incoming way).taken < 2 ^ 32 }
         ensures { cleared self.old way line.old ≡ record { reply = result; here = self.new; word = line.new } }
     {
-        let j = self.next_number(way);
-        let Some(train) = line.first_train(j) else {
-            return Reply::NoTrainAt { j };
+        let Passage { number: j, train } = match self.next_train(line, way) {
+            Ok(next) => next,
+            Err(reply) => return reply,
         };
         line.remove_first();
         let came = self.incoming.get(way);

@@ -127,7 +127,7 @@ impl Reply {
 
     /// Whether the other reply is this one, in its kind and in all that it tells.
     #[inline(always)]
-    pub fn is(&self, other: &Reply) -> bool
+    pub fn is_same(&self, other: &Reply) -> bool
         ensures same { result ≡ same_reply self.now other.now }
         ensures one { IsTrue result ↔ (self.now ≡ other.now) }
     {
@@ -141,7 +141,7 @@ impl PartialEq for Reply {
     ghost laws = { Prim.search (comparing, rules) };
 
     fn eq(&self, other: &Reply) -> bool {
-        self.is(other)
+        self.is_same(other)
     }
 }
 

@@ -8,8 +8,8 @@ ghost use Rattle.line_law.specs.Levers.{lever_link, starter_link, starter_way};
 ghost use Rattle.line_law.specs.Lines.{HasFrame, HasRoom};
 ghost use Rattle.line_law.specs.Links.{way_of};
 ghost use Rattle.line_law.specs.Sound.{IsSound, SignalFits};
-ghost use Rattle.line_law.specs.Trains.{bring, bring_refusal, enter, go, left_by, line_left, overrun, overrun_refusal};
-ghost use Rattle.line_law.specs.Trains.{overrun_signal, pass, pass_refusal, pass_signal, way_refusal};
+ghost use Rattle.line_law.specs.Trains.{bring, bring_refusal, enter, entry_refusal, go, left_by, line_left, overrun};
+ghost use Rattle.line_law.specs.Trains.{overrun_refusal, overrun_signal, pass, pass_refusal, pass_signal, way_refusal};
 ghost use Rattle.line_law.specs.Ways.{of_way};
 
 use crate::call::Reply;
@@ -35,6 +35,19 @@ fn line_left(berth: Option<&Berth>, place: u32, line: Incoming) -> Incoming
             }
         }
         None => line,
+    }
+}
+
+impl PlainLine {
+    /// What the train that would enter as the `k`th is refused for: the plain line is full.
+    pub(crate) fn entry_refusal(&self, k: u64) -> Option<Reply>
+        ensures { result ≡ entry_refusal self.now k }
+    {
+        if self.holds(k) {
+            Some(Reply::SectionFull { k })
+        } else {
+            None
+        }
     }
 }
 
@@ -141,8 +154,8 @@ impl BoxState {
             ≡ record { reply = result; here = self.new; word = line.new } }
     {
         let k = self.sent.get(way) + 1;
-        if line.holds(k) {
-            return Reply::SectionFull { k };
+        if let Some(reply) = line.entry_refusal(k) {
+            return reply;
         }
         line.push(Passage { number: k, train });
         self.leave(plan, signal);

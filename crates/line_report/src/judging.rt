@@ -110,7 +110,7 @@ impl<'a> Judgement<'a> {
         self.count += 1;
         if let Verdict::Legal = self.verdict {
             let law = self.plain.perform(self.plan, entry.box_no, &entry.call);
-            if !entry.reply.is(&law) {
+            if !entry.reply.is_same(&law) {
                 self.box_no = entry.box_no;
                 self.verdict = Verdict::WrongAt {
                     line: self.count,

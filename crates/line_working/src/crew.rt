@@ -137,11 +137,11 @@ impl Crew {
 
     // The place of one who sleeps.
     fn sleeper(&self) -> Option<usize> {
-        (0..self.beds.len()).find(|place| self.is(*place, ASLEEP))
+        (0..self.beds.len()).find(|place| self.is_resting(*place, ASLEEP))
     }
 
     // Is the man of a box lying, or asleep?
-    fn is(&self, place: usize, rest: u32) -> bool {
+    fn is_resting(&self, place: usize, rest: u32) -> bool {
         match self.beds.get(place) {
             Some(bed) => bed.rest.load(SeqCst) == rest,
             None => false,
@@ -248,7 +248,7 @@ impl<'a, R: Wait, G: Gate> Pauses for Mate<'a, R, G> {
     fn pause(&self, taken: u32) {
         if taken < EAGER_LOOKS {
             hint::spin_loop();
-        } else if self.crew.is(self.place, LYING) {
+        } else if self.crew.is_resting(self.place, LYING) {
             self.crew.sleep(self.rt, self.place);
         } else if taken < EAGER_LOOKS + YIELDS && self.crew.sleeps_left.load(SeqCst) == 0 {
             if !self.gate.lets_run() {
@@ -260,7 +260,7 @@ impl<'a, R: Wait, G: Gate> Pauses for Mate<'a, R, G> {
     }
 
     fn ended(&self, taken: u32) {
-        if taken > EAGER_LOOKS && self.crew.is(self.place, LYING) {
+        if taken > EAGER_LOOKS && self.crew.is_resting(self.place, LYING) {
             self.crew.lie(self.place, UP);
         }
     }

@@ -56,7 +56,8 @@ fn stop_at(inputs: &Inputs, rehearsal: &Rehearsal, box_no: usize) -> Option<Stop
 // Whether it is his second call, at which the bell has rung once and shows nothing.
 fn is_at_second_bell(stop: Option<Stop>) -> bool {
     match stop {
-        Some(stop) => stop.number == 2 && stop.reply.is(&Reply::BellNotYet { shown: None, k: 1 }),
+        Some(stop) => stop.number == 2
+            && stop.reply.is_same(&Reply::BellNotYet { shown: None, k: 1 }),
         None => false,
     }
 }

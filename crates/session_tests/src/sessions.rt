@@ -63,7 +63,7 @@ fn makes(alloc: Global, session: &mut Session<'_>, call: &Call, reply: &Reply) -
         return false;
     }
     match session.make(alloc, call) {
-        Ok(answered) => answered.is(reply),
+        Ok(answered) => answered.is_same(reply),
         Err(NoMemory) => false,
     }
 }
@@ -71,7 +71,7 @@ fn makes(alloc: Global, session: &mut Session<'_>, call: &Call, reply: &Reply) -
 // What he would be answered, where the line is worked again first.
 fn would_get(alloc: Global, session: &mut Session<'_>, call: &Call, reply: &Reply) -> bool {
     match session.work_again(alloc) {
-        Ok(()) => session.may_call(call) && session.answer(call).is(reply),
+        Ok(()) => session.may_call(call) && session.answer(call).is_same(reply),
         Err(NoMemory) => false,
     }
 }

@@ -33,7 +33,7 @@ use Rattle.instrument_rule.specs.Calls.{MayStep, OpFits, Sits, WasSeen, here_at,
 use Rattle.word_laws.specs.Operations.{op_decides}
 use Rattle.instrument_rule.specs.Calls.{room_seen}
 use Rattle.instrument_rule.specs.Rule.{most_entries}
-use Rattle.instrument_rule.specs.Told.{MadeOrSaw, Met, Saw, Tells}
+use Rattle.instrument_rule.specs.Told.{MadeOrSaw, WordRead, Saw, Tells}
 use Rattle.instrument_rule.specs.Views.{caller_of, held, seeing}
 use Rattle.instrument_rule.proofs.Doing.{caller_held}
 use Rattle.instrument_rule.proofs.OpWords.{first_word, second_always, second_is}
@@ -307,14 +307,14 @@ await_yes false a l e h more = let must : l ≡ true = h (sym e) in absurd cc
 
 -- the box stays as the post has seen it in every history that an operation meets
 pub met_here : (plan : PlanFields) (log : List Entry) (word : Word) (v : View) (n : ℕ) → IsPlan plan → v.posts ≢ []
-    → Met plan log word v n
+    → WordRead plan log word v n
     → box_at (state_of plan log) (caller_of v.posts) ≡ box_at (state_of plan v.seen) (caller_of v.posts)
 met_here plan log word v n is holds met = own_box plan (caller_of v.posts) v.seen log is met.seen.begins met.legal
     (met.seen.own (caller_of v.posts) (caller_held v.posts holds))
 
 -- one look that has not met what its call looks for
 pub one_in_vain : (plan : PlanFields) (call : Call) (op : WordOp) (v : View) (n : ℕ) (log after : List Entry)
-    → IsPlan plan → v.posts ≢ [] → Met plan log (op_word (caller_of v.posts) call.act op) v n
+    → IsPlan plan → v.posts ≢ [] → WordRead plan log (op_word (caller_of v.posts) call.act op) v n
     → first_op plan (box_plan_of plan (caller_of v.posts)) call.act (here_at plan v.seen (caller_of v.posts) call) ≡ op
     → IsPrefix log after
     → met_by (box_plan_of plan (caller_of v.posts)) call.act (here_at plan v.seen (caller_of v.posts) call) n ≡ false
@@ -423,7 +423,7 @@ more_waits plan call v w x l m holds h k = record {
 -- a word that was met for a call agrees with the box, where the call is decided on that word
 pub met_agrees : (plan : PlanFields) (log : List Entry) (word : Word) (v : View) (n : ℕ) (call : Call) → IsPlan plan
     → v.posts ≢ [] → KnowsCall plan (caller_of v.posts) call
-    → Met plan log word v n → IsOnWord (kind_of (decide plan (box_plan_of plan (caller_of v.posts)) call.act
+    → WordRead plan log word v n → IsOnWord (kind_of (decide plan (box_plan_of plan (caller_of v.posts)) call.act
     (here_at plan v.seen (caller_of v.posts) call)))
     → word ≡ word_named (kind_of (decide plan (box_plan_of plan (caller_of v.posts)) call.act
     (here_at plan v.seen (caller_of v.posts) call))) (caller_of v.posts) (pair_of plan (caller_of v.posts) call)
@@ -454,7 +454,7 @@ met_agrees plan log word v n call is holds known met on named =
 -- the word that an operation met
 pub record Meets (plan : PlanFields) (word : Word) (v : View) (n : ℕ) : Type 0 where
   pub log : List Entry
-  pub met : Met plan log word v n
+  pub met : WordRead plan log word v n
 
 met_by_step : (d : Bool) (plan : PlanFields) (call : Call) (op : WordOp) (v : View) (n : ℕ) (w : View)
     → MadeOrSaw d plan call op v n w → Meets plan (op_word (caller_of v.posts) call.act op) v n

@@ -15,7 +15,7 @@ use Rattle.box_desk.specs.Steps.{awaits_of}
 use Rattle.instrument_rule.specs.declared.view.View.{View}
 use Rattle.instrument_rule.specs.Calls.{MayStep, Sits, here_at, op_word}
 use Rattle.instrument_rule.specs.Rule.{Seen}
-use Rattle.instrument_rule.specs.Told.{Met, Tells}
+use Rattle.instrument_rule.specs.Told.{WordRead, Tells}
 use Rattle.instrument_rule.specs.Views.{caller_of}
 use Rattle.signalman_seats.specs.Looks.{InVain}
 
@@ -60,7 +60,7 @@ Looked plan call looks v n w =
 pub record Decided (plan : PlanFields) (call : Call) (looks : ℕ) (v : View) (n : ℕ) (w : View) : Type 0 where
   pub log : List Entry
   pub op : WordOp
-  pub met : Met plan log (op_word (caller_of v.posts) call.act op) v n
+  pub met : WordRead plan log (op_word (caller_of v.posts) call.act op) v n
   pub legal : IsLegal plan (log ++ entry_of plan (state_of plan log) (caller_of v.posts) call ∷ [])
   pub its_word : op_word (caller_of v.posts) call.act op
       ≡ word_of plan (entry_of plan (state_of plan log) (caller_of v.posts) call)

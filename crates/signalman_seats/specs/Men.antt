@@ -17,7 +17,7 @@ use Rattle.train_register.specs.Registers.{RegisterFields}
 use Rattle.instrument_rule.specs.declared.view.View.{View}
 use Rattle.instrument_rule.specs.Calls.{op_word}
 use Rattle.instrument_rule.specs.Rule.{most_entries}
-use Rattle.instrument_rule.specs.Told.{Met}
+use Rattle.instrument_rule.specs.Told.{WordRead}
 use Rattle.instrument_rule.specs.Views.{caller_of}
 use Rattle.signalman_seats.specs.declared.notes.PlanNotes.{PlanNotes}
 use Rattle.signalman_seats.specs.Looks.{InVain}
@@ -104,7 +104,7 @@ pub record AtOneStep (plan : PlanFields) (b : ℕ) (call : Call) (reply : Reply)
   pub log : List Entry
   pub op : WordOp
   pub read : ℕ
-  pub met : Met plan log (op_word b call.act op) v read
+  pub met : WordRead plan log (op_word b call.act op) v read
   pub its_word : op_word b call.act op ≡ word_of plan (answered b call reply)
   pub now : w.seen ≡ log ++ answered b call reply ∷ []
 

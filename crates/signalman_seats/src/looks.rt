@@ -136,7 +136,7 @@ fn rest<P: Pauses>(pauses: &P, taken: u32, unmet: u64) -> Option<u64>
 
 /// What the operations of a call on its word came to: the word as it stood before the one that decided the call, and
 /// how many looks were taken.
-pub struct Met {
+pub struct DecidingWord {
     pub word: u64,
     pub looks: u32,
 }
@@ -149,7 +149,7 @@ fn decide<P: Pauses>(
     ask: &WordAsk,
     looks: u32,
     pauses: &P,
-) -> Met
+) -> DecidingWord
     requires line { post.old.seat.table_id ≡ line.now.table.shared.table_id }
     requires sits { Sits (plan_of line.now) (view_of post.old) }
     requires may { MayStep (plan_of line.now) ask.now.call (view_of post.old) }
@@ -170,7 +170,7 @@ fn decide<P: Pauses>(
             Ok(word) => {
                 let looks = looks - left;
                 pauses.ended(looks);
-                return Met { word, looks };
+                return DecidingWord { word, looks };
             }
             Err(unmet) => alone = rest(pauses, looks - left, unmet),
         }
@@ -178,9 +178,9 @@ fn decide<P: Pauses>(
     let word = look(post, line, desk, ask, true).unwrap();
     if ask.awaits {
         pauses.ended(looks);
-        Met { word, looks }
+        DecidingWord { word, looks }
     } else {
-        Met { word, looks: 0 }
+        DecidingWord { word, looks: 0 }
     }
 }
 
@@ -218,7 +218,7 @@ pub fn work<P: Pauses>(
             Answer { reply, looks: 0 }
         }
         Step::NeedsWord(ask) => {
-            let Met { word, looks } = decide(post, line, desk, &ask, looks, pauses);
+            let DecidingWord { word, looks } = decide(post, line, desk, &ask, looks, pauses);
             let reply = desk.finish(ask, word);
             Answer { reply, looks }
         }

@@ -16,7 +16,7 @@ use Rattle.token_law.specs.States.{TokenState, opening_tokens, out_by, tokens_at
 use Rattle.token_law.proofs.Histories.{calls_are_told, token_entry_determined}
 use Rattle.token_law.proofs.Tokens.{tokens_stay}
 use Rattle.token_block.specs.declared.view.Tokens.{Tokens}
-use Rattle.token_block.specs.Men.{IsFresh, IsOf, Man, Met, Performed, SawMore, answered}
+use Rattle.token_block.specs.Men.{IsFresh, IsOf, Man, HaveMet, Performed, SawMore, answered}
 use Rattle.token_block.specs.Rule.{IsHistoryOf}
 use Rattle.token_block.specs.Steps.{entry_after, state_after, with_call}
 use Rattle.token_block.specs.Working.{AreTogether}
@@ -78,7 +78,7 @@ second_is x h ne = omega (arith, h, ne)
 -- ---- two men after a meeting
 
 module _ (table_id : TableId) (tokens : Tokens) where
-  met_together : (new : Es) (one other one' other' : Man) (met : Met tokens one other one' other')
+  met_together : (new : Es) (one other one' other' : Man) (met : HaveMet tokens one other one' other')
       → IsOf table_id tokens one → IsOf table_id tokens other → one.box_no ≡ 0 → other.box_no ≡ 1
       → one.calls ≤ length new → other.calls ≤ length new → met.seen ≡ new
       → AreTogether table_id tokens new one' other'
@@ -95,7 +95,7 @@ module _ (table_id : TableId) (tokens : Tokens) where
 
   -- at the opening
   pub starts : (one other one' other' : Man) → IsFresh table_id tokens 0 one → IsFresh table_id tokens 1 other
-      → Met tokens one other one' other' → AreTogether table_id tokens [] one' other'
+      → HaveMet tokens one other one' other' → AreTogether table_id tokens [] one' other'
   starts one other one' other' f g met = met_together [] one other one' other' met f.of_line g.of_line f.box_no g.box_no
       (let n = f.calls in omega (arith, n)) (let n = g.calls in omega (arith, n)) nothing
     where
@@ -114,7 +114,7 @@ module _ (table_id : TableId) (tokens : Tokens) where
   pub first_called : (done : Es) (one other one' one'' other' : Man) (act : TokenAct) (reply : TokenReply)
       → AreTogether table_id tokens done one other → IsOf table_id tokens one' → one'.box_no ≡ one.box_no
       → Performed tokens one.box_no act reply one.view.seen one'.view.seen → one'.calls ≡ one.calls + 1
-      → Met tokens one' other one'' other'
+      → HaveMet tokens one' other one'' other'
       → AreTogether table_id tokens (with_call tokens done 0 act) one'' other'
       × (reply ≡ (entry_after tokens done 0 act).reply)
   first_called done one other one' one'' other' act reply at one_of same_box performed calls met =
@@ -140,7 +140,7 @@ module _ (table_id : TableId) (tokens : Tokens) where
   pub second_called : (done : Es) (one other other' one'' other'' : Man) (act : TokenAct) (reply : TokenReply)
       → AreTogether table_id tokens done one other → IsOf table_id tokens other' → other'.box_no ≡ other.box_no
       → Performed tokens other.box_no act reply other.view.seen other'.view.seen → other'.calls ≡ other.calls + 1
-      → Met tokens one other' one'' other''
+      → HaveMet tokens one other' one'' other''
       → AreTogether table_id tokens (with_call tokens done 1 act) one'' other''
       × (reply ≡ (entry_after tokens done 1 act).reply)
   second_called done one other other' one'' other'' act reply at other_of same_box performed calls met =

@@ -142,7 +142,7 @@ pub record SawMore (b : ℕ) (before after : List TokenEntry) : Type 0 where
 
 -- Two men met. They have then seen one legal history, which begins with what each had seen and has no other entry of
 -- either box; all else of both stays.
-pub record Met (tokens : Tokens) (one other : Man) (one' other' : Man) : Type 0 where
+pub record HaveMet (tokens : Tokens) (one other : Man) (one' other' : Man) : Type 0 where
   pub seen : List TokenEntry
   pub legal : IsHistoryOf tokens seen
   pub mine : SawMore one.box_no one.view.seen seen

@@ -5,7 +5,7 @@ ghost use Rattle.token_law.specs.History.{token_part_of};
 ghost use Rattle.token_law.specs.Law.{NamesTrain};
 ghost use Rattle.token_law.specs.States.{tokens_at};
 ghost use Rattle.token_block.specs.declared.view.Tokens.{Tokens};
-ghost use Rattle.token_block.specs.Men.{Answered, IsDrawn, IsFresh, IsOf, Met, Performed};
+ghost use Rattle.token_block.specs.Men.{Answered, IsDrawn, IsFresh, IsOf, HaveMet, Performed};
 ghost use Rattle.token_block.specs.Rule.{most_box_calls};
 ghost use Rattle.token_block.specs.Steps.{MayStep, Sits, op_by, state_after};
 
@@ -133,7 +133,7 @@ impl TokenMan {
     pub fn meet(&mut self, line: &TokenLine, other: &mut TokenMan)
         requires mine { IsOf line.now.table.shared.table_id line.now.table.shared.key self.old }
         requires theirs { IsOf line.now.table.shared.table_id line.now.table.shared.key other.old }
-        ensures { Met line.now.table.shared.key self.old other.old self.new other.new }
+        ensures { HaveMet line.now.table.shared.key self.old other.old self.new other.new }
     {
         let twin = self.post.split(line);
         other.post.join(line, twin);

@@ -25,12 +25,12 @@ fn is_decided_by(worked: Worked, first: WordOp, word: u64, reply: Reply) -> bool
         & ask.second.is_none()
         & !ask.awaits
         & (met == word)
-        & worked.reply.is(&reply)
+        & worked.reply.is_same(&reply)
 }
 
 // Was the call decided at the desk alone, with this reply?
 fn is_decided_alone(worked: Worked, reply: Reply) -> bool {
-    worked.asked.is_none() & worked.reply.is(&reply)
+    worked.asked.is_none() & worked.reply.is_same(&reply)
 }
 
 // Beech gives Line Clear, and would give it again.

@@ -19,8 +19,8 @@ use Rattle.line_journal.proofs.Orders.{in_range}
 use Rattle.line_journal.proofs.Steps.{next_placed, none_placed, reached}
 use Rattle.line_journal.proofs.merging.merged_boxes.Goals as goal
 
-pub open_rests-requires : goal.open_rests-requires
-open_rests-requires c =
+pub open_keepers-requires : goal.open_keepers-requires
+open_keepers-requires c =
     of_boxes c.args.plan.now _ [] c.in_ok-pairs.pairs.items c.in_ok-left.left c.meets_conditions.ensures
     (opens_at c.args.plan.now c.args.ended.now.registers [] c.in_ok-pairs.pairs.items c.in_ok-left.left
     c.meets_conditions.ensures c.requires refl
@@ -49,7 +49,7 @@ loop-box_no-init c =
       leaves = rw none (record { walk = tt; behind = left });
       count = ap (λ (ls : List (List Entry)). length ls) left ∙ length-map _ _ ∙ c.requires.parts.each;
       holds = record {
-        are_rests = c.in_ok-rests.ensures;
+        are_keepers = c.in_ok-keepers.ensures;
         each = each;
         asleep = λ b down was. awake b down (in_range c.in_ok-left.left b was.entry was.rest was.next);
         below = λ d less was. omega (arith, less);

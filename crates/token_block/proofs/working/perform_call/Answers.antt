@@ -1,6 +1,6 @@
 use Rattle.std.proofs.Common.{◌≡◌, ℕ, List, sym, ap, ◌∙◌, subst, arith}
 use Rattle.token_law.specs.declared.calls.TokenEntry.{TokenEntry}
-use Rattle.token_block.specs.Men.{Man, Met}
+use Rattle.token_block.specs.Men.{Man, HaveMet}
 use Rattle.token_block.specs.Steps.{entry_after, with_call}
 use Rattle.token_block.specs.Working.{AreTogether}
 use Rattle.token_block.proofs.Together.{first_called, second_called}
@@ -27,9 +27,9 @@ called c done at =
     elim c.if-call-eq0.branch [
       | then-call-eq0 w ↦
           let p = w.perform-reply in
-          let met : Met key p.new.self other n m =
-          subst (λ (x : Man). Met key p.new.self x n m) w.other-is
-          (subst (λ (x : Man). Met key x c.if-call-eq0.other n m) w.one-is c.meet.ensures) in
+          let met : HaveMet key p.new.self other n m =
+          subst (λ (x : Man). HaveMet key p.new.self x n m) w.other-is
+          (subst (λ (x : Man). HaveMet key x c.if-call-eq0.other n m) w.one-is c.meet.ensures) in
           let r = first_called id key done one other p.new.self n m act p.result at p.ensures.line p.ensures.box_no
           p.ensures.performed p.ensures.calls met in
           let back : 0 ≡ c.args.call.box_no = sym w.if-call-eq0.true in (
@@ -38,9 +38,9 @@ called c done at =
           )
       | else-call-eq0 w ↦
           let p = w.perform-reply-else-call-eq0 in
-          let met : Met key one p.new.self n m =
-          subst (λ (x : Man). Met key one x n m) w.other-is
-          (subst (λ (x : Man). Met key x c.if-call-eq0.other n m) w.one-is c.meet.ensures) in
+          let met : HaveMet key one p.new.self n m =
+          subst (λ (x : Man). HaveMet key one x n m) w.other-is
+          (subst (λ (x : Man). HaveMet key x c.if-call-eq0.other n m) w.one-is c.meet.ensures) in
           let r = second_called id key done one other p.new.self n m act p.result at p.ensures.line p.ensures.box_no
           p.ensures.performed p.ensures.calls met in
           let ne = w.if-call-eq0.false in

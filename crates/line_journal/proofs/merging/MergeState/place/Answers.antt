@@ -20,7 +20,7 @@ returns-in_default-clause-holds c =
     holds_past c.requires.holds c.requires.box_no
     (none_shut c.args.plan.now c.args.self.now.pairs.items c.args.self.now.left c.args.box_no
     (c.in_default.ensures.value ∙ ap (λ (list : List Entry). slice_get list 0) c.of_box.ensures))
-    c.requires.holds.are_rests refl refl c.pass_over.ensures.awake c.pass_over.ensures.from
+    c.requires.holds.are_keepers refl refl c.pass_over.ensures.awake c.pass_over.ensures.from
 
 pub word_of-pair-requires : goal.word_of-pair-requires
 word_of-pair-requires c =
@@ -43,7 +43,7 @@ returns-then-not-is_open-clause-holds c =
     let same = c.is_open.ensures.same in
     holds_past c.requires.holds c.requires.box_no
     (λ was. clash c.is_open.result c.if-not-is_open.true (c.is_open.ensures.opens.1 was))
-    c.is_open.ensures.rests (ap (λ (merge : MergeState). merge.pairs.items) same)
+    c.is_open.ensures.keepers (ap (λ (merge : MergeState). merge.pairs.items) same)
     (ap (λ (merge : MergeState). merge.left) same)
     (c.pass_over-then-not-is_open.ensures.awake
     ∙ ap (λ (merge : MergeState). slice_set merge.awake.items c.args.box_no false) same)
@@ -102,7 +102,7 @@ returns-clause-holds c =
     let same = c.is_open.ensures.same in
     holds_behind c.requires.line c.requires.holds c.requires.box_no next
     (c.requires.word c.in-Some.entry.now _ next) (c.is_open.ensures.opens.0 c.if-not-is_open.false)
-    c.is_open.ensures.rests
+    c.is_open.ensures.keepers
     (c.make.ensures ∙ ap (λ (merge : MergeState). made c.args.plan.now merge.pairs.items c.in-Some.entry.now) same)
     (c.place_next.ensures ∙ ap (λ (merge : MergeState). placed merge.left c.args.box_no) same)
     (c.wake.ensures ∙ ap (λ (merge : MergeState). pair_woken c.word_of-pair.result.0 merge.awake.items) same

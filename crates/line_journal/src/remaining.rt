@@ -18,11 +18,11 @@ fn behind(entries: &[Entry], count: usize) -> &[Entry]
 
 /// The entries of each register of a line that remain, where they stand in it. Contracts see them, box by box.
 #[derive(Drop)]
-pub struct Left<'a> {
+pub struct Remaining<'a> {
     lists: Vec<&'a [Entry]>,
 }
 
-impl<'a> Model for Left<'a> {
+impl<'a> Model for Remaining<'a> {
     ghost use Rattle.std.specs.Prelude.{List, map};
     ghost use Rattle.line_law.specs.declared.call.Entry.{Entry};
 
@@ -31,20 +31,20 @@ impl<'a> Model for Left<'a> {
     ghost view = { λ left. map (λ list. list.now) left.lists.items };
 }
 
-impl<'a> Left<'a> {
+impl<'a> Remaining<'a> {
     ghost use Rattle.std.specs.Prelude.{◌≡◌, ◌<◌, ◌≤◌, ◌-◌, ◌^◌, IfOk, length, min};
     ghost use Rattle.line_journal.specs.Lists.{count_left};
     ghost use Rattle.line_journal.specs.Order.{list_at, lists_of, placed, placed_some};
 
     /// Nothing is placed.
-    pub fn new(alloc: Global, registers: &'a [Register]) -> Result<Left<'a>, NoMemory>
+    pub fn new(alloc: Global, registers: &'a [Register]) -> Result<Remaining<'a>, NoMemory>
         ensures { IfOk result (λ left. left ≡ lists_of registers.now) }
     {
         let mut lists = Vec::with_capacity(alloc, registers.len())?;
         for register in registers {
             lists.push(register.entries())?;
         }
-        Ok(Left { lists })
+        Ok(Remaining { lists })
     }
 
     /// How many boxes there are.

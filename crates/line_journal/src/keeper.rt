@@ -18,26 +18,26 @@ pub struct Keeper {
 
 /// Some of these of one list; on top stands the first of them. Contracts see them, the first at the end.
 #[derive(Drop)]
-pub struct Rests {
-    keepers: Vec<Keeper>,
+pub struct Keepers {
+    list: Vec<Keeper>,
 }
 
-impl Model for Rests {
+impl Model for Keepers {
     ghost use Rattle.std.specs.Prelude.{List};
-    ghost use Rattle.line_journal.specs.declared.rests.Keeper.{Keeper};
+    ghost use Rattle.line_journal.specs.declared.keeper.Keeper.{Keeper};
 
     ghost Value = { List Keeper };
 
-    ghost view = { λ rests. rests.keepers.items };
+    ghost view = { λ keepers. keepers.list.items };
 }
 
-impl Rests {
+impl Keepers {
     /// Of no entry.
-    pub fn new(alloc: Global) -> Rests
+    pub fn new(alloc: Global) -> Keepers
         ensures { result ≡ [] }
     {
-        Rests {
-            keepers: Vec::new(alloc),
+        Keepers {
+            list: Vec::new(alloc),
         }
     }
 
@@ -46,7 +46,7 @@ impl Rests {
         ensures ok { OnOk result (self.new ≡ self.old ++ keeper ∷ []) }
         ensures err { OnErr result (self.new ≡ self.old) }
     {
-        self.keepers.push(keeper)?;
+        self.list.push(keeper)?;
         Ok(())
     }
 
@@ -55,11 +55,11 @@ impl Rests {
         ensures cut { AreCut most self.old self.new }
         ensures top { IsTop most self.new result }
     {
-        while let Some(keeper) = self.keepers.last().copied() {
+        while let Some(keeper) = self.list.last().copied() {
             if keeper.rest <= most {
                 return Some(keeper);
             }
-            let _keeper = self.keepers.pop();
+            let _keeper = self.list.pop();
         }
         None
     }

@@ -6,7 +6,7 @@ use Rattle.mark_up.specs.declared.tags.Tag.TheVariants as tags
 use Rattle.mark_up.specs.Attributes.{ValueFields as Value}
 use Rattle.mark_up.specs.Documents.{empty_tag, end_tag, start_tag}
 use Rattle.mark_up.specs.Escapes.{escaped}
-use Rattle.frame_picture.specs.declared.drawing.Point.{Point}
+use Rattle.picture_shapes.specs.declared.shapes.Point.{Point}
 
 -- a rectangle of a class, with its left top corner there
 unfoldable pub rect_text : List ℕ → Point → ℕ → ℕ → List ℕ

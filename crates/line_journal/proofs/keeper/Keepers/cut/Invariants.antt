@@ -1,9 +1,9 @@
 use Rattle.std.proofs.Common.{length}
 use Rattle.line_journal.specs.Keepers.{AreCut}
-use Rattle.line_journal.proofs.rests.Rests.cut.Given as goal
+use Rattle.line_journal.proofs.keeper.Keepers.cut.Given as goal
 
 abbrev pub invariant-loop-keeper : goal.invariant-loop-keeper
-invariant-loop-keeper l = AreCut l.most l.fn.self l.self-inside.keepers.items
+invariant-loop-keeper l = AreCut l.most l.fn.self l.self-inside.list.items
 
 abbrev pub decreases-loop-keeper : goal.decreases-loop-keeper
-decreases-loop-keeper l = length l.self-inside.keepers.items
+decreases-loop-keeper l = length l.self-inside.list.items

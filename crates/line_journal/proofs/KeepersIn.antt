@@ -11,9 +11,9 @@ use Rattle.std.proofs.lemmas.List.{length-set, same_from_push}
 use Rattle.std.proofs.lemmas.List.Elements.{All-append, All-cons, All-head, All-nil, All-tail, All-weaker}
 use Rattle.line_plan.specs.Plans.{PlanFields}
 use Rattle.line_law.specs.declared.call.Entry.{Entry}
-use Rattle.line_journal.specs.declared.rests.Keeper.{Keeper}
-use Rattle.line_journal.specs.Keepers.{AreCut, AreRests, AreRestsBelow, AreRestsFrom, AreRestsOf, IsFirst}
-use Rattle.line_journal.specs.Keepers.{IsTop, TellsFirst, keeper_count, keeper_slot, rests_in, slots}
+use Rattle.line_journal.specs.declared.keeper.Keeper.{Keeper}
+use Rattle.line_journal.specs.Keepers.{AreCut, AreKeepers, AreKeepersBelow, AreKeepersFrom, AreKeepersOf, IsFirst}
+use Rattle.line_journal.specs.Keepers.{IsTop, TellsFirst, keeper_count, keeper_slot, keepers_in, slots}
 use Rattle.line_journal.specs.Order.{list_at, placed}
 
 -- ---- one entry and those behind it
@@ -21,13 +21,13 @@ use Rattle.line_journal.specs.Order.{list_at, placed}
 abbrev keeper_of : Entry → List Entry → Keeper
 keeper_of x list = record { rest = length (x ∷ list); count = keeper_count x.reply }
 
-rests_mine : (plan : PlanFields) (slot : ℕ) (x : Entry) (list : List Entry) → (keeper_slot plan x == slot) ≡ true
-    → rests_in plan slot (x ∷ list) ≡ rests_in plan slot list ++ keeper_of x list ∷ []
-rests_mine plan slot x list is = rw is refl
+keepers_mine : (plan : PlanFields) (slot : ℕ) (x : Entry) (list : List Entry) → (keeper_slot plan x == slot) ≡ true
+    → keepers_in plan slot (x ∷ list) ≡ keepers_in plan slot list ++ keeper_of x list ∷ []
+keepers_mine plan slot x list is = rw is refl
 
-rests_other : (plan : PlanFields) (slot : ℕ) (x : Entry) (list : List Entry) → (keeper_slot plan x == slot) ≡ false
-    → rests_in plan slot (x ∷ list) ≡ rests_in plan slot list
-rests_other plan slot x list not = rw not refl
+keepers_other : (plan : PlanFields) (slot : ℕ) (x : Entry) (list : List Entry) → (keeper_slot plan x == slot) ≡ false
+    → keepers_in plan slot (x ∷ list) ≡ keepers_in plan slot list
+keepers_other plan slot x list not = rw not refl
 
 -- none has more left than there are entries
 abbrev Within : List Entry → Keeper → Type 0
@@ -37,42 +37,42 @@ Within list keeper = keeper.rest ≤ length list
 abbrev Beyond : ℕ → Keeper → Type 0
 Beyond most keeper = most < keeper.rest
 
-rests_few : (plan : PlanFields) (slot : ℕ) (list : List Entry) → All (Within list) (rests_in plan slot list)
-rests_few plan slot [] = All-nil (Within [])
-rests_few plan slot (x ∷ list) =
+keepers_few : (plan : PlanFields) (slot : ℕ) (list : List Entry) → All (Within list) (keepers_in plan slot list)
+keepers_few plan slot [] = All-nil (Within [])
+keepers_few plan slot (x ∷ list) =
     by (keeper_slot plan x == slot) refl
     (All-weaker (Within list) (Within (x ∷ list)) (λ keeper le. omega (arith, le))
-    (rests_in plan slot list) (rests_few plan slot list)) where
-      by : (t : Bool) → (keeper_slot plan x == slot) ≡ t → All (Within (x ∷ list)) (rests_in plan slot list)
-          → All (Within (x ∷ list)) (rests_in plan slot (x ∷ list))
+    (keepers_in plan slot list) (keepers_few plan slot list)) where
+      by : (t : Bool) → (keeper_slot plan x == slot) ≡ t → All (Within (x ∷ list)) (keepers_in plan slot list)
+          → All (Within (x ∷ list)) (keepers_in plan slot (x ∷ list))
       by true is before =
-          subst (λ (ks : List Keeper). All (Within (x ∷ list)) ks) (sym (rests_mine plan slot x list is))
-          (All-append (Within (x ∷ list)) (rests_in plan slot list) (keeper_of x list ∷ []) before
+          subst (λ (ks : List Keeper). All (Within (x ∷ list)) ks) (sym (keepers_mine plan slot x list is))
+          (All-append (Within (x ∷ list)) (keepers_in plan slot list) (keeper_of x list ∷ []) before
           (All-cons (Within (x ∷ list)) (keeper_of x list) [] (omega arith) (All-nil (Within (x ∷ list)))))
       by false not before =
-          subst (λ (ks : List Keeper). All (Within (x ∷ list)) ks) (sym (rests_other plan slot x list not)) before
+          subst (λ (ks : List Keeper). All (Within (x ∷ list)) ks) (sym (keepers_other plan slot x list not)) before
 
 -- as an entry is placed
-rests_on : (plan : PlanFields) (slot : ℕ) (list : List Entry) (rests : List Keeper) → AreRestsOf plan slot list rests
-    → AreRestsOf plan slot (drop 1 list) rests
-rests_on plan slot [] rests of = of
-rests_on plan slot (x ∷ list) rests of = by (keeper_slot plan x == slot) refl where
+keepers_on : (plan : PlanFields) (slot : ℕ) (list : List Entry) (keepers : List Keeper)
+    → AreKeepersOf plan slot list keepers → AreKeepersOf plan slot (drop 1 list) keepers
+keepers_on plan slot [] keepers of = of
+keepers_on plan slot (x ∷ list) keepers of = by (keeper_slot plan x == slot) refl where
   above : All (Beyond (length list)) of.over
   above =
       All-weaker (Beyond (length (x ∷ list))) (Beyond (length list)) (λ keeper lt. omega (arith, lt)) of.over of.above
 
-  by : (t : Bool) → (keeper_slot plan x == slot) ≡ t → AreRestsOf plan slot list rests
+  by : (t : Bool) → (keeper_slot plan x == slot) ≡ t → AreKeepersOf plan slot list keepers
   by true is =
       record {
         over = keeper_of x list ∷ of.over;
-        are = of.are ∙ ap (λ (ks : List Keeper). ks ++ of.over) (rests_mine plan slot x list is)
-            ∙ append_assoc (rests_in plan slot list) (keeper_of x list ∷ []) of.over;
+        are = of.are ∙ ap (λ (ks : List Keeper). ks ++ of.over) (keepers_mine plan slot x list is)
+            ∙ append_assoc (keepers_in plan slot list) (keeper_of x list ∷ []) of.over;
         above = All-cons (Beyond (length list)) (keeper_of x list) of.over (omega arith) above;
       }
   by false not =
       record {
         over = of.over;
-        are = of.are ∙ ap (λ (ks : List Keeper). ks ++ of.over) (rests_other plan slot x list not);
+        are = of.are ∙ ap (λ (ks : List Keeper). ks ++ of.over) (keepers_other plan slot x list not);
         above = above;
       }
 
@@ -114,9 +114,9 @@ no_both list (k ∷ ks) few many =
     let lt : length list < k.rest = All-head (Beyond (length list)) k ks many in
     absurd (omega (arith, le, lt))
 
-pub cut_rests : (plan : PlanFields) (slot : ℕ) (list : List Entry) (old new : List Keeper)
-    → AreRestsOf plan slot list old → AreCut (length list) old new → AreRestsOf plan slot list new
-cut_rests plan slot list old new of cut =
+pub cut_keepers : (plan : PlanFields) (slot : ℕ) (list : List Entry) (old new : List Keeper)
+    → AreKeepersOf plan slot list old → AreCut (length list) old new → AreKeepersOf plan slot list new
+cut_keepers plan slot list old new of cut =
     ⊎_elim
     (λ (more : Parted own of.over new cut.over). record {
       over = more.0;
@@ -128,7 +128,7 @@ cut_rests plan slot list old new of cut =
     let none : less.0 ≡ [] =
     no_both list less.0
     (All-back (Within list) new less.0
-    (subst (λ (ks : List Keeper). All (Within list) ks) less.1 (rests_few plan slot list)))
+    (subst (λ (ks : List Keeper). All (Within list) ks) less.1 (keepers_few plan slot list)))
     (All-front (Beyond (length list)) less.0 of.over
     (subst (λ (ks : List Keeper). All (Beyond (length list)) ks) less.2 cut.above)) in
     record {
@@ -138,7 +138,7 @@ cut_rests plan slot list old new of cut =
     })
     (parted own of.over new cut.over (sym of.are ∙ cut.were)) where
       own : List Keeper
-      own = rests_in plan slot list
+      own = keepers_in plan slot list
 
 last_apart : (ks : List Keeper) (k : Keeper) → slice_get ks (length ks - 1) ≡ Some k
     → ks ≡ take (length ks - 1) ks ++ k ∷ []
@@ -210,30 +210,30 @@ find_other : (plan : PlanFields) (slot : ℕ) (x : Entry) (list : List Entry) �
     → find (λ x. keeper_slot plan x == slot) (x ∷ list) ≡ find (λ x. keeper_slot plan x == slot) list
 find_other plan slot x list not = rw not refl
 
-find_none : (plan : PlanFields) (slot : ℕ) (list : List Entry) → rests_in plan slot list ≡ []
+find_none : (plan : PlanFields) (slot : ℕ) (list : List Entry) → keepers_in plan slot list ≡ []
     → find (λ x. keeper_slot plan x == slot) list ≡ None
 find_none plan slot [] none = refl
 find_none plan slot (x ∷ list) none = by (keeper_slot plan x == slot) refl (λ h. find_none plan slot list h) where
   by : (t : Bool) → (keeper_slot plan x == slot) ≡ t
-      → (rests_in plan slot list ≡ [] → find (λ x. keeper_slot plan x == slot) list ≡ None)
+      → (keepers_in plan slot list ≡ [] → find (λ x. keeper_slot plan x == slot) list ≡ None)
       → find (λ x. keeper_slot plan x == slot) (x ∷ list) ≡ None
-  by true is behind = absurd (pushed_some (rests_in plan slot list) (keeper_of x list)
-      (sym (rests_mine plan slot x list is) ∙ none))
+  by true is behind = absurd (pushed_some (keepers_in plan slot list) (keeper_of x list)
+      (sym (keepers_mine plan slot x list is) ∙ none))
   by false not behind =
-      find_other plan slot x list not ∙ behind (sym (rests_other plan slot x list not) ∙ none)
+      find_other plan slot x list not ∙ behind (sym (keepers_other plan slot x list not) ∙ none)
 
 find_last : (plan : PlanFields) (slot : ℕ) (list : List Entry) (below : List Keeper) (top : Keeper)
-    → rests_in plan slot list ≡ below ++ top ∷ [] → IsFirst plan slot list top
+    → keepers_in plan slot list ≡ below ++ top ∷ [] → IsFirst plan slot list top
 find_last plan slot [] below top last = absurd (pushed_some below top (sym last))
 find_last plan slot (x ∷ list) below top last =
     by (keeper_slot plan x == slot) refl (λ h. find_last plan slot list below top h) where
       by : (t : Bool) → (keeper_slot plan x == slot) ≡ t
-          → (rests_in plan slot list ≡ below ++ top ∷ [] → IsFirst plan slot list top)
+          → (keepers_in plan slot list ≡ below ++ top ∷ [] → IsFirst plan slot list top)
           → IsFirst plan slot (x ∷ list) top
       by true is on =
           let same : keeper_of x list ≡ top =
-          (same_from_push (rests_in plan slot list) below (keeper_of x list) top
-          (sym (rests_mine plan slot x list is) ∙ last)).1 in
+          (same_from_push (keepers_in plan slot list) below (keeper_of x list) top
+          (sym (keepers_mine plan slot x list is) ∙ last)).1 in
           let rest : length (x ∷ list) ≡ top.rest = ap (λ (k : Keeper). k.rest) same in
           let first : length (x ∷ list) - top.rest ≡ 0 = omega (arith, rest) in
           record {
@@ -245,7 +245,7 @@ find_last plan slot (x ∷ list) below top last =
             count = ap (λ (k : Keeper). k.count) same;
           }
       by false not on =
-          let first = on (sym (rests_other plan slot x list not) ∙ last) in
+          let first = on (sym (keepers_other plan slot x list not) ∙ last) in
           let fewer : top.rest ≤ length list = first.few in
           let next : length (x ∷ list) - top.rest ≡ suc (length list - top.rest) = omega (arith, fewer) in
           record {
@@ -258,70 +258,72 @@ find_last plan slot (x ∷ list) below top last =
           }
 
 -- what is on top tells of the first that has the number
-pub found_on_top : (plan : PlanFields) (slot : ℕ) (list : List Entry) (rests : List Keeper) (top : Option Keeper)
-    → AreRestsOf plan slot list rests → IsTop (length list) rests top → TellsFirst plan slot list top
-found_on_top plan slot list rests None are on_top =
-    find_none plan slot list (nothing_on (rests_in plan slot list) are.over (sym are.are ∙ on_top))
-found_on_top plan slot list rests (Some top) are on_top =
+pub found_on_top : (plan : PlanFields) (slot : ℕ) (list : List Entry) (keepers : List Keeper) (top : Option Keeper)
+    → AreKeepersOf plan slot list keepers → IsTop (length list) keepers top → TellsFirst plan slot list top
+found_on_top plan slot list keepers None are on_top =
+    find_none plan slot list (nothing_on (keepers_in plan slot list) are.over (sym are.are ∙ on_top))
+found_on_top plan slot list keepers (Some top) are on_top =
     find_last plan slot list on_top.0 top
-    (top_own (length list) (rests_in plan slot list) are.over on_top.0 top (sym are.are ∙ on_top.1) are.above on_top.2)
+    (top_own (length list) (keepers_in plan slot list) are.over on_top.0 top (sym are.are ∙ on_top.1) are.above
+    on_top.2)
 
 -- ---- of all boxes
 
 one_place : (b c s t : ℕ) → s < slots → t < slots → slots * b + s ≡ slots * c + t → (b ≡ c) × (s ≡ t)
 one_place b c s t h k e = (omega (arith, h, k, e), omega (arith, h, k, e))
 
-pub rests_set : (plan : PlanFields) (lists : List (List Entry)) (rests : List (List Keeper)) (b slot : ℕ)
-    (new : List Keeper) → AreRests plan lists rests → b < length lists → slot < slots
-    → AreRestsOf plan slot (list_at lists b) new → AreRests plan lists (slice_set rests (slots * b + slot) new)
-rests_set plan lists rests b slot new are within few of =
+pub keepers_set : (plan : PlanFields) (lists : List (List Entry)) (keepers : List (List Keeper)) (b slot : ℕ)
+    (new : List Keeper) → AreKeepers plan lists keepers → b < length lists → slot < slots
+    → AreKeepersOf plan slot (list_at lists b) new → AreKeepers plan lists (slice_set keepers (slots * b + slot) new)
+keepers_set plan lists keepers b slot new are within few of =
     record {
-      each = length-set rests (slots * b + slot) new ∙ are.each;
+      each = length-set keepers (slots * b + slot) new ∙ are.each;
       are = λ c t in_c some in_t. ⊎_elim
           (λ mine.
           let one = one_place c b t slot in_t few mine.1 in
-          let at : slice_index_or (slice_set rests (slots * b + slot) new) (slots * c + t) [] ≡ new =
-          ap (λ (k : ℕ). slice_index_or (slice_set rests (slots * b + slot) new) k []) mine.1
-          ∙ get_or-set_same rests (slots * b + slot) new [] (omega (arith, are.each, within, few)) in
-          let P : ℕ → ℕ → List Keeper → Type 0 = λ d u ns. AreRestsOf plan u (list_at lists d) ns in
+          let at : slice_index_or (slice_set keepers (slots * b + slot) new) (slots * c + t) [] ≡ new =
+          ap (λ (k : ℕ). slice_index_or (slice_set keepers (slots * b + slot) new) k []) mine.1
+          ∙ get_or-set_same keepers (slots * b + slot) new [] (omega (arith, are.each, within, few)) in
+          let P : ℕ → ℕ → List Keeper → Type 0 = λ d u ns. AreKeepersOf plan u (list_at lists d) ns in
           subst (λ (ks : List Keeper). P c t ks) (sym at) (subst (λ (u : ℕ). P c u new) (sym one.1)
           (subst (λ (d : ℕ). P d slot new) (sym one.0) of)))
-          (λ other. subst (λ (ks : List Keeper). AreRestsOf plan t (list_at lists c) ks)
-          (sym (get_or-set_other rests (slots * b + slot) (slots * c + t) new [] other.1)) (are.are c t in_c some in_t))
+          (λ other. subst (λ (ks : List Keeper). AreKeepersOf plan t (list_at lists c) ks)
+          (sym (get_or-set_other keepers (slots * b + slot) (slots * c + t) new [] other.1))
+          (are.are c t in_c some in_t))
           (eqb_tells (slots * c + t) (slots * b + slot));
     }
 
 -- what is over is cut from one
-pub rests_cut : {plan : PlanFields} {lists : List (List Entry)} {rests : List (List Keeper)} {b slot : ℕ}
-    {entries : List Entry} {new : List Keeper} (d : List Keeper) → AreRests plan lists rests → b < length lists
+pub keepers_cut : {plan : PlanFields} {lists : List (List Entry)} {keepers : List (List Keeper)} {b slot : ℕ}
+    {entries : List Entry} {new : List Keeper} (d : List Keeper) → AreKeepers plan lists keepers → b < length lists
     → 2 ≤ slot → slot < slots → entries ≡ list_at lists b
-    → AreCut (length entries) (slice_index_or rests (slots * b + slot) d) new
-    → AreRests plan lists (slice_set rests (slots * b + slot) new)
-rests_cut {plan} {lists} {rests} {b} {slot} {entries} {new} d are within some few own cut =
-    rests_set plan lists rests b slot new are within few
-    (cut_rests plan slot (list_at lists b) (slice_index_or rests (slots * b + slot) d) new
-    (subst (λ (ks : List Keeper). AreRestsOf plan slot (list_at lists b) ks)
-    (get_or_default rests (slots * b + slot) [] d (omega (arith, are.each, within, few)))
+    → AreCut (length entries) (slice_index_or keepers (slots * b + slot) d) new
+    → AreKeepers plan lists (slice_set keepers (slots * b + slot) new)
+keepers_cut {plan} {lists} {keepers} {b} {slot} {entries} {new} d are within some few own cut =
+    keepers_set plan lists keepers b slot new are within few
+    (cut_keepers plan slot (list_at lists b) (slice_index_or keepers (slots * b + slot) d) new
+    (subst (λ (ks : List Keeper). AreKeepersOf plan slot (list_at lists b) ks)
+    (get_or_default keepers (slots * b + slot) [] d (omega (arith, are.each, within, few)))
     (are.are b slot within some few))
-    (subst (λ (l : List Entry). AreCut (length l) (slice_index_or rests (slots * b + slot) d) new) own cut))
+    (subst (λ (l : List Entry). AreCut (length l) (slice_index_or keepers (slots * b + slot) d) new) own cut))
 
 -- and what is on top then tells of the first entry that has the number
-pub first_told : {plan : PlanFields} {lists : List (List Entry)} {rests : List (List Keeper)} {b slot : ℕ}
-    {entries : List Entry} {new : List Keeper} (top : Option Keeper) (d : List Keeper) → AreRests plan lists rests
+pub first_told : {plan : PlanFields} {lists : List (List Entry)} {keepers : List (List Keeper)} {b slot : ℕ}
+    {entries : List Entry} {new : List Keeper} (top : Option Keeper) (d : List Keeper) → AreKeepers plan lists keepers
     → b < length lists → 2 ≤ slot → slot < slots → entries ≡ list_at lists b
-    → AreCut (length entries) (slice_index_or rests (slots * b + slot) d) new → IsTop (length entries) new top
+    → AreCut (length entries) (slice_index_or keepers (slots * b + slot) d) new → IsTop (length entries) new top
     → TellsFirst plan slot (list_at lists b) top
-first_told {plan} {lists} {rests} {b} {slot} {entries} {new} top d are within some few own cut on_top =
+first_told {plan} {lists} {keepers} {b} {slot} {entries} {new} top d are within some few own cut on_top =
     found_on_top plan slot (list_at lists b) new top
-    (subst (λ (ks : List Keeper). AreRestsOf plan slot (list_at lists b) ks)
-    (get_or-set_same rests (slots * b + slot) new [] (omega (arith, are.each, within, few)))
-    ((rests_cut d are within some few own cut).are b slot within some few))
+    (subst (λ (ks : List Keeper). AreKeepersOf plan slot (list_at lists b) ks)
+    (get_or-set_same keepers (slots * b + slot) new [] (omega (arith, are.each, within, few)))
+    ((keepers_cut d are within some few own cut).are b slot within some few))
     (subst (λ (l : List Entry). IsTop (length l) new top) own on_top)
 
 -- what is placed leaves the keepers of what remains
-pub rests_next : (plan : PlanFields) (lists : List (List Entry)) (rests : List (List Keeper)) (b : ℕ)
-    → AreRests plan lists rests → b < length lists → AreRests plan (placed lists b) rests
-rests_next plan lists rests b are within =
+pub keepers_next : (plan : PlanFields) (lists : List (List Entry)) (keepers : List (List Keeper)) (b : ℕ)
+    → AreKeepers plan lists keepers → b < length lists → AreKeepers plan (placed lists b) keepers
+keepers_next plan lists keepers b are within =
     let n : length (placed lists b) ≡ length lists = length-set lists b _ in
     record {
       each = are.each ∙ ap (λ (k : ℕ). slots * k) (sym n);
@@ -333,9 +335,9 @@ rests_next plan lists rests b are within =
           let at : list_at (placed lists b) c ≡ drop 1 (list_at lists c) =
           ap (λ (k : ℕ). list_at (placed lists b) k) mine.1 ∙ get_or-set_same lists b _ [] within
           ∙ ap (λ (k : ℕ). drop 1 (list_at lists k)) (sym mine.1) in
-          subst (λ (l : List Entry). AreRestsOf plan t l (slice_index_or rests (slots * c + t) [])) (sym at)
-          (rests_on plan t (list_at lists c) (slice_index_or rests (slots * c + t) []) old))
-          (λ other. subst (λ (l : List Entry). AreRestsOf plan t l (slice_index_or rests (slots * c + t) []))
+          subst (λ (l : List Entry). AreKeepersOf plan t l (slice_index_or keepers (slots * c + t) [])) (sym at)
+          (keepers_on plan t (list_at lists c) (slice_index_or keepers (slots * c + t) []) old))
+          (λ other. subst (λ (l : List Entry). AreKeepersOf plan t l (slice_index_or keepers (slots * c + t) []))
           (sym (get_or-set_other lists b c _ [] other.1)) old)
           (eqb_tells c b);
     }
@@ -343,35 +345,36 @@ rests_next plan lists rests b are within =
 -- ---- of one box more
 
 -- and those of one box more
-pub rests_more : {plan : PlanFields} {lists : List (List Entry)} {n : ℕ} {rests behind : List (List Keeper)}
-    {entries : List Entry} {more : List (List Keeper)} → AreRestsBelow plan lists n rests → entries ≡ list_at lists n
-    → AreRestsFrom plan entries 0 behind → more ≡ rests ++ behind → AreRestsBelow plan lists (n + 1) more
-rests_more {plan} {lists} {n} {rests} {behind} {entries} {more} below own from is =
+pub keepers_more : {plan : PlanFields} {lists : List (List Entry)} {n : ℕ} {keepers behind : List (List Keeper)}
+    {entries : List Entry} {more : List (List Keeper)} → AreKeepersBelow plan lists n keepers
+    → entries ≡ list_at lists n → AreKeepersFrom plan entries 0 behind → more ≡ keepers ++ behind → AreKeepersBelow plan lists (n + 1) more
+keepers_more {plan} {lists} {n} {keepers} {behind} {entries} {more} below own from is =
     record {
-      each = ap (λ (ks : List (List Keeper)). length ks) is ∙ length-append rests behind
+      each = ap (λ (ks : List (List Keeper)). length ks) is ∙ length-append keepers behind
           ∙ omega (arith, below.each, from.each);
       are = λ b slot in_b some few. ⊎_elim
-          (λ mine. subst (λ (c : ℕ). AreRestsOf plan slot (list_at lists c) (slice_index_or more (slots * c + slot) []))
+          (λ mine. subst
+          (λ (c : ℕ). AreKeepersOf plan slot (list_at lists c) (slice_index_or more (slots * c + slot) []))
           (sym mine.1) (last_of slot some few))
-          (λ other. subst (λ (ks : List Keeper). AreRestsOf plan slot (list_at lists b) ks)
+          (λ other. subst (λ (ks : List Keeper). AreKeepersOf plan slot (list_at lists b) ks)
           (sym (ap (λ (ks : List (List Keeper)). slice_index_or ks (slots * b + slot) []) is
-          ∙ get_or_append_left rests behind [] (slots * b + slot)
+          ∙ get_or_append_left keepers behind [] (slots * b + slot)
           (before b slot (omega (arith, in_b, other.1)) few)))
           (below.are b slot (omega (arith, in_b, other.1)) some few))
           (eqb_tells b n);
     } where
-      before : (b slot : ℕ) → b < n → slot < slots → slots * b + slot < length rests
+      before : (b slot : ℕ) → b < n → slot < slots → slots * b + slot < length keepers
       before b slot in_b few = omega (arith, in_b, few, below.each)
 
       last_of : (slot : ℕ) → 2 ≤ slot → slot < slots
-          → AreRestsOf plan slot (list_at lists n) (slice_index_or more (slots * n + slot) [])
+          → AreKeepersOf plan slot (list_at lists n) (slice_index_or more (slots * n + slot) [])
       last_of slot some few =
           record {
             over = [];
             are = ap (λ (ks : List (List Keeper)). slice_index_or ks (slots * n + slot) []) is
-                ∙ ap (λ (k : ℕ). slice_index_or (rests ++ behind) (k + slot) []) (sym below.each)
-                ∙ get_or-append-add rests behind slot [] ∙ from.are slot some few
-                ∙ ap (λ (l : List Entry). rests_in plan slot l) own
-                ∙ sym (append-nil (rests_in plan slot (list_at lists n)));
+                ∙ ap (λ (k : ℕ). slice_index_or (keepers ++ behind) (k + slot) []) (sym below.each)
+                ∙ get_or-append-add keepers behind slot [] ∙ from.are slot some few
+                ∙ ap (λ (l : List Entry). keepers_in plan slot l) own
+                ∙ sym (append-nil (keepers_in plan slot (list_at lists n)));
             above = All-nil (Beyond (length (list_at lists n)));
           }

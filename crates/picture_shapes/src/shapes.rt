@@ -1,8 +1,8 @@
 //! The shapes of a picture.
 
-ghost use Rattle.std.specs.Prelude.{◌≡◌, ◌++◌, ◌∷◌, IfOk, OnOk, string_bytes};
-ghost use Rattle.frame_picture.specs.Shapes.{group_start, line_text, number_text, polygon_text, rect_text, turn_text};
-ghost use Rattle.frame_picture.specs.Shapes.{upright_text, words_text};
+ghost use Rattle.std.specs.Prelude.{◌≡◌, ◌++◌, ◌∷◌, IfOk, OnErr, OnOk, string_bytes};
+ghost use Rattle.picture_shapes.specs.Shapes.{group_start, line_text, number_text, polygon_text, rect_text, turn_text};
+ghost use Rattle.picture_shapes.specs.Shapes.{upright_text, words_text};
 ghost use Rattle.mark_up.specs.declared.tags.Tag.TheVariants.{Group};
 
 use mark_up::{EmptyTag, Name, Page, Tag, Value};
@@ -25,7 +25,7 @@ impl Point {
     }
 }
 
-// A rectangle with this corner at its left and top.
+/// Puts a rectangle with this corner at its left and top.
 #[tactic(auto, unfolding(crate::specs::Shapes::rect_text))]
 pub fn put_rect(
     page: &mut Page,
@@ -36,6 +36,7 @@ pub fn put_rect(
 ) -> Result<(), AllocError>
     ensures text { OnOk result (page.new.text ≡ page.old.text ++ rect_text class.now corner width height) }
     ensures tags { OnOk result (page.new.open_tags ≡ page.old.open_tags) }
+    ensures err { OnErr result (page.new ≡ page.old) }
 {
     page.put(
         EmptyTag::Rect,
@@ -49,11 +50,12 @@ pub fn put_rect(
     )
 }
 
-// A line from one point to another.
+/// Puts a line from one point to another.
 #[tactic(auto, unfolding(crate::specs::Shapes::line_text))]
 pub fn put_line(page: &mut Page, class: &str, from: Point, to: Point) -> Result<(), AllocError>
     ensures text { OnOk result (page.new.text ≡ page.old.text ++ line_text class.now from to) }
     ensures tags { OnOk result (page.new.open_tags ≡ page.old.open_tags) }
+    ensures err { OnErr result (page.new ≡ page.old) }
 {
     page.put(
         EmptyTag::Line,
@@ -67,11 +69,12 @@ pub fn put_line(page: &mut Page, class: &str, from: Point, to: Point) -> Result<
     )
 }
 
-// A closed figure with these corners.
+/// Puts a closed figure with these corners, written as SVG has them.
 #[tactic(auto, unfolding(crate::specs::Shapes::polygon_text))]
 pub fn put_polygon(page: &mut Page, class: &str, corners: &str) -> Result<(), AllocError>
     ensures text { OnOk result (page.new.text ≡ page.old.text ++ polygon_text class.now corners.now) }
     ensures tags { OnOk result (page.new.open_tags ≡ page.old.open_tags) }
+    ensures err { OnErr result (page.new ≡ page.old) }
 {
     page.put(
         EmptyTag::Polygon,
@@ -82,11 +85,12 @@ pub fn put_polygon(page: &mut Page, class: &str, corners: &str) -> Result<(), Al
     )
 }
 
-// A text.
+/// Puts words at a point.
 #[tactic(auto, unfolding(crate::specs::Shapes::words_text))]
 pub fn put_words(page: &mut Page, class: &str, at: Point, text: &str) -> Result<(), AllocError>
     ensures text { OnOk result (page.new.text ≡ page.old.text ++ words_text class.now at text.now) }
     ensures tags { OnOk result (page.new.open_tags ≡ page.old.open_tags) }
+    ensures err { OnErr result (page.new ≡ page.old) }
 {
     page.put_text(
         Tag::Text,
@@ -99,7 +103,7 @@ pub fn put_words(page: &mut Page, class: &str, at: Point, text: &str) -> Result<
     )
 }
 
-// A number.
+/// Puts a number at a point.
 #[tactic(auto, unfolding(crate::specs::Shapes::number_text))]
 pub fn put_number(
     page: &mut Page,
@@ -110,6 +114,7 @@ pub fn put_number(
 ) -> Result<(), AllocError>
     ensures text { OnOk result (page.new.text ≡ page.old.text ++ number_text class.now at number) }
     ensures tags { OnOk result (page.new.open_tags ≡ page.old.open_tags) }
+    ensures err { OnErr result (page.new ≡ page.old) }
 {
     let text = format!(in alloc; "{number}")?;
     put_words(page, class, at, text.as_str())
@@ -128,7 +133,7 @@ fn turn_text(alloc: Global, at: Point) -> Result<String, AllocError>
     Ok(text)
 }
 
-// Words that are read from a point upwards.
+/// Puts words that are read from a point upwards.
 #[tactic(auto, unfolding(crate::specs::Shapes::upright_text))]
 pub fn put_upright(
     page: &mut Page,
@@ -139,6 +144,7 @@ pub fn put_upright(
 ) -> Result<(), AllocError>
     ensures text { OnOk result (page.new.text ≡ page.old.text ++ upright_text class.now at text.now) }
     ensures tags { OnOk result (page.new.open_tags ≡ page.old.open_tags) }
+    ensures err { OnErr result (page.new ≡ page.old) }
 {
     let turn = turn_text(alloc, at)?;
     page.put_text(
@@ -151,7 +157,7 @@ pub fn put_upright(
     )
 }
 
-// Begins a group of shapes that is told as one by this name.
+/// Begins a group of shapes that is told as one by this name, for readers by ear.
 #[tactic(auto, unfolding(crate::specs::Shapes::group_start))]
 pub fn begin_group(page: &mut Page, name: &str) -> Result<(), AllocError>
     ensures text { OnOk result (page.new.text ≡ page.old.text ++ group_start name.now) }

@@ -1,7 +1,7 @@
 use Rattle.std.proofs.Common.{List, drop, ap, ◌∙◌}
 use Rattle.line_law.specs.declared.call.Entry.{Entry}
 use Rattle.line_journal.proofs.Lefts.{lists_set}
-use Rattle.line_journal.proofs.left.Left.place_some.Goals as goal
+use Rattle.line_journal.proofs.remaining.Remaining.place_some.Goals as goal
 
 pub returns : goal.returns
 returns c =

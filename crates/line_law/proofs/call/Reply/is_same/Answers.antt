@@ -2,7 +2,7 @@ use Rattle.std.proofs.Common.{rules, ◌≡◌, Bool, IsTrue, sym, subst}
 use Rattle.std.specs.Prelude.{◌↔◌}
 use Rattle.line_law.specs.Replies.{same_reply}
 use Rattle.line_law.proofs.SameReplies.{same_reply_is}
-use Rattle.line_law.proofs.call.Reply.is.Goals as goal
+use Rattle.line_law.proofs.call.Reply.is_same.Goals as goal
 
 -- what the code tests is whether the replies are the same
 pub returns-clause-one : goal.returns-clause-one

@@ -1,6 +1,0 @@
-use Rattle.line_journal.proofs.RestsIn.{rests_more}
-use Rattle.line_journal.proofs.merging.open_rests.Goals as goal
-
-pub loop-box_no-preserved : goal.loop-box_no-preserved
-loop-box_no-preserved c =
-    rests_more c.loop-box_no.invariant c.of_box.ensures c.in_ok-behind.ensures c.in_ok-append.ensures.items
