@@ -1,7 +1,7 @@
 # The crates whose tests try what no words reach.
 TESTS = $(patsubst crates/%/,%,$(wildcard crates/*_tests/))
 
-.PHONY: demo build cases quick $(TESTS) bench soak loaded races faults edge typed sizes planted contracts test
+.PHONY: demo build cases quick $(TESTS) bench soak loaded races faults edge typed sizes look pictures planted contracts test
 
 example = run data/example.plan data/ash.script data/beech.script data/cedar.script
 
@@ -62,6 +62,16 @@ typed:
 sizes:
 	python3 hostile/sizes.py crates/box_main/out/box_main
 
+# Draws pictures with the same `signalbox` and opens each in a browser and in rsvg-convert, which it installs where they
+# are missing; leaves PNGs of what they show, and tells where they are.
+look:
+	python3 hostile/look.py crates/signalbox/out/signalbox
+
+# Draws the pictures of the documents anew.
+pictures:
+	crates/signalbox/out/signalbox frame crates/worked_cases/data/people/frame_of_oak/valley.plan Oak \
+		> docs/pictures/oak_frame.svg
+
 # Tries the wrong bodies of hostile/planted.txt, which the contracts must refuse, on a copy. It needs the libraries,
 # and some half a minute of a processor for each edit.
 planted:
@@ -77,5 +87,5 @@ contracts:
 test:
 	@echo "make test proves all crates and their tests, tries the must-fail edits, and runs the tests and the programs."
 	@echo "From nothing that took 31 to 57 minutes on four processors, and takes an hour or two on two; here: $$(nproc)."
-	@echo "What an earlier run here passed is kept. The last line is 'N passed, M failed'. Without proofs: make quick"
+	@echo "Some kits keep what an earlier run here passed. The last line is 'N passed, M failed'. Without proofs: make quick"
 	rt ci

@@ -1,0 +1,108 @@
+#!/usr/bin/env python3
+"""Draws pictures with the proved `signalbox` and opens each as people do: look.py PROGRAM [FOLDER]
+
+PROGRAM is crates/signalbox/out/signalbox. The frames of the guide's line, of the example line of three boxes, and of a
+box with as many levers and rows as a box may have are drawn. Each file is taken by xmllint, rsvg-convert and headless
+Chromium; whichever of these is missing is installed from Debian's packages. A PNG of each, as each of the two drew it,
+is left in FOLDER (a new one where none is given) to be looked at. The pictures of docs/pictures/ have to be those that
+are drawn now. What isn't so is told, and the exit status is then 1.
+"""
+
+import os
+import re
+import shutil
+import subprocess
+import sys
+import tempfile
+
+HERE = os.path.dirname(os.path.abspath(__file__))
+TOP = os.path.join(HERE, "..")
+sys.path[:0] = [HERE, os.path.join(TOP, "bench")]
+import inputs  # noqa: E402
+import sizes  # noqa: E402
+
+PACKAGES = {"xmllint": "libxml2-utils", "rsvg-convert": "librsvg2-bin", "chromium": "chromium"}
+VALLEY = os.path.join(TOP, "crates", "worked_cases", "data", "people", "frame_of_oak", "valley.plan")
+EXAMPLE = os.path.join(TOP, "crates", "box_main", "data", "example.plan")
+# The pictures of the documents: file, plan, box.
+SHOWN = [("oak_frame.svg", VALLEY, "Oak")]
+
+
+def install():
+    missing = [package for tool, package in PACKAGES.items() if not shutil.which(tool)]
+    if missing:
+        subprocess.run(["apt-get", "update", "-qq"], check=True)
+        subprocess.run(["apt-get", "install", "-y", "-qq", *missing], check=True, stdout=subprocess.DEVNULL)
+
+
+def great_plan(folder):
+    """A plan of two boxes, of which the first has as many places, levers and rows as a box may have."""
+    inputs.wide(folder, "two", 2, 1)
+    with open(f"{folder}/two/plan", encoding="ascii") as file:
+        lines = file.read().splitlines()
+    first, second = [at for at, line in enumerate(lines) if line.startswith("box ")][:2]
+    made = os.path.join(folder, "great.plan")
+    with open(made, "w", encoding="ascii") as file:
+        file.write("\n".join([*lines[:first], *sizes.filled(lines[first:second]), *lines[second:], ""]))
+    return made, lines[first].split()[1]
+
+
+class Looker:
+    def __init__(self, program, folder):
+        self.program, self.folder, self.bad = os.path.abspath(program), folder, 0
+
+    def tell(self, name, why):
+        self.bad += 1
+        print(f"{name}: {why}")
+
+    def draw(self, plan, box):
+        ran = subprocess.run([self.program, "frame", plan, box], capture_output=True)
+        if ran.returncode != 0:
+            self.tell(box, f"status {ran.returncode}: {ran.stderr.decode(errors='replace').strip()}")
+        return ran.stdout
+
+    def tool(self, name, words):
+        ran = subprocess.run(words, capture_output=True, timeout=120)
+        if ran.returncode != 0:
+            self.tell(name, f"{words[0]}: {ran.stderr.decode(errors='replace').strip()[:400]}")
+
+    def look(self, name, svg):
+        """Has each of the three tools take a picture, and leaves it as two of them drew it."""
+        path = os.path.join(self.folder, f"{name}.svg")
+        with open(path, "wb") as file:
+            file.write(svg)
+        width, height = re.search(rb'<svg [^>]*width="(\d+)" height="(\d+)"', svg).groups()
+        self.tool(name, ["xmllint", "--noout", path])
+        self.tool(name, ["rsvg-convert", "-o", f"{path}.rsvg.png", path])
+        self.tool(name, ["chromium", "--headless", "--no-sandbox", "--disable-gpu", "--hide-scrollbars",
+                         f"--window-size={width.decode()},{height.decode()}", f"--screenshot={path}.chromium.png",
+                         f"file://{path}"])
+        for drawn in (f"{path}.rsvg.png", f"{path}.chromium.png"):
+            if not os.path.isfile(drawn):
+                self.tell(name, f"no {os.path.basename(drawn)}")
+
+    def compare(self):
+        for file_name, plan, box in SHOWN:
+            with open(os.path.join(TOP, "docs", "pictures", file_name), "rb") as file:
+                if file.read() != self.draw(plan, box):
+                    self.tell(file_name, "isn't what is drawn now: make pictures")
+
+
+def main(program, folder):
+    install()
+    os.makedirs(folder, exist_ok=True)
+    looker = Looker(program, folder)
+    with tempfile.TemporaryDirectory() as room:
+        great, first = great_plan(room)
+        frames = [(VALLEY, "Elm"), (VALLEY, "Oak"), (EXAMPLE, "Ash"), (EXAMPLE, "Beech"), (EXAMPLE, "Cedar"), (great, first)]
+        for plan, box in frames:
+            looker.look(f"frame_{box}", looker.draw(plan, box))
+    looker.compare()
+    print(f"{len(frames)} pictures in {folder}; {looker.bad} seen otherwise than they should be")
+    return 1 if looker.bad else 0
+
+
+if __name__ == "__main__":
+    if not 2 <= len(sys.argv) <= 3:
+        sys.exit(__doc__)
+    sys.exit(main(sys.argv[1], sys.argv[2] if len(sys.argv) == 3 else tempfile.mkdtemp(prefix="look-")))
