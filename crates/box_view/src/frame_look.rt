@@ -41,9 +41,9 @@ fn is_pulled(ends: &[End], lever: u32) -> bool
     }
 }
 
-// Whether a lever's arm is off.
+/// Whether a lever's arm is off.
 #[tactic(auto, using(crate::proofs::Named::name_rules))]
-fn is_off(off: &[bool], lever: u32) -> bool
+pub fn is_off(off: &[bool], lever: u32) -> bool
     ensures { result ≡ is_off off.now lever }
 {
     match off.get(lever.saturating_sub(1) as usize) {

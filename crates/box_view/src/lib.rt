@@ -5,7 +5,6 @@ mod answer;
 mod block_look;
 mod codes;
 mod frame_look;
-mod hint;
 mod listener;
 mod look;
 mod may;
@@ -19,8 +18,9 @@ mod why;
 mod words;
 
 pub use answer::put_answer;
+pub use block_look::{first_coming, unheard_from};
 pub use codes::put_codes;
-pub use hint::{Hint, hint_of, put_hint};
+pub use frame_look::is_off;
 pub use listener::listener_of;
 pub use look::put_look;
 pub use may::put_may;

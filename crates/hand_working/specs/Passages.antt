@@ -2,7 +2,7 @@
 use Rattle.std.specs.Prelude.{◌≡◌, ℕ, ◌+◌, Bool, true, false, ◌&&◌, not, List, [], ◌∷◌, ◌++◌, Option, Some, None}
 use Rattle.std.specs.Prelude.{codes, drop, length}
 use mathlib.Core.List.{IsPrefix}
-use Rattle.line_plan.specs.Plans.{box_at as box_plan_at}
+use Rattle.line_plan.specs.Plans.{PlanFields, box_at as box_plan_at}
 use Rattle.line_law.specs.declared.call.Call.{Call}
 use Rattle.line_law.specs.declared.call.Entry.{Entry}
 use Rattle.line_law.specs.declared.call.Reply.{Reply}
@@ -12,13 +12,13 @@ use Rattle.script_text.specs.Calls.{call_text}
 use Rattle.train_register.specs.Registers.{register_text}
 use Rattle.typed_words.specs.Typed.{TypedLine, line_read}
 use Rattle.box_view.specs.Answers.{TellsAnswer}
-use Rattle.box_view.specs.Hints.{hint_of, hint_text}
 use Rattle.box_view.specs.Listeners.{listener_of}
 use Rattle.box_view.specs.Look.{look_text}
 use Rattle.box_view.specs.Moves.{TellsMoves}
 use Rattle.box_view.specs.Notices.{notices_text}
-use Rattle.box_view.specs.declared.hint.Hint.{Hint}
 use Rattle.box_view.specs.declared.notices.Listener.{Listener}
+use Rattle.due_hints.specs.Hints.{hint_of, hint_text}
+use Rattle.due_hints.specs.declared.hint.Hint.{Hint}
 use Rattle.hand_working.specs.declared.manner.Manner.{Manner}
 use Rattle.hand_working.specs.Duties.{Doings, Post, after_typed, journal_at, state_at, with_made}
 use Rattle.hand_working.specs.Tones.{cyan, in_tone, no_colour, red, tone_text}
@@ -83,14 +83,16 @@ IsAnswered colours post doings typed old new = IsPrefix old new
 -- ---- what is due
 
 -- what is due, where hints are wanted and exactly one thing is due
-abbrev pub due_text : Bool → Option Hint → List ℕ
-due_text false hint = []
-due_text true None = []
-due_text true (Some hint) = codes "hint: " ++ hint_text hint
+abbrev pub due_text : Bool → PlanFields → Option Hint → List ℕ
+due_text false plan hint = []
+due_text true plan None = []
+due_text true plan (Some hint) = codes "hint: " ++ hint_text plan hint
 
 -- the same at his box, as what he has done leaves the line
 abbrev pub due_at : Bool → Post → Doings → List ℕ
-due_at wanted post doings = due_text wanted (hint_of post.plan (state_at post doings) post.box_no)
+due_at wanted post doings =
+    due_text wanted post.plan
+    (hint_of post.plan (state_at post doings) post.box_no (journal_at post doings))
 
 -- he goes off duty by the line
 abbrev pub is_end : TypedLine → Bool

@@ -5,7 +5,7 @@ ghost use Rattle.hand_working.specs.Duties.{doings_of, post_of};
 ghost use Rattle.hand_working.specs.Passages.{due_at};
 
 use crate::duty::Duty;
-use box_view::{hint_of, put_hint};
+use due_hints::{hint_of, put_hint};
 use rail_text::NoMemory;
 use std::alloc::Global;
 
@@ -27,9 +27,15 @@ pub(crate) fn put_due(
     duty.work_again(alloc)?;
     let session = duty.session();
     session.meets_conditions();
-    if let Some(hint) = hint_of(session.plan(), session.line(), session.box_no()) {
+    let due = hint_of(
+        session.plan(),
+        session.line(),
+        session.box_no(),
+        session.journal(),
+    );
+    if let Some(hint) = due {
         out.push_str("hint: ")?;
-        put_hint(out, hint)?;
+        put_hint(out, session.plan(), hint)?;
     }
     Ok(())
 }

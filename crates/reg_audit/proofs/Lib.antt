@@ -11,3 +11,4 @@ pub mod Exactly
 pub mod HeldKept
 pub mod EntryAudited
 pub mod HeardAudited
+pub mod HandKept

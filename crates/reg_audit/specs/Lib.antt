@@ -7,3 +7,4 @@ pub mod Held
 pub mod Auditors
 pub mod Audits
 pub mod Texts
+pub mod Behind

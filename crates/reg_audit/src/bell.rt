@@ -91,8 +91,8 @@ pub fn bell_on(side: Way, deed: &Deed) -> Option<BellEntry>
     }
 }
 
-// Whether some class of the plan is offered by a code.
-fn is_class_code(plan: &Plan, code: CodeNo) -> bool
+/// Whether some class of the plan is offered by a code.
+pub fn is_class_code(plan: &Plan, code: CodeNo) -> bool
     ensures { result ≡ is_class_code plan.now code }
 {
     plan.classes

@@ -3,6 +3,7 @@
 #![tactic(auto)]
 
 mod auditing;
+mod behind;
 mod bell;
 mod deed;
 mod laws;
@@ -12,9 +13,11 @@ mod rule;
 mod text_audit;
 
 pub use auditing::audit;
-pub use bell::{BellEntry, BellKind};
+pub use behind::{InHand, in_hand};
+pub use bell::{BellEntry, BellKind, is_class_code};
 pub use deed::Deed;
-pub use laws::audit_law;
+pub use laws::{audit_law, in_hand_law};
+pub use marks::SideMarks;
 pub use printing::print_audit;
 pub use rule::{Breach, Rule};
 pub use text_audit::audit_text;

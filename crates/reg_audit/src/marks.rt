@@ -21,20 +21,20 @@ use std::alloc::Global;
 #[derive(Clone, Copy)]
 pub struct SideMarks {
     /// The last bell entry on this side.
-    last_bell: Option<BellEntry>,
+    pub last_bell: Option<BellEntry>,
     /// Whether a train was offered from this side since Line Clear was last given on the line that comes from it.
-    offered: bool,
+    pub offered: bool,
     /// Whether Train Entering Section was rung towards this side, no answer, since a train last entered that section.
-    entering: bool,
+    pub entering: bool,
     /// Whether a train has left the berth of the line that comes from this side since Train Out of Section was last
     /// rung towards it, no answer.
-    left: bool,
+    pub left: bool,
     /// What the commutator of the line that comes from this side shows.
-    shown: Position,
+    pub shown: Position,
 }
 
-// The marks of a side before the first entry.
-const NO_MARKS: SideMarks = SideMarks {
+/// The marks of a side before the first entry.
+pub const NO_MARKS: SideMarks = SideMarks {
     last_bell: None,
     offered: false,
     entering: false,
