@@ -93,6 +93,7 @@ pub number_found : (codes : List (List ℕ)) (code : List ℕ) (r : Option ℕ) 
 number_found codes code None e = tt
 number_found codes code (Some number) e = code_number-is codes code number (sym e)
 
+-- a code has no number exactly where the table doesn't contain it
 pub number_absent : (codes : List (List ℕ)) (code : List ℕ) (r : Option ℕ) → r ≡ code_number codes code
     → IsNone r ↔ ¬ Contains codes code
 number_absent codes code None e = (λ _. code_number-none codes code (sym e), λ _. refl)
@@ -110,6 +111,7 @@ unfolding code_at
 code_at-number codes code number h =
     get_or_from_slice_get codes (number - 1) code [] (code_number-is codes code number h).here
 
+-- the code under a number of the table has that number
 pub code_number-code_at : (codes : List (List ℕ)) (number : ℕ) → IsCodeTable codes → 1 ≤ number → number ≤ length codes
     → code_number codes (code_at codes number) ≡ Some number
 unfolding code_at

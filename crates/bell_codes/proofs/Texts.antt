@@ -75,6 +75,7 @@ group_is (tens ∷ ones ∷ more ∷ bytes) n e = absurd cc
 
 -- ---- the parts of a code's text
 
+-- the byte is a hyphen
 abbrev pub is_hyphen : ℕ → Bool
 is_hyphen byte = eqb byte 45
 
@@ -238,6 +239,7 @@ rest_text (next ∷ rest) h =
       few = rw length-append (omega (arith, g.few, r.few));
     }
 
+-- the text of a code has no bytes but digits and hyphens
 pub text_bytes : (code : List ℕ) → is_code code ≡ true → list_all is_code_byte (code_text code) ≡ true
 unfolding code_text
 text_bytes [] h = refl
@@ -245,6 +247,7 @@ text_bytes (first ∷ rest) h =
     let e = both (is_group first) (list_all is_group rest) (code_parts (first ∷ rest) h).valid in
     rw (list_all-append, (group_text first e.0).bytes, (rest_text rest e.1).bytes) refl
 
+-- the text of a code has a byte at least
 pub text_some : (code : List ℕ) → is_code code ≡ true → 1 ≤ length (code_text code)
 unfolding code_text
 text_some [] h = absurd (omega (arith, (code_parts [] h).fewest))
@@ -252,6 +255,7 @@ text_some (first ∷ rest) h =
     let e = both (is_group first) (list_all is_group rest) (code_parts (first ∷ rest) h).valid in
     rw length-append (omega (arith, (group_text first e.0).some))
 
+-- the text of a code has 14 bytes at most
 pub text_few : (code : List ℕ) → is_code code ≡ true → length (code_text code) ≤ 14
 unfolding code_text
 text_few [] h = omega arith
@@ -279,6 +283,7 @@ groups_of-bad (part ∷ parts) (suc k) d h e =
 abbrev no_code : Option (List ℕ)
 no_code = None
 
+-- a word with a part that is no group spells no code
 pub bad_part : (word : List ℕ) (k : ℕ) (part : List ℕ)
     → (k < length (parts_of word)) × (part ≡ get_or (parts_of word) k part) → group_of part ≡ None → code_of word ≡ None
 unfolding code_of
@@ -289,10 +294,12 @@ bad_part word k part at e =
     none true = refl
     none false = refl
 
+-- a word of more than five parts spells no code
 pub many_parts : (word : List ℕ) → 5 < length (parts_of word) → code_of word ≡ None
 unfolding code_of
 many_parts word h = let many : leb (length (parts_of word)) 5 ≡ false = grind (arith, nat_tests) in rw many refl
 
+-- a word of at most five parts, each a group, spells the code of these groups
 pub few_parts : (word code : List ℕ) → length (parts_of word) ≤ 5 → groups_of (parts_of word) ≡ Some code
     → code_of word ≡ Some code
 unfolding code_of
@@ -311,6 +318,8 @@ pub one_more : (beats : List ℕ) (groups n : ℕ) → groups < length beats
     → take (groups + 1) (set beats groups n) ≡ take groups beats ++ n ∷ []
 one_more beats groups n h = rw add-one (take-suc-set beats groups n h)
 
+-- where some parts are the groups that were counted, and one part more is a group, they all are those groups with
+-- its beats
 pub more_parts : (parts : List (Bor (List ℕ))) (part : Bor (List ℕ)) (beats : List ℕ) (groups n : ℕ)
     → groups < length beats → groups_of (map (λ p. p.now) parts) ≡ Some (take groups beats) → group_of part.now ≡ Some n
     → groups_of (map (λ p. p.now) (parts ++ part ∷ [])) ≡ Some (take (groups + 1) (set beats groups n))
@@ -319,10 +328,12 @@ more_parts parts part beats groups n h e g =
     ∙ groups_of-push (map (λ p. p.now) parts) part.now (take groups beats) n e g
     ∙ ap (λ (code : List ℕ). Some code) (sym (one_more beats groups n h))
 
+-- an answer that is a fault gives no code
 pub none_read : {E : Type 0} (r : Result (List ℕ) E) → IsErr r → result_ok r ≡ None
 none_read (Ok code) e = absurd cc
 none_read (Err f) e = refl
 
+-- where there are no beats behind the groups so far, there are none behind one group more
 pub zeros_behind : (beats : List ℕ) (groups n : ℕ) → drop groups beats ≡ replicate (5 - groups) 0
     → drop (groups + 1) (set beats groups n) ≡ replicate (5 - (groups + 1)) 0
 zeros_behind beats groups n e =
@@ -338,11 +349,13 @@ zeros_behind beats groups n e =
 abbrev pub IsReading : {E : Type 0} → List ℕ → Result (List ℕ) E → Type 0
 IsReading word r = result_ok r ≡ code_of word
 
+-- a code that a reader answers is the one that the word spells
 pub reading_spelled : {E : Type 0} (word : List ℕ) (r : Result (List ℕ) E) → IsReading word r
     → IfOk r (λ code. Spells word code)
 reading_spelled word (Ok code) e = read_spelled word code (sym e)
 reading_spelled word (Err f) e = tt
 
+-- a reader answers a fault exactly where the word spells no code
 pub reading_bad : {E : Type 0} (word : List ℕ) (r : Result (List ℕ) E) → IsReading word r
     → IsErr r ↔ ((code : List ℕ) → ¬ Spells word code)
 reading_bad word (Ok code) e = (λ bad. absurd cc, λ none. absurd (none code (read_spelled word code (sym e))))

@@ -22,6 +22,7 @@ use Rattle.box_session.specs.Sessions.{AreInTurn, IsTurn}
 use Rattle.box_session.specs.Works.{IsAfter, IsWorkedTo}
 use Rattle.box_session.proofs.SoFar.{idle_then}
 
+-- a line in this state, on which so many calls are made
 abbrev pub plain_of : LineState → ℕ → PlainState
 plain_of line calls = record { line = line; calls = calls }
 
@@ -32,6 +33,7 @@ same_plain plain line calls e f =
 
 -- ---- one entry
 
+-- the line behind one call, and the scripts without it, are as its entry leaves them
 pub after_one : (plan : PlanFields) (before after : PlainState) (left rest : List (List Call)) (b : ℕ) (call : Call)
     (reply : Reply) → step plan before.line b call ≡ record { reply = reply; after = after.line }
     → after.calls ≡ before.calls + 1 → rest ≡ left_then left b
@@ -59,6 +61,7 @@ left_both : (left : List (List Call)) (es more : List Entry)
 left_both left [] more = refl
 left_both left (e ∷ es) more = left_both (left_then left e.box_no) es more
 
+-- what entries leave, and then further ones from there, they leave together
 pub after_both : (plan : PlanFields) (first middle last : PlainState) (left rest end : List (List Call))
     (es more : List Entry) → IsAfter plan first left es middle rest → IsAfter plan middle rest more last end
     → IsAfter plan first left (es ++ more) last end
@@ -160,6 +163,7 @@ next_at plan scripts b journal i plain left d legal turns idle h lt =
     next_of plan scripts b journal i plain left (get_or journal i d) legal turns idle h lt
     (get_or_default journal i d (get_or journal i d) lt)
 
+-- the next entry of a session's journal is of a call that may be made where the line is worked up to it
 pub next_may : (plan : PlanFields) (scripts : List (List Call)) (b : ℕ) (journal : List Entry) (i : ℕ)
     (plain : PlainState) (left : List (List Call)) (d : Entry) → IsLegal plan journal
     → AreInTurn plan b (opening_state plan) scripts journal → calls_left scripts b ≡ []
@@ -168,6 +172,7 @@ pub next_may : (plan : PlanFields) (scripts : List (List Call)) (b : ℕ) (journ
 next_may plan scripts b journal i plain left d legal turns idle h lt =
     (next_at plan scripts b journal i plain left d legal turns idle h lt).call
 
+-- where the next entry of a session's journal is the man's own, the script of his box is empty
 pub next_own : (plan : PlanFields) (scripts : List (List Call)) (b : ℕ) (journal : List Entry) (i : ℕ)
     (plain : PlainState) (left : List (List Call)) (d : Entry) → IsLegal plan journal
     → AreInTurn plan b (opening_state plan) scripts journal → calls_left scripts b ≡ []
@@ -176,6 +181,7 @@ pub next_own : (plan : PlanFields) (scripts : List (List Call)) (b : ℕ) (journ
 next_own plan scripts b journal i plain left d legal turns idle h lt =
     (next_at plan scripts b journal i plain left d legal turns idle h lt).own
 
+-- where the next entry of a session's journal is another box's, that box has a script
 pub next_there : (plan : PlanFields) (scripts : List (List Call)) (b : ℕ) (journal : List Entry) (i : ℕ)
     (plain : PlainState) (left : List (List Call)) (d : Entry) → IsLegal plan journal
     → AreInTurn plan b (opening_state plan) scripts journal → calls_left scripts b ≡ []
@@ -184,6 +190,7 @@ pub next_there : (plan : PlanFields) (scripts : List (List Call)) (b : ℕ) (jou
 next_there plan scripts b journal i plain left d legal turns idle h lt =
     (next_at plan scripts b journal i plain left d legal turns idle h lt).there
 
+-- where the next entry of a session's journal is another box's, that box has a call left
 pub next_more : (plan : PlanFields) (scripts : List (List Call)) (b : ℕ) (journal : List Entry) (i : ℕ)
     (plain : PlainState) (left : List (List Call)) (d : Entry) → IsLegal plan journal
     → AreInTurn plan b (opening_state plan) scripts journal → calls_left scripts b ≡ []
@@ -192,6 +199,7 @@ pub next_more : (plan : PlanFields) (scripts : List (List Call)) (b : ℕ) (jour
 next_more plan scripts b journal i plain left d legal turns idle h lt =
     (next_at plan scripts b journal i plain left d legal turns idle h lt).more
 
+-- a line that is worked as far as a journal's first entries is worked one further by the next
 pub worked_next : (plan : PlanFields) (scripts : List (List Call)) (journal : List Entry) (i : ℕ)
     (middle last : PlainState) (left rest : List (List Call)) (d : Entry)
     → IsWorkedTo plan scripts (take i journal) middle left

@@ -102,6 +102,7 @@ called plan scripts b es call idle =
     ∙ ap (λ (s : LineState). more ++ others_from plan s left) (sym grown)
     ∙ ap (λ (l : List (List Call)). more ++ others_from plan (state_of plan more) l) (sym same)
 
+-- where no other box may go on, the man makes a call and they go on, until again none may
 pub settled_call : (plan : PlanFields) (scripts : List (List Call)) (b : ℕ) (calls : List Call) (es : List Entry)
     (call : Call) → b < length plan.boxes → MayCall plan (state_of plan es) b call
     → IsSettled plan scripts b calls es
@@ -132,6 +133,8 @@ settled_calls plan scripts b done (call ∷ calls) es within may h =
 
 -- ---- the journal of a session
 
+-- the journal of a session is made of the man's calls and the others' scripts, and no other box may go on at its
+-- end
 pub settled : (plan : PlanFields) (scripts : List (List Call)) (b : ℕ) (calls : List Call) → AreScripts plan scripts
     → b < length plan.boxes → calls_left scripts b ≡ [] → AreCalls plan b 0 calls
     → IsSettled plan scripts b calls (session_journal plan scripts b calls)
@@ -140,6 +143,7 @@ settled plan scripts b calls own within idle may =
     settled_calls plan scripts b [] calls (others_from plan (opening_state plan) scripts) within may
     (settles plan scripts b [] (count_left scripts) [] refl (so_far_begins plan scripts b own idle))
 
+-- the journal of a session is legal, has the man's calls and the others' scripts, and each entry stands in its turn
 pub session_is : (plan : PlanFields) (scripts : List (List Call)) (b : ℕ) (calls : List Call) → IsPlan plan
     → AreScripts plan scripts → b < length plan.boxes → calls_left scripts b ≡ [] → AreCalls plan b 0 calls
     → IsSession plan scripts b calls (session_journal plan scripts b calls)
@@ -162,6 +166,7 @@ one_more plan scripts b [] call es = refl
 one_more plan scripts b (first ∷ calls) call es =
     one_more plan scripts b calls call (with_call plan scripts b es first)
 
+-- a call more of the man makes the journal longer by that call and what the others do behind it
 pub session_grows : (plan : PlanFields) (scripts : List (List Call)) (b : ℕ) (calls : List Call) (call : Call)
     → session_journal plan scripts b (calls ++ call ∷ [])
     ≡ with_call plan scripts b (session_journal plan scripts b calls) call

@@ -62,6 +62,7 @@ can_go_on plan scripts b calls es plain left is h worked few =
       few = omega (arith, h.count, few);
     })
 
+-- a line that opens may be worked on by its scripts
 pub opened_goes_on : (plan : PlanFields) (scripts : List Script) (b : ℕ) (plain : PlainState) (left : List (List Call))
     → IsPlan plan → AreScriptsOf plan scripts → calls_left (calls_of_scripts scripts) b ≡ []
     → IsWorkedTo plan (calls_of_scripts scripts) [] plain left → IsGoingOn plan plain left
@@ -80,6 +81,7 @@ opening_entries plan scripts b plain left h =
     ap (λ (p : PlainState). others_from plan p.line left) h.line
     ∙ ap (λ (l : List (List Call)). others_from plan (opening_state plan) l) h.is_left
 
+-- a session begins with no call of the man, and the others have gone on as far as they may
 pub kept_begins : (plan : PlanFields) (b : ℕ) (scripts : List Script) (before entries : List Entry)
     (made : List MadeCall) (first plain : PlainState) (begun left : List (List Call)) → AreScriptsOf plan scripts
     → b < length plan.boxes → calls_left (calls_of_scripts scripts) b ≡ []
@@ -106,6 +108,8 @@ kept_begins plan b scripts before entries made first plain begun left own within
 
 -- ---- what is known of it
 
+-- where a session is kept, its journal is made of the man's calls and the others' scripts, and no other box may go
+-- on
 pub kept_settled : (plan : PlanFields) (b : ℕ) (scripts : List Script) (entries : List Entry) (made : List MadeCall)
     (w : Bool) (plain : PlainState) (left : List (List Call)) → IsKept plan b scripts entries made w plain left
     → IsSettled plan (calls_of_scripts scripts) b (calls_made made) entries
@@ -139,6 +143,7 @@ kept_count plan b scripts entries made w plain left is h =
     let so_far = (kept_settled plan b scripts entries made w plain left h).so_far in
     omega (arith, few, mine, so_far.count)
 
+-- the journal of a session has fewer than 2 ^ 32 entries
 pub kept_short : (plan : PlanFields) (b : ℕ) (scripts : List Script) (entries : List Entry) (made : List MadeCall)
     (w : Bool) (plain : PlainState) (left : List (List Call)) → IsPlan plan
     → IsKept plan b scripts entries made w plain left → length entries < 2 ^ 32
@@ -155,6 +160,7 @@ pub kept_line : (plan : PlanFields) (b : ℕ) (scripts : List Script) (entries :
     }
 kept_line plan b scripts entries made w plain left worked h = rw (← h.journal) (h.worked worked).line
 
+-- where the line of a session is worked, it may be worked on by what is left of the scripts
 pub kept_going : (plan : PlanFields) (b : ℕ) (scripts : List Script) (entries : List Entry) (made : List MadeCall)
     (w : Bool) (plain : PlainState) (left : List (List Call)) → IsPlan plan → IsTrue w
     → IsKept plan b scripts entries made w plain left → IsGoingOn plan plain left
@@ -164,6 +170,7 @@ kept_going plan b scripts entries made w plain left is worked h =
     can_go_on plan (calls_of_scripts scripts) b (calls_made made) entries plain left is
     (kept_settled plan b scripts entries made w plain left h).so_far (h.worked worked) (omega (arith, few, mine))
 
+-- where the line of a session is worked, a call of the man and all that are left can still be counted
 pub kept_room : (plan : PlanFields) (b : ℕ) (scripts : List Script) (entries : List Entry) (made : List MadeCall)
     (w : Bool) (plain : PlainState) (left : List (List Call)) → IsPlan plan → IsTrue w
     → IsKept plan b scripts entries made w plain left → plain.calls + count_left left + 1 < 2 ^ 32
@@ -175,6 +182,7 @@ kept_room plan b scripts entries made w plain left is worked h =
     ap (λ (l : List (List Call)). count_left l) at.is_left in
     omega (arith, few, calls, rest)
 
+-- where the line of a session is worked, the man's own box has no script left
 pub kept_idle : (plan : PlanFields) (b : ℕ) (scripts : List Script) (entries : List Entry) (made : List MadeCall)
     (w : Bool) (plain : PlainState) (left : List (List Call)) → IsTrue w
     → IsKept plan b scripts entries made w plain left → calls_left left b ≡ []
@@ -219,6 +227,7 @@ placed_both plan scripts b done (first ∷ made) m h at = (
       (sym (append_assoc done (first.call ∷ []) (calls_made made)))),
 )
 
+-- a session keeps what it keeps with a call of the man more and what the others do behind it
 pub kept_made : (plan : PlanFields) (b : ℕ) (scripts : List Script) (entries all : List Entry)
     (made more : List MadeCall) (w : Bool) (plain after : PlainState) (left rest : List (List Call)) (call : Call)
     → IsPlan plan → IsKept plan b scripts entries made w plain left → IsTrue w → length made < MOST_MADE
@@ -303,6 +312,7 @@ placed_last plan scripts b done (first ∷ made) m h =
     ∙ ap (λ (calls : List Call). length (session_journal plan scripts b calls))
     (append_assoc done (first.call ∷ []) (calls_made made))
 
+-- a session keeps what it keeps where the man's last call is taken back: its line has to be worked again
 pub kept_back : (plan : PlanFields) (b : ℕ) (scripts : List Script) (entries fewer : List Entry)
     (made rest : List MadeCall) (m : MadeCall) (w : Bool) (plain : PlainState) (left : List (List Call))
     → IsKept plan b scripts entries made w plain left → made ≡ rest ++ m ∷ [] → fewer ≡ take m.place entries
@@ -343,10 +353,12 @@ view_of plan b scripts made w = record {
   is_worked = w;
 }
 
+-- where a session says that its line is worked, it is
 pub seen_worked : (plan : PlanFields) (b : ℕ) (scripts : List Script) (made : List MadeCall) (w : Bool)
     (session : SessionFields) → view_of plan b scripts made w ≡ session → IsTrue session.is_worked → IsTrue w
 seen_worked plan b scripts made w session e h = subst (λ (s : SessionFields). IsTrue s.is_worked) (sym e) h
 
+-- where a session shows fewer calls than the most, fewer are made
 pub seen_room : (plan : PlanFields) (b : ℕ) (scripts : List Script) (made : List MadeCall) (w : Bool)
     (session : SessionFields) → view_of plan b scripts made w ≡ session → length session.calls < MOST_MADE
     → length made < MOST_MADE
@@ -355,6 +367,7 @@ seen_room plan b scripts made w session e h =
     let same : length (calls_made made) ≡ length session.calls = ap (λ (s : SessionFields). length s.calls) e in
     omega (arith, mapped, same, h)
 
+-- the journal that a session shows is that of the man's calls and the others' scripts, each entry in its turn
 pub seen_session : (plan : PlanFields) (b : ℕ) (scripts : List Script) (entries : List Entry) (made : List MadeCall)
     (w : Bool) (plain : PlainState) (left : List (List Call)) (session : SessionFields)
     → view_of plan b scripts made w ≡ session → IsPlan plan → IsKept plan b scripts entries made w plain left
@@ -363,6 +376,7 @@ seen_session plan b scripts entries made w plain left session e is h =
     subst (λ (s : SessionFields). IsSession s.plan s.scripts s.box_no s.calls (journal_of s)) e
     (kept_session plan b scripts entries made w plain left is h)
 
+-- the man's calls that a session shows are calls that he may make in turn from the start of the day
 pub seen_calls : (plan : PlanFields) (b : ℕ) (scripts : List Script) (entries : List Entry) (made : List MadeCall)
     (w : Bool) (plain : PlainState) (left : List (List Call)) (session : SessionFields)
     → view_of plan b scripts made w ≡ session → IsKept plan b scripts entries made w plain left
@@ -370,6 +384,7 @@ pub seen_calls : (plan : PlanFields) (b : ℕ) (scripts : List Script) (entries 
 seen_calls plan b scripts entries made w plain left session e h =
     subst (λ (s : SessionFields). AreCalls s.plan s.box_no 0 s.calls) e h.calls
 
+-- the box that a session shows is a box of its plan
 pub seen_box : (plan : PlanFields) (b : ℕ) (scripts : List Script) (entries : List Entry) (made : List MadeCall)
     (w : Bool) (plain : PlainState) (left : List (List Call)) (session : SessionFields)
     → view_of plan b scripts made w ≡ session → IsKept plan b scripts entries made w plain left
@@ -377,6 +392,7 @@ pub seen_box : (plan : PlanFields) (b : ℕ) (scripts : List Script) (entries : 
 seen_box plan b scripts entries made w plain left session e h =
     subst (λ (s : SessionFields). s.box_no < length s.plan.boxes) e h.box
 
+-- the journal that a session shows has fewer than 2 ^ 32 entries
 pub seen_short : (plan : PlanFields) (b : ℕ) (scripts : List Script) (entries : List Entry) (made : List MadeCall)
     (w : Bool) (plain : PlainState) (left : List (List Call)) (session : SessionFields)
     → view_of plan b scripts made w ≡ session → IsPlan plan → IsKept plan b scripts entries made w plain left
@@ -386,10 +402,12 @@ seen_short plan b scripts entries made w plain left session e is h =
     (subst (λ (es : List Entry). length es < 2 ^ 32) h.journal
     (kept_short plan b scripts entries made w plain left is h))
 
+-- the plan that a session shows meets every condition of a plan
 pub seen_plan : (plan : PlanFields) (b : ℕ) (scripts : List Script) (made : List MadeCall) (w : Bool)
     (session : SessionFields) → view_of plan b scripts made w ≡ session → IsPlan plan → IsPlan session.plan
 seen_plan plan b scripts made w session e is = subst (λ (s : SessionFields). IsPlan s.plan) e is
 
+-- where a session says that its line is worked, it is a line of its plan
 pub seen_line : (plan : PlanFields) (b : ℕ) (scripts : List Script) (entries : List Entry) (made : List MadeCall)
     (w : Bool) (plain : PlainState) (left : List (List Call)) (session : SessionFields)
     → view_of plan b scripts made w ≡ session → IsTrue session.is_worked → IsPlan plan
@@ -398,6 +416,7 @@ seen_line plan b scripts entries made w plain left session e worked is h =
     subst (λ (s : SessionFields). IsLineOf s.plan plain) e
     (kept_going plan b scripts entries made w plain left is (seen_worked plan b scripts made w session e worked) h).line
 
+-- where a session says that its line is worked, fewer than 2 ^ 32 calls are made on it
 pub seen_few : (plan : PlanFields) (b : ℕ) (scripts : List Script) (entries : List Entry) (made : List MadeCall)
     (w : Bool) (plain : PlainState) (left : List (List Call)) (session : SessionFields)
     → view_of plan b scripts made w ≡ session → IsTrue session.is_worked → IsPlan plan
@@ -407,6 +426,7 @@ seen_few plan b scripts entries made w plain left session e worked is h =
     (seen_worked plan b scripts made w session e worked) h in
     omega (arith, room)
 
+-- a call that the man may make by the journal that a session shows, he may make on its line
 pub seen_may : (plan : PlanFields) (b : ℕ) (scripts : List Script) (entries : List Entry) (made : List MadeCall)
     (w : Bool) (plain : PlainState) (left : List (List Call)) (session : SessionFields) (call : Call)
     → view_of plan b scripts made w ≡ session → IsTrue session.is_worked
@@ -432,6 +452,7 @@ last_of : (made : List MadeCall) (m : MadeCall) → slice_get made (length made 
 last_of [] m is = absurd cc
 last_of (first ∷ made) m is = last_at first made (length (first ∷ made) - 1) m (omega arith) is
 
+-- the moment of the man's last call is the last moment that a session shows
 pub seen_moment : (plan : PlanFields) (b : ℕ) (scripts : List Script) (made lent : List MadeCall) (w : Bool)
     (session : SessionFields) (m : MadeCall) → view_of plan b scripts made w ≡ session → lent ≡ made
     → Some m ≡ slice_get lent (length lent - 1) → m.call.moment ≡ last_moment session.calls
@@ -446,6 +467,7 @@ same_but_work old new e =
 
 -- ---- a script without calls
 
+-- the test for a script without calls is passed exactly where its box has none to make
 pub empty_here : (scripts : List Script) (b : ℕ) (d : Script) (t : Bool) → b < length scripts
     → t ≡ eqb (length (get_or scripts b d).calls) 0 → IsTrue t ↔ (calls_left (calls_of_scripts scripts) b ≡ [])
 empty_here scripts b d t lt e =

@@ -24,19 +24,23 @@ use Rattle.box_session.proofs.SoFar.{left_there}
 
 -- ---- a box makes its next call
 
+-- the lowest box that may go on has a script
 pub free_there : (plan : PlanFields) (state : LineState) (left : List (List Call)) (b : ℕ)
     → first_free plan state 0 left ≡ Some b → b < length left
 free_there plan state left b free = box_there plan state left b (is_next plan state left b free)
 
+-- the lowest box that may go on has a call left
 pub free_call : (plan : PlanFields) (state : LineState) (left : List (List Call)) (b : ℕ)
     → first_free plan state 0 left ≡ Some b → 0 < length (calls_left left b)
 free_call plan state left b free = call_there plan state left b (is_next plan state left b free)
 
+-- where a box takes its next call, one call fewer is left
 pub fewer_left : (left rest : List (List Call)) (b : ℕ) (call : Call) → TakesCall left rest b call
     → count_left left ≡ count_left rest + 1
 fewer_left left rest b call takes =
     rw takes.left (count_next left b call (drop 1 (calls_left left b)) takes.taken)
 
+-- a line on which scripts may be worked is one after a box's next call too
 pub going_next : (plan : PlanFields) (old new : PlainState) (left rest : List (List Call)) (b : ℕ) (call : Call)
     (reply : Reply) → IsGoingOn plan old left → TakesCall left rest b call
     → step plan old.line b call ≡ record { reply = reply; after = new.line } → IsLineOf plan new
@@ -49,6 +53,7 @@ going_next plan old new left rest b call reply h takes told line counted =
       few = omega (arith, fewer, h.few, counted);
     }
 
+-- where a box that may go on makes its next call, what the others do is that entry and what they do from there
 pub others_then : (plan : PlanFields) (old new : LineState) (left rest : List (List Call)) (b : ℕ) (call : Call)
     (reply : Reply) → first_free plan old 0 left ≡ Some b → TakesCall left rest b call
     → step plan old b call ≡ record { reply = reply; after = new }
@@ -68,6 +73,7 @@ pub record IsRound (plan : PlanFields) (first : PlainState) (begun : List (List 
   pub after : IsAfter plan first begun done plain left
   pub going : IsGoingOn plan plain left
 
+-- before the boxes go on, none of their entries is made
 pub round_begins : (plan : PlanFields) (first : PlainState) (begun : List (List Call)) (before : List Entry)
     → IsGoingOn plan first begun → IsRound plan first begun before first begun before
 round_begins plan first begun before going =
@@ -80,6 +86,7 @@ round_begins plan first begun before going =
       going = going;
     }
 
+-- the next entry of the boxes that go on is one more of those that they have made
 pub round_more : (plan : PlanFields) (first : PlainState) (begun : List (List Call)) (before : List Entry)
     (old new : PlainState) (left rest : List (List Call)) (entries more : List Entry) (e : Entry)
     → IsRound plan first begun before old left entries
@@ -112,6 +119,7 @@ all_done plan first begun before plain left entries h none =
     ∙ ap (λ (xs : List Entry). h.done ++ xs) (sym (others_none plan plain.line left none))
     ∙ h.rest
 
+-- where no box may go on any more, behind the entries before stand all that the boxes do
 pub round_entries : (plan : PlanFields) (first : PlainState) (begun : List (List Call)) (before : List Entry)
     (plain : PlainState) (left : List (List Call)) (entries : List Entry)
     → IsRound plan first begun before plain left entries → first_free plan plain.line 0 left ≡ None
@@ -119,6 +127,7 @@ pub round_entries : (plan : PlanFields) (first : PlainState) (begun : List (List
 round_entries plan first begun before plain left entries h none =
     h.all ∙ ap (λ (xs : List Entry). before ++ xs) (all_done plan first begun before plain left entries h none)
 
+-- where no box may go on any more, the line is as all that the boxes do leaves it
 pub round_after : (plan : PlanFields) (first : PlainState) (begun : List (List Call)) (before : List Entry)
     (plain : PlainState) (left : List (List Call)) (entries : List Entry)
     → IsRound plan first begun before plain left entries → first_free plan plain.line 0 left ≡ None
@@ -129,6 +138,7 @@ round_after plan first begun before plain left entries h none =
 
 -- ---- the man makes a call, and they go on
 
+-- a line on which scripts may be worked is one after a call of the man too
 pub going_there : (plan : PlanFields) (old new : PlainState) (left : List (List Call)) (b : ℕ) (call : Call)
     (reply : Reply) → IsGoingOn plan old left → old.calls + count_left left + 1 < 2 ^ 32 → calls_left left b ≡ []
     → step plan old.line b call ≡ record { reply = reply; after = new.line } → IsLineOf plan new
@@ -137,12 +147,14 @@ going_there plan old new left b call reply h few idle told line counted =
     let there = left_there plan old.line left b call h.left idle in
     record { line = line; left = rw told at there; few = omega (arith, few, counted) }
 
+-- the man's call with its reply, and then all that the others do, is what his call comes to
 pub call_is : (plan : PlanFields) (old new : LineState) (left : List (List Call)) (b : ℕ) (call : Call) (reply : Reply)
     → step plan old b call ≡ record { reply = reply; after = new }
     → record { box_no = b; call = call; reply = reply } ∷ others_from plan new left ≡ call_from plan old left b call
 unfolding call_from
 call_is plan old new left b call reply told = rw told refl
 
+-- the line is as the man's call and all that the others do behind it leave it
 pub call_after : (plan : PlanFields) (old new last : PlainState) (left end : List (List Call)) (b : ℕ) (call : Call)
     (reply : Reply) → IsAfter plan new left (others_from plan new.line left) last end
     → step plan old.line b call ≡ record { reply = reply; after = new.line } → new.calls ≡ old.calls + 1
@@ -154,6 +166,7 @@ call_after plan old new last left end b call reply after told counted idle =
     (call_is plan old.line new.line left b call reply told)
     (after_both plan old new last left left end (e ∷ []) (others_from plan new.line left) his after)
 
+-- an entry put behind a journal, and others behind it, stand behind the journal together
 pub call_entries : (before pushed all others : List Entry) (e : Entry) → pushed ≡ before ++ e ∷ []
     → all ≡ pushed ++ others → all ≡ before ++ (e ∷ others)
 call_entries before pushed all others e is more =

@@ -68,6 +68,7 @@ other_call b es e other = elim (eqb_tells e.box_no b) [
       ∙ append-nil (calls_of b es)
 ]
 
+-- an entry more leaves of the scripts what they leave with a call of its box taken
 pub left_more : (left : List (List Call)) (es : List Entry) (e : Entry)
     → left_after left (es ++ e ∷ []) ≡ left_then (left_after left es) e.box_no
 left_more left [] e = refl
@@ -80,6 +81,7 @@ turns_more plan b state left [] e h turn = (turn, tt)
 turns_more plan b state left (d ∷ es) e h turn =
     (h.0, turns_more plan b (after_entry plan state d) (left_then left d.box_no) es e h.1 turn)
 
+-- the moment of the last of calls is that of a call more that comes behind them
 pub last_more : (calls : List Call) (call : Call) → last_moment (calls ++ call ∷ []) ≡ call.moment
 last_more [] call = refl
 last_more (first ∷ []) call = refl
@@ -109,6 +111,7 @@ other_part scripts left c d call rest es e box its is h = elim (eqb_tells d c) [
       rw (other_call d es e other, get_or-set_other left c d rest [] differ.1) h
 ]
 
+-- a session has come one entry further where another box that may go on makes its next call
 pub other_more : (plan : PlanFields) (scripts : List (List Call)) (b c : ℕ) (calls : List Call) (es : List Entry)
     (call : Call) → IsSoFar plan scripts b calls es
     → first_free plan (state_of plan es) 0 (left_after scripts es) ≡ Some c
@@ -150,6 +153,7 @@ idle_then left b idle =
     let nothing : drop 1 (calls_left left b) ≡ calls_left left b = ap (drop 1) idle ∙ sym idle in
     ap (λ (calls : List Call). set left b calls) nothing ∙ set-get_or left b []
 
+-- a call of a man whose box has no script left leaves the others with calls that they may make
 pub left_there : (plan : PlanFields) (state : LineState) (left : List (List Call)) (b : ℕ) (call : Call)
     → AreLeft plan state left → calls_left left b ≡ [] → AreLeft plan (step plan state b call).after left
 left_there plan state left b call h idle =
@@ -161,6 +165,7 @@ left_there plan state left b call h idle =
       ];
     }
 
+-- a session has come one entry further where no other box may go on and the man makes a call
 pub his_more : (plan : PlanFields) (scripts : List (List Call)) (b : ℕ) (calls : List Call) (es : List Entry)
     (call : Call) → IsSoFar plan scripts b calls es
     → first_free plan (state_of plan es) 0 (left_after scripts es) ≡ None
@@ -188,6 +193,7 @@ his_more plan scripts b calls es call h none within known later =
 
 -- ---- as it begins
 
+-- a session begins with no call and no entry, and all scripts are left
 pub so_far_begins : (plan : PlanFields) (scripts : List (List Call)) (b : ℕ) → AreScripts plan scripts
     → calls_left scripts b ≡ [] → IsSoFar plan scripts b [] []
 so_far_begins plan scripts b own idle =

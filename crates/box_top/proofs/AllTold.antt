@@ -37,9 +37,11 @@ both_told Untold f h k = absurd h
 both_told (Gives x) f h k = k x
 both_told (Refuses n fault) f h k = tt
 
+-- where the shelf tells the text of a plan, all is told that the plan needs
 pub told_plan : (held : Held) (name : List ℕ) → AreTold held (name ∷ []) → IsTold (plan_told held name)
 told_plan held name h = told_text 1 plan_of (held name) (All-head (λ (n : List ℕ). IsSome (held n)) name [] h)
 
+-- where the shelf tells the text of a token script, all is told that the script needs
 pub told_tokens : (held : Held) (name : List ℕ) → AreTold held (name ∷ []) → IsTold (token_script_told held name)
 told_tokens held name h =
     told_text 1 token_script_of (held name) (All-head (λ (n : List ℕ). IsSome (held n)) name [] h)
@@ -61,6 +63,7 @@ told_scripts held plan done (name ∷ names) h =
     (λ script. told_scripts held plan (done ++ script ∷ []) names
     (All-tail (λ (n : List ℕ). IsSome (held n)) name names h))
 
+-- where the shelf tells the texts of a plan and of scripts, all is told that their run needs
 pub told_run : (held : Held) (name : List ℕ) (names : List (List ℕ)) → AreTold held (name ∷ names)
     → IsTold (run_told held name names)
 told_run held name names h =
@@ -70,6 +73,7 @@ told_run held name names h =
     both_told (scripts_told held plan [] names) _
     (told_scripts held plan [] names (All-tail (λ (n : List ℕ). IsSome (held n)) name names h)) (λ scripts. tt)))
 
+-- where the shelf tells the texts of a plan and of a journal, all is told that their case needs
 pub told_case : (held : Held) (name other : List ℕ) → AreTold held (name ∷ other ∷ [])
     → IsTold (case_told held name other)
 told_case held name other h =

@@ -300,6 +300,8 @@ pub desk_works_none : (command : DeskCommand) (held : Held) (old new : Option (L
 desk_works_none (desk.Check plan) held old new = tt
 desk_works_none command held old new = tt
 
+-- where a command of the desk is done, and the shelf tells its texts, these spell what the command needs, and what
+-- it prints of them was taken
 pub desk_done : {X : Type 0} (command : DeskCommand) (outcome : Result X Stop) (view : X → List ℕ) (held : Held)
     (old new : Option (List ℕ)) (status : Status)
     → MakesText IsPrintOf view outcome (command_told held (desk_shown command))

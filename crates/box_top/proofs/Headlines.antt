@@ -46,6 +46,8 @@ worked_done {X = X} Comes outcome view held name names old new status made put e
         subst (λ (o : Result X Stop). MakesText Comes view o (run_told held name names)) p.is made in
         prints (view p.made) (run_told held name names) p.taken refl (told_run held name names told) made_so
 
+-- where a run is done, and the shelf tells its texts, these spell the run, and the whole output of one of its
+-- journals was taken
 pub run_done : {X : Type 0} (outcome : Result X Stop) (view : X → List ℕ) (held : Held) (name : List ℕ)
     (names : List (List ℕ)) (old new : Option (List ℕ)) (status : Status)
     → MakesText IsOutputOf view outcome (run_told held name names) → PutOutcome view outcome old new status
@@ -61,6 +63,8 @@ run_done outcome view held name names old new status made put e told =
       read = output_read p.run p.comes.0 p.comes.1;
     }
 
+-- where a watched run is done, and the shelf tells its texts, these spell the run, and the whole output of one of
+-- its journals, with a board of so many rounds, was taken
 pub watch_done : {X : Type 0} (n : ℕ) (outcome : Result X Stop) (view : X → List ℕ) (held : Held) (name : List ℕ)
     (names : List (List ℕ)) (old new : Option (List ℕ)) (status : Status)
     → MakesText (IsWatchOf n) view outcome (run_told held name names) → PutOutcome view outcome old new status
@@ -81,6 +85,7 @@ watch_done n outcome view held name names old new status made put e told =
 
 -- ---- a made line
 
+-- where the work of a made line is done, the summary of a journal of that line was taken
 pub stress_done : {X : Type 0} (n : ℕ) (outcome : Result X Stop) (view : X → List ℕ) (old new : Option (List ℕ))
     (status : Status) → MakesText IsSummaryOf view outcome (Gives n) → PutOutcome view outcome old new status
     → status ≡ statuses.Done → PrintsSummary n old new

@@ -83,6 +83,7 @@ pub record IsPut {X : Type 0} (outcome : Result X Stop) (view : X → List ℕ) 
   pub is : outcome ≡ Ok made
   pub taken : new ≡ appended old (view made)
 
+-- where the outcome of a step is put and done, something was made, and its text was taken
 pub outcome_done : {X : Type 0} (outcome : Result X Stop) (view : X → List ℕ) (old new : Option (List ℕ))
     (status : Status) → PutOutcome view outcome old new status → status ≡ statuses.Done → IsPut outcome view old new
 outcome_done (Ok x) view old new status p e = record
@@ -144,6 +145,8 @@ no_shelf_fault held before now (Some command) none fault =
     All-get_or (λ (name : List ℕ). ¬ Rose (before name) (now name)) (texts_of command) fault.place [] fault.within none
     fault.rose
 
+-- where the count of no text rose, nor that of the sink, a command that isn't refused is done and its whole output
+-- taken, unless memory ran out
 pub completes : (held : Held) (before now : List ℕ → ℕ) (words : Option Command) (old new : Option (List ℕ))
     (sink_before sink_now : ℕ) (status : Status) → Printed held words old new status
     → (status ≡ statuses.SinkFault → Rose sink_before sink_now)
@@ -169,6 +172,7 @@ given_exactly text Untold h = tt
 given_exactly text (Gives bytes) h = sym h
 given_exactly text (Refuses n fault) h = h
 
+-- a step that makes the text that is told prints exactly that text
 pub makes_exactly : {X : Type 0} (outcome : Result X Stop) (view : X → List ℕ) (t : FromTexts (List ℕ))
     → Makes view outcome t → MakesText IsPrintOf view outcome (told_exactly t)
 makes_exactly (Ok x) view t h = given_exactly (view x) t h
@@ -186,6 +190,7 @@ exactly_stops (stops.Refused text line cause) (Refuses n fault) h = h
 exactly_stops stops.ShelfFault t h = tt
 exactly_stops stops.NoMemory t h = tt
 
+-- a step that prints exactly the text that is told makes that text
 pub exactly_makes : {X : Type 0} (outcome : Result X Stop) (view : X → List ℕ) (t : FromTexts (List ℕ))
     → MakesText IsPrintOf view outcome (told_exactly t) → Makes view outcome t
 exactly_makes (Ok x) view t h = exactly_given (view x) t h
@@ -200,6 +205,7 @@ come_then Comes f is text Untold h = tt
 come_then Comes f is text (Gives x) h = is x text h
 come_then Comes f is text (Refuses n fault) h = h
 
+-- where each text that comes of what is told is a print of it, a step that makes such a text prints it
 pub makes_print : {X A : Type 0} (Comes : A → List ℕ → Type 0) (f : A → Print)
     → ((x : A) (text : List ℕ) → Comes x text → IsPrintOf (f x) text) → (outcome : Result X Stop) (view : X → List ℕ)
     (t : FromTexts A) → MakesText Comes view outcome t

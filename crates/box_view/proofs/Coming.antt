@@ -21,6 +21,7 @@ first_known : (trains : List TrainPlan) (line : List Passage) → All (IsKnown t
 first_known trains [] h = tt
 first_known trains (passage ∷ rest) h = All-head (IsKnown trains) passage rest h
 
+-- the first train on the plain line of an incoming line is one of the plan
 pub coming_known : (plan : PlanFields) (plain : PlainState) (b : ℕ) (way : Way) (first : Option Passage)
     → IsLineOf plan plain → first ≡ first_coming plain.line b way
     → IfSome first (λ passage. IsTrue (is_train plan.trains passage.train))

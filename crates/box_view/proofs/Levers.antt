@@ -149,6 +149,7 @@ same_put None one other after after2 reply v pair = refl
 calls_few : (n : ℕ) → n < 2 ^ 32 → n + 1 < 10 ^ 10
 calls_few n few = omega arith
 
+-- what a pull of a box is answered has a text that spells it
 pub pull_spelled : (plan : PlanFields) (plain : PlainState) (b moment lever : ℕ) → IsPlan plan → IsLineOf plan plain
     → plain.calls < 2 ^ 32 → KnowsCall plan b (record { moment = moment; act = acts.Pull lever })
     → IsTrue (is_spelled_reply plan b
@@ -168,6 +169,7 @@ pull_spelled plan plain b moment lever is line few known =
     (pulled (calm here) lever (signal_of bp lever)) (pulled here lever (signal_of bp lever)) v pair)
     (told_spelled _ plan b (plain.calls + 1) is (calls_few plain.calls few) told_so)
 
+-- what a put of a box is answered has a text that spells it
 pub put_spelled : (plan : PlanFields) (plain : PlainState) (b moment lever : ℕ) → IsPlan plan → IsLineOf plan plain
     → plain.calls < 2 ^ 32 → KnowsCall plan b (record { moment = moment; act = acts.Put lever })
     → IsTrue (is_spelled_reply plan b
@@ -251,12 +253,14 @@ knows_one b moment boxes moments t at day h =
     let two : IsTrue (nat_lt moment moments) = grind (arith, nat_tests) in
     rw (one, two) h
 
+-- a box of the plan may be asked to pull each of its levers, at each moment of the day
 pub pull_known : (plan : PlanFields) (b moment lever : ℕ) → b < length plan.boxes → moment < moments_of plan.version
     → IsTrue (knows_lever plan b lever) → KnowsCall plan b (record { moment = moment; act = acts.Pull lever })
 unfolding knows_call
 pull_known plan b moment lever at day knows =
     knows_one b moment (length plan.boxes) (moments_of plan.version) (knows_lever plan b lever) at day knows
 
+-- a box of the plan may be asked to put each of its levers, at each moment of the day
 pub put_known : (plan : PlanFields) (b moment lever : ℕ) → b < length plan.boxes → moment < moments_of plan.version
     → IsTrue (knows_lever plan b lever) → KnowsCall plan b (record { moment = moment; act = acts.Put lever })
 unfolding knows_call
@@ -278,6 +282,7 @@ lever_found (l ∷ ls) zero d lt =
 lever_found (l ∷ ls) (suc i) d lt =
     found_more (l.number == (get_or ls i d).number) l _ (lever_found ls i d (omega arith))
 
+-- each lever in the list of a box's levers is one that the box has
 pub lever_there : (plan : PlanFields) (b : ℕ) (levers : List Lever) (i : ℕ) (d : Lever)
     → levers ≡ (box_plan_of plan b).levers → i < length levers
     → IsTrue (knows_lever plan b (get_or levers i d).number)
@@ -287,12 +292,14 @@ lever_there plan b levers i d is lt =
 
 -- ---- the call that moves a lever
 
+-- a man may make a pull of each lever of his box, no earlier than his last call
 pub pull_may : (plan : PlanFields) (state : LineState) (b moment lever : ℕ) → b < length plan.boxes
     → moment < moments_of plan.version → (box_at state b).moment ≤ moment → IsTrue (knows_lever plan b lever)
     → MayCall plan state b (record { moment = moment; act = acts.Pull lever })
 pull_may plan state b moment lever at day later knows =
     record { known = pull_known plan b moment lever at day knows; later = later }
 
+-- a man may make a put of each lever of his box, no earlier than his last call
 pub put_may : (plan : PlanFields) (state : LineState) (b moment lever : ℕ) → b < length plan.boxes
     → moment < moments_of plan.version → (box_at state b).moment ≤ moment → IsTrue (knows_lever plan b lever)
     → MayCall plan state b (record { moment = moment; act = acts.Put lever })
@@ -312,6 +319,7 @@ moved_as plan state b moment lever t pull h k =
     (λ (u : Bool). entry_of plan state b (record { moment = moment; act = cond u (acts.Put lever) (acts.Pull lever) }))
     (sym end)
 
+-- where a pull finds its lever reversed already, the call that moves the lever is the put
 pub moved_back : (plan : PlanFields) (state : LineState) (b moment lever : ℕ) (pull put : Entry)
     → pull ≡ entry_of plan state b (record { moment = moment; act = acts.Pull lever })
     → is_reversed_already pull.reply ≡ true
@@ -319,6 +327,7 @@ pub moved_back : (plan : PlanFields) (state : LineState) (b moment lever : ℕ) 
     → put ≡ move_entry plan state b moment lever
 moved_back plan state b moment lever pull put h k e = e ∙ moved_as plan state b moment lever true pull h k
 
+-- where a pull doesn't find its lever reversed already, the call that moves the lever is the pull
 pub moved_over : (plan : PlanFields) (state : LineState) (b moment lever : ℕ) (pull : Entry)
     → pull ≡ entry_of plan state b (record { moment = moment; act = acts.Pull lever })
     → is_reversed_already pull.reply ≡ false → pull ≡ move_entry plan state b moment lever

@@ -63,6 +63,7 @@ or_none : (on any : Bool) → (on || any) ≡ false → any ≡ false
 or_none true any h = cc
 or_none false any h = h
 
+-- where no dog is on a lever, none lies in a notch of it
 pub none_at : (lever : ℕ) (e : End) (ds : List Dog) → list_any (λ (d : Dog). d.lever == lever) ds ≡ false
     → list_any (lies_at lever e) ds ≡ false
 none_at lever e [] h = refl
@@ -88,6 +89,7 @@ dog_step true n e old any x y none is =
     bit_step (has_notch n (stand_at e)) (has_notch n AtMid) any x y (mid_none n) (none refl) is
 dog_step false n e old any x y none is = add_step (one (has_notch n old)) x y (one any) is
 
+-- where two tests hold together, the first denied, the first doesn't hold and the second does
 pub differ_parts : (a b : Bool) → IsTrue (not a && b) → (a ≡ false) × IsTrue b
 differ_parts true b h = cc
 differ_parts false b h = (refl, h)
@@ -182,12 +184,14 @@ set_front (f ∷ fs) x y xs = ap (λ (l : List ℕ). f ∷ l) (set_front fs x y 
 length_more : (front : List ℕ) (x : ℕ) → length (front ++ x ∷ []) ≡ length front + 1
 length_more front x = length-append front (x ∷ [])
 
+-- as the dogs that lie are counted, there are as many counts as before
 pub length-counted : (next : ℕ → ℕ) (counts numbers : List ℕ) → length (counted next counts numbers) ≡ length counts
 length-counted next counts [] = refl
 length-counted next counts (n ∷ ns) =
     length-counted next (slice_set counts n (next (slice_index_or counts n 0))) ns
     ∙ length-set counts n (next (slice_index_or counts n 0))
 
+-- there is a count for each bridle
 pub length-each : (places : LeverPlace) (bridles : List Bridle) → length (lying_in_each places bridles) ≡ length bridles
 length-each places [] = refl
 length-each places (b ∷ bs) = ap suc (length-each places bs)

@@ -39,6 +39,8 @@ none_of : (o : Option ℕ) → reply_of o ≡ Shifted → o ≡ None
 none_of None h = refl
 none_of (Some n) h = cc
 
+-- a frame stays one as a lever that nothing holds is moved, once the dogs that lie are counted less in the bridles
+-- that it leaves and more in those that it reaches
 pub moved_frame : (ends : List End) (bridles : List Bridle) (normal reversed : List (List ℕ)) (lever : ℕ) (e : End)
     (lying left between reached now : List ℕ) → IsFrame ends bridles normal reversed lying → IsLever (length ends) lever
     → shift_of ends lever bridles ≡ Shifted → left ≡ using 0 lever (end_at ends lever) bridles
@@ -118,6 +120,7 @@ free_from places lever from [] h = refl
 free_from places lever from (b ∷ bs) h =
     free_step (seated places b) places lever from b bs (free_from places lever (from + 1) bs) h
 
+-- where a lever is shifted, nothing holds it
 pub free : (ends : List End) (lever : ℕ) (bs : List Bridle) → shift_of ends lever bs ≡ Shifted
     → first_holder (stand_of ends lever AtMid) lever bs ≡ None
 free ends lever bs h =
@@ -127,6 +130,8 @@ some_of : (o : Option ℕ) (n : ℕ) → reply_of o ≡ HeldBy n → o ≡ Some 
 some_of None n h = cc
 some_of (Some m) n h = let e : m ≡ n = cc in ap (λ (k : ℕ). Some k) e
 
+-- where a lever is held by a bridle, it is one of the frame's, and its row and the lever that it names are what
+-- holds it
 pub held : (ends : List End) (lever n : ℕ) (bs : List Bridle) → shift_of ends lever bs ≡ HeldBy n
     → HeldAt (stand_of ends lever AtMid) lever 1 n bs
 held ends lever n bs h =
@@ -179,6 +184,7 @@ used_within ends bridles normal reversed lying lever e numbers counts frame is s
     let wide : length counts ≡ length bridles = same ∙ (ap length frame.counts ∙ length-each (at_ends ends) bridles) in
     rw (wide, is) (within lever e bridles)
 
+-- the counts of the bridles that a lever lies in tell whether it is shifted, and which bridle holds it
 pub tested : (ends : List End) (bridles : List Bridle) (normal reversed : List (List ℕ)) (lying : List ℕ) (lever : ℕ)
     (counts numbers : List ℕ) → IsFrame ends bridles normal reversed lying → counts ≡ lying
     → numbers ≡ using 0 lever (end_at ends lever) bridles → first_lone counts numbers ≡ shift_of ends lever bridles

@@ -38,6 +38,7 @@ pub length-used_one : (uses : List (List ℕ)) (e : End) (number : ℕ) (d : Dog
     → length (used_one uses e number d) ≡ length uses
 length-used_one uses e number d = length-added uses number d (has_notch d.notches (stand_at e))
 
+-- as a bridle's number is put behind those of its levers, there are as many levers as before
 pub length-used_by : (uses : List (List ℕ)) (e : End) (number : ℕ) (dogs : List Dog)
     → length (used_by uses e number dogs) ≡ length uses
 length-used_by uses e number [] = refl
@@ -115,6 +116,7 @@ used_by_all-at uses e from (b ∷ bs) at fits less =
     (used_by-at uses e from b.dogs at own.dogs own.differ less)
     ∙ named_step (uses_at (at + 1) e b) (slice_index_or uses at []) (using (from + 1) (at + 1) e bs) from)
 
+-- the index that is built of the bridles is theirs
 pub is_index : (levers : ℕ) (e : End) (bridles : List Bridle) → All (BridleFits levers) bridles
     → IsIndex levers e bridles (used_by_all (replicate levers []) e 0 bridles)
 is_index levers e bridles fits =
@@ -171,6 +173,8 @@ look_from ends lever levers counts from (b ∷ bs) is fits all =
     ∙ reply_step (seated (stand_of ends lever AtMid) b) (first_unseated (stand_of ends lever AtMid) (from + 1 + 1) bs)
     (from + 1)
 
+-- where every bridle is seated, the first of those with a dog in a notch of a lever in which one dog alone lies is
+-- the one that holds the lever
 pub first_lone-using : (ends : List End) (lever levers : ℕ) (bridles : List Bridle) → All (BridleFits levers) bridles
     → All (IsSeated (at_ends ends)) bridles
     → first_lone (lying_in_each (at_ends ends) bridles) (using 0 lever (end_at ends lever) bridles)
@@ -194,6 +198,7 @@ using_within from limit lever e (b ∷ bs) h =
     within_one from limit (uses_at lever e b) (using (from + 1) lever e bs) (omega arith)
     (using_within (from + 1) limit lever e bs (omega arith))
 
+-- the numbers that are given for a lever are those of bridles
 pub within : (lever : ℕ) (e : End) (bridles : List Bridle) → All (λ n. n < length bridles) (using 0 lever e bridles)
 within lever e bridles = using_within 0 (length bridles) lever e bridles (omega arith)
 

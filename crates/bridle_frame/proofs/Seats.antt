@@ -58,6 +58,7 @@ none_first : (places : LeverPlace) (from : ℕ) (test : Bool) (b : Bridle) (bs :
 none_first places from true b bs is h = (sym is, h)
 none_first places from false b bs is h = cc
 
+-- where no bridle is found that isn't seated, all are
 pub all_seated : (places : LeverPlace) (from : ℕ) (bs : List Bridle) → first_unseated places from bs ≡ None
     → All (IsSeated places) bs
 all_seated places from [] h = All-nil (IsSeated places)
@@ -75,6 +76,7 @@ any_alike levers old new same (d ∷ ds) fits =
     (same d.lever (All-head (DogFits levers) d ds fits))
     ∙ ap (λ (b : Bool). lies_in new d || b) (any_alike levers old new same ds (All-tail (DogFits levers) d ds fits))
 
+-- bridles stay seated where every lever of the frame stands as before
 pub all_alike : (levers : ℕ) (old new : LeverPlace) → ((n : ℕ) → IsLever levers n → old n ≡ new n) → (bs : List Bridle)
     → All (BridleFits levers) bs → All (IsSeated old) bs → All (IsSeated new) bs
 all_alike levers old new same [] fits all = All-nil (IsSeated new)
@@ -86,6 +88,7 @@ all_alike levers old new same (b ∷ bs) fits all =
 
 -- ---- dogs on different levers
 
+-- a dog is on a lever exactly where the lever is among those of the dogs
 pub any_of_map : (lever : ℕ) (ds : List Dog)
     → list_any (λ n. n == lever) (map (λ d. d.lever) ds) ≡ list_any (λ d. d.lever == lever) ds
 any_of_map lever [] = refl

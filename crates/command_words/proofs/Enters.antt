@@ -45,6 +45,7 @@ labels = names_of whole
 abbrev start : Walk
 start = walk_from nothing_held
 
+-- of the program with all its commands, the words tell what clap finds
 pub table_is_simple : is_simple all_commands ≡ true
 unfolding clap_on_literals
 table_is_simple = refl
@@ -106,6 +107,7 @@ by_word name first turn found = record {
   finds = λ words. ap (option_map (λ p. p.1)) (finds (row_of name).word (shape_of name) first turn found words);
 }
 
+-- from the first word clap enters the command of that name, and finds what that command finds in the words behind
 pub is_entered : (name : CommandName) → IsEntered name
 unfolding clap_on_literals
 is_entered names.Run = by_word names.Run refl refl refl

@@ -168,12 +168,14 @@ form_reads name words e fits =
           ∙ ap (λ (ws : List Text). command_in name (drop 1 ws)) form.is);
     }
 
+-- clap takes words that have the form of a command, and what it finds in them is that command
 pub words_read : (words : List (String Global)) (name : CommandName) → form_of (bytes_of words) ≡ Some name
     → length words ≤ usize_max → AreRead name (bytes_of words)
 words_read words name form fits = form_reads name (bytes_of words) form (rw length-map fits)
 
 -- ---- the test of the form
 
+-- the first word and the number of those behind it tell the form of the words, where all are plain
 pub form_is : (words : List (String Global)) (first : String Global) → 0 < length words
     → first ≡ slice_index_or words 0 first
     → cond (list_all (λ word. is_plain_word (string_bytes word)) words) (form_named (string_bytes first)

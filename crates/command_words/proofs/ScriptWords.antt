@@ -21,10 +21,12 @@ pub record Reads (name : CommandName) (words : List Text) : Type 0 where
   pub takes : level_passes (shape_of name) [] nothing_held words false ≡ true
   pub reads : command_read name (rows_after (shape_of name).rules [] words) ≡ command_in name words
 
+-- of two tests that hold together each holds
 pub both : (a b : Bool) → a && b ≡ true → (a ≡ true) × (b ≡ true)
 both true b e = (refl, e)
 both false b e = absurd cc
 
+-- a byte of which it is denied that it is a hyphen is none
 pub no_hyphen : (b : ℕ) → not (eqb b 45) ≡ true → eqb b 45 ≡ false
 no_hyphen b e = go (eqb b 45) e
   where

@@ -38,6 +38,7 @@ report_of-take Audit plan bytes =
 
 -- ---- what is found of it is the law's
 
+-- where a thing holds unless there is an error, what follows from it holds unless there is one
 pub on_ok : {A E : Type 0} (r : Result A E) (P Q : Type 0) → OnOk r P → (P → Q) → OnOk r Q
 on_ok (Ok x) P Q h k = k h
 on_ok (Err e) P Q h k = tt
@@ -73,6 +74,7 @@ of_plan (Gives p) o plan is given case told =
     of_held p o (subst IsPlan (sym given) is) case told
 of_plan (Refuses n fault) o plan is given case told = absurd cc
 
+-- where the plan is given, what is judged of the journal is the law's judgement
 pub case_judged : (held : Held) (plan_name journal_name : List ℕ) (plan : PlanFields) → IsPlan plan
     → IsGiven plan (plan_told held plan_name) → IsJudged (case_told held plan_name journal_name)
 case_judged held plan_name journal_name plan is given =
@@ -83,6 +85,7 @@ case_judged held plan_name journal_name plan is given =
 abbrev done : FromTexts (Unit {0})
 done = Gives tt
 
+-- where the plan is given and the shelf fails at the journal, that is the case's fault of the shelf
 pub case_fault : (held : Held) (before mid now : List ℕ → ℕ) (plan_name journal_name : List ℕ) (plan : PlanFields)
     → ((n : List ℕ) → before n ≤ mid n)
     → IsGiven plan (plan_told held plan_name) → Rose (mid journal_name) (now journal_name)

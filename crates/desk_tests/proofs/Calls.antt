@@ -48,6 +48,7 @@ use Rattle.desk_tests.proofs.Deciding.{IsNotDue, first_decides_it, first_looks, 
 
 -- ---- a desk is its box's, whatever it has done
 
+-- a desk is that of its box still where only the state of the box and the count of the calls change
 pub stays_desk : (plan : PlanFields) (b : ℕ) (desk : DeskFields) (here : BoxState) (calls : ℕ) → IsDeskOf plan b desk
     → IsDeskOf plan b (record desk { here = here; calls = calls })
 stays_desk plan b desk here calls of = record {
@@ -79,6 +80,8 @@ pub record IsWord (d : Decision) (ask asked : WordAsk) (old new : DeskFields) : 
   pub ask_is : asked ≡ ask
   pub new_is : new ≡ old
 
+-- where a desk's first step asks for a word, the call is decided on one, the word is the one that the law needs,
+-- and nothing has changed
 pub word_answer : (d : Decision) (ask asked : WordAsk) (old : DeskFields) (told : Step) (new : DeskFields)
     → Answers d ask old told new → told ≡ NeedsWord asked → IsWord d ask asked old new
 word_answer (Here r after) ask asked old told new h e = let first = h.0 in absurd cc
@@ -435,6 +438,8 @@ asks_of plan es b call old new told ask ready desk h e =
           })),
     )
 
+-- where a desk's first step answers, the call is decided in the box alone, the reply is the law's, and the call is
+-- counted
 pub local_of : (plan : PlanFields) (es : List Entry) (b : ℕ) (call : Call) (old new : DeskFields) (told : Step)
     (reply : Reply)
     → IsDeskAfter plan es b old

@@ -42,6 +42,7 @@ positive n h = let ne = differs n 0 h in by n ne
 
 -- ---- no second operation is due: there is none, or the desk has not met what the call looks for
 
+-- there is no second operation, or the desk hasn't met what the call looks for
 abbrev pub IsNotDue : Option WordOp → Bool → Type 0
 IsNotDue second met = (second ≡ None) ⊎ (met ≡ false)
 
@@ -142,6 +143,7 @@ first_stays box_plan (acts.ClearPortion way) here n op e = absurd cc
 first_stays box_plan (acts.Wind way) here n op e = absurd cc
 first_stays box_plan (acts.Release way) here n op e = absurd cc
 
+-- where a call may have a second operation, its first leaves the word as it is
 pub first_looks : (k : Kind) (box_plan : BoxFields) (act : Act) (here : BoxState) (n : ℕ) (op : WordOp)
     → second_on k (second_by box_plan act here) ≡ Some op → word_after (first_on k (first_by box_plan act here)) n ≡ n
 first_looks Tally box_plan act here n op e = absurd cc

@@ -138,6 +138,7 @@ one_more plan b desks desk within so of here calls = record {
         let inside : c < length desks = omega (arith, n, below) in
         subst (IsDeskAfter plan [] c) (sym (get_or_append_left desks (desk ∷ []) no_desk c inside)) (so.each c below)
 
+-- desks that open, with all words 0, and a line in one hand that opens are as after no call
 pub opens : (plan : PlanFields) (desks : List DeskFields) (words : List ℕ) (boxes : ℕ) (plain : PlainState)
     → boxes ≡ length plan.boxes → AreDesksAfter plan [] boxes desks
     → words ≡ replicate (1 + boxes + 6 * (boxes - 1)) 0

@@ -29,6 +29,7 @@ pub held_here : (held other : Held) (xs : List (Bor (List ℕ))) (i : ℕ) (none
 held_here held other xs i none same lt =
     same (get_or xs i none).now ∙ ap held (name_at xs i none lt)
 
+-- where a shelf still holds what it held, a step that stops at the next script stops at that of its name
 pub stops_there : (held other : Held) (plan : PlanFields) (xs : List (Bor (List ℕ))) (i : ℕ) (none : Bor (List ℕ))
     (stop : Stop) → ((n : List ℕ) → other n ≡ held n) → i < length xs
     → StopsAt stop (text_told (i + 2) (script_of plan i) (other (get_or xs i none).now))
@@ -37,6 +38,7 @@ stops_there held other plan xs i none stop same lt h =
     subst (λ (o : Option (List ℕ)). StopsAt stop (text_told (i + 2) (script_of plan i) o))
     (held_here held other xs i none same lt) h
 
+-- where a shelf still holds what it held, the next script that is read is that of its name
 pub given_there : (held other : Held) (plan : PlanFields) (xs : List (Bor (List ℕ))) (i : ℕ) (none : Bor (List ℕ))
     (script : Script) → ((n : List ℕ) → other n ≡ held n) → i < length xs
     → IsGiven script (text_told (i + 2) (script_of plan i) (other (get_or xs i none).now))
@@ -45,6 +47,8 @@ given_there held other plan xs i none script same lt h =
     subst (λ (o : Option (List ℕ)). IsGiven script (text_told (i + 2) (script_of plan i) o))
     (held_here held other xs i none same lt) h
 
+-- where a shelf still holds what it held, a refusal explained of the next script is explained under its name in the
+-- run
 pub explained_there : (held other : Held) (plan_name : List ℕ) (xs : List (Bor (List ℕ))) (i : ℕ)
     (none : Bor (List ℕ)) (trouble : Trouble) → other ≡ held → i < length xs
     → IsExplainedAt other (i + 2) (get_or xs i none).now trouble
@@ -68,6 +72,7 @@ last_text held names texts text d b (inl same) here all =
 last_text held names texts text d b (inr lt) here all =
     rw (get_or-append texts (text ∷ []) d b lt) (all.each b d lt)
 
+-- texts that are fetched in turn under the first names are so with that of the next name behind them
 pub fetched_more : (held : Held) (names : List (List ℕ)) (texts : List (Vec ℕ)) (text : Vec ℕ)
     → length texts < length names → IsFetched (held (get_or names (length texts) [])) text.items
     → AreFetched held names texts → AreFetched held names (texts ++ text ∷ [])
@@ -78,12 +83,14 @@ fetched_more held names texts text lt here all =
       each = λ b d within. last_text held names texts text d b (eq-or-lt_of_le (omega (arith, within, count))) here all;
     }
 
+-- where a shelf still holds what it held, bytes fetched under the next name are of what it holds under that name
 pub fetched_there : (held other : Held) (xs : List (Bor (List ℕ))) (i : ℕ) (none : Bor (List ℕ)) (bytes : List ℕ)
     → ((n : List ℕ) → other n ≡ held n) → i < length xs → IsFetched (other (get_or xs i none).now) bytes
     → IsFetched (held (get_or (names_of xs) i [])) bytes
 fetched_there held other xs i none bytes same lt h =
     subst (λ (o : Option (List ℕ)). IsFetched o bytes) (held_here held other xs i none same lt) h
 
+-- texts of no more bytes than are fetched stay so with one more
 pub few_more : (texts : List (Vec ℕ)) (text : Vec ℕ) → All (λ t. length t.items ≤ most_script_bytes + 1) texts
     → length text.items ≤ most_script_bytes + 1
     → All (λ t. length t.items ≤ most_script_bytes + 1) (texts ++ text ∷ [])

@@ -7,6 +7,7 @@ use Rattle.explained_texts.specs.Troubles.{IsRefusalOf, name_of_text, stop_shown
 use Rattle.explained_texts.specs.declared.trouble.Trouble.{Trouble}
 use Rattle.explained_texts.specs.declared.trouble.Trouble.TheVariants as troubles
 
+-- where a text is told to be refused, that refusal stops the step
 pub refusal_stops : {A : Type 0} (n line : ℕ) (cause : Cause) (trouble : Trouble) (told : FromTexts A)
     → IsRefusalOf n line cause trouble → IsRefused n (record { line = line; cause = cause }) told
     → StopsAt (stop_shown trouble) told
@@ -22,6 +23,7 @@ pub front : (held : Option (List ℕ)) (most : ℕ) (bytes : List ℕ) → IfSom
 front None most bytes h = tt
 front (Some all) most bytes h = (most, h)
 
+-- a refusal that is explained with the first bytes of what a shelf holds is explained by the shelf
 pub explained_at : (held : Held) (n : ℕ) (name bytes : List ℕ) (trouble : Trouble) → IsFront (held name) bytes
     → IsExplained n name bytes trouble → IsExplainedAt held n name trouble
 explained_at held n name bytes (troubles.Untaken line) front h = absurd h

@@ -11,6 +11,7 @@ use Rattle.frame_chart.specs.Laying.{column_of, most_crossed}
 
 -- ---- how many are crossed
 
+-- how many spans a lever crosses, counted one after another
 abbrev pub how_many : ℕ → List Span → ℕ
 how_many lever [] = 0
 how_many lever (span ∷ spans) = if crosses lever span then 1 + how_many lever spans else how_many lever spans
@@ -26,14 +27,17 @@ length-crossed_from number lever (span ∷ spans) = by (crosses lever span) (len
     by true r = omega arith
     by false r = r
 
+-- the count of them one after another is how many spans the lever crosses
 pub how_many-crossed : (lever : ℕ) (spans : List Span) → how_many lever spans ≡ count_crossed lever spans
 how_many-crossed lever spans = is_count_by (how_many lever) (crosses lever) refl (λ _ _. refl) spans
 
+-- as many bridles are named as the lever crosses
 pub length-crossed_by : (lever : ℕ) (spans : List Span) → length (crossed_by lever spans) ≡ count_crossed lever spans
 length-crossed_by lever spans = length-crossed_from 1 lever spans ∙ how_many-crossed lever spans
 
 -- ---- the search over the levers
 
+-- before any lever is looked at, there is no column, and the most that is crossed is 0
 pub column_start : (spans : List Span) → (0 ≡ column_of 0 spans) × (0 ≡ most_crossed 0 spans)
 unfolding column_of most_crossed
 column_start spans = (refl, refl)
@@ -47,6 +51,7 @@ column_more before spans less =
     let test = lt-ltb (most_crossed before spans) (count_crossed (suc before) spans) more in
     rw add-one (rw test (refl, omega arith))
 
+-- where the next lever crosses no more bridles than the most so far, the column and the most stay
 pub column_same : (before : ℕ) (spans : List Span) → count_crossed (before + 1) spans ≤ most_crossed before spans
     → (column_of (before + 1) spans ≡ column_of before spans)
     × (most_crossed (before + 1) spans ≡ most_crossed before spans)

@@ -13,6 +13,7 @@ use Rattle.frame_chart.specs.Spans.{Crosses, crosses, span_at}
 use Rattle.frame_chart.specs.Charts.{IsSoundLayout, count_crossed, different}
 use Rattle.frame_chart.proofs.Columns.{how_many, how_many-crossed}
 
+-- two channels are the same
 abbrev pub same : ℕ → ℕ → Bool
 same one other = one == other
 
@@ -32,6 +33,7 @@ true_crosses lever span h = rw (le-leb span.lowest lever h.0, le-leb lever span.
 
 -- ---- the channels of the bridles that a lever crosses
 
+-- the channels of the bridles that a lever crosses, in order
 pub channels_at : ℕ → List Span → List ℕ → List ℕ
 channels_at lever [] channels = []
 channels_at lever (span ∷ spans) [] = []
@@ -52,6 +54,7 @@ length-channels_at lever (span ∷ spans) (channel ∷ channels) e = by (crosses
     by true r = omega arith
     by false r = r
 
+-- where each bridle has a channel, the channels of those that a lever crosses are as many as it crosses
 pub count-channels_at : (lever : ℕ) (spans : List Span) (channels : List ℕ) → length channels ≡ length spans
     → length (channels_at lever spans channels) ≡ count_crossed lever spans
 count-channels_at lever spans channels e = length-channels_at lever spans channels e ∙ how_many-crossed lever spans

@@ -34,6 +34,7 @@ dogs_fit (dog ∷ dogs) two each =
     widened_fits (record { lowest = dog.lever; highest = dog.lever }) dogs
     (record { first = one.0; wide = omega arith; last = one.1 }) (All-tail (DogFits most_levers) dog dogs each)
 
+-- the span of each bridle that fits a frame fits it
 pub spans_fit : (bridles : List Bridle) → All (BridleFits most_levers) bridles → All SpanFits (spans_of bridles)
 spans_fit bridles fits = All-map SpanFits span_of bridles
     (All-weaker (BridleFits most_levers) (λ b. SpanFits (span_of b)) (λ b h. dogs_fit b.dogs h.two h.dogs) bridles fits)

@@ -234,6 +234,8 @@ equal n m h = by (eqb_tells n m)
     by (inl t) = t.1
     by (inr t) = absurd (true≢false (sym h ∙ t.0))
 
+-- where the tests find that a chart names the bridles its column crosses, and as many as its channels, and it has
+-- no column without bridles, the chart shows its column
 pub shows_where_named : (bridles : List Bridle) (chart : Chart) (crossing : List ℕ) (names counts : Bool)
     → crossing ≡ chart.crossing → names ≡ are_crossed 1 chart.column (spans_of bridles) crossing → names ≡ true
     → counts ≡ (length crossing == chart.count) → counts ≡ true → (length bridles ≡ 0 → chart.column ≡ 0)
@@ -244,6 +246,7 @@ shows_where_named bridles chart crossing names counts same is named its counted 
   none = λ e. none (sym (length-map bridles span_of) ∙ e);
 }
 
+-- where a chart shows its column, the test finds that it names the bridles that the column crosses
 pub named_where_shows : (bridles : List Bridle) (chart : Chart) (crossing : List ℕ) (names : Bool)
     → crossing ≡ chart.crossing → names ≡ are_crossed 1 chart.column (spans_of bridles) crossing
     → ColumnShows (spans_of bridles) chart → names ≡ true
@@ -251,6 +254,7 @@ named_where_shows bridles chart crossing names same is shows =
     is ∙ subst (λ (ns : List ℕ). are_crossed 1 chart.column (spans_of bridles) ns ≡ true) (sym (same ∙ shows.crossing))
     (test_by_crossed 1 chart.column (spans_of bridles))
 
+-- where a chart shows its column, the test finds that it names as many bridles as it has channels
 pub counted_where_shows : (bridles : List Bridle) (chart : Chart) (crossing : List ℕ) (counts : Bool)
     → crossing ≡ chart.crossing → counts ≡ (length crossing == chart.count) → ColumnShows (spans_of bridles) chart
     → counts ≡ true
@@ -261,6 +265,7 @@ pub none_where_shows : (bridles : List Bridle) (chart : Chart) → ColumnShows (
     → length bridles ≡ 0 → chart.column ≡ 0
 none_where_shows bridles chart shows e = shows.none (length-map bridles span_of ∙ e)
 
+-- a chart is shown where the test finds its layout sound, no channel is above its count, and it shows its column
 pub shown_where_all : (bridles : List Bridle) (chart : Chart) (channels : List ℕ) (sound : Bool)
     → channels ≡ chart.channels → sound ≡ are_sound (spans_of bridles) channels → sound ≡ true
     → All (λ channel. channel ≤ chart.count) channels → ColumnShows (spans_of bridles) chart
@@ -274,6 +279,7 @@ shown_where_all bridles chart channels sound same is holds within shows = record
   none = shows.none;
 }
 
+-- the test finds the layout of a shown chart sound
 pub sound_where_shown : (bridles : List Bridle) (chart : Chart) (channels : List ℕ) (sound : Bool)
     → channels ≡ chart.channels → sound ≡ are_sound (spans_of bridles) channels → IsShownChart (spans_of bridles) chart
     → sound ≡ true
@@ -281,15 +287,18 @@ sound_where_shown bridles chart channels sound same is shown =
     is ∙ test_by_sound (spans_of bridles) channels (spans_wide bridles)
     (subst (λ (cs : List ℕ). IsSoundLayout (spans_of bridles) cs) (sym same) shown.sound)
 
+-- no channel of a shown chart is above its count
 pub within_where_shown : (bridles : List Bridle) (chart : Chart) (channels : List ℕ) → channels ≡ chart.channels
     → IsShownChart (spans_of bridles) chart → All (λ channel. channel ≤ chart.count) channels
 within_where_shown bridles chart channels same shown = subst
     (λ (cs : List ℕ). All (λ channel. channel ≤ chart.count) cs) (sym same) shown.within
 
+-- a shown chart shows its column
 pub shows_where_shown : (bridles : List Bridle) (chart : Chart) → IsShownChart (spans_of bridles) chart
     → ColumnShows (spans_of bridles) chart
 shows_where_shown bridles chart shown = record { crossing = shown.crossing; count = shown.count; none = shown.none }
 
+-- what is asked of a chart without bridles holds where there is one
 pub not_empty : (bridles : List Bridle) (column : ℕ) (empty : Bool) → empty ≡ (length bridles == 0) → IsTrue (not empty)
     → length bridles ≡ 0 → column ≡ 0
 not_empty bridles column true is some e = cc
@@ -306,6 +315,7 @@ differ (span ∷ spans) (channel ∷ channels) h = by (not (channel == 0 || meet
     by true r = r
     by false r = refl
 
+-- channels that are more or fewer than the bridles are found to be no sound layout
 pub lengths_differ : (bridles : List Bridle) (channels : List ℕ) → length channels ≢ length bridles
     → false ≡ are_sound (spans_of bridles) channels
 lengths_differ bridles channels h = differ (spans_of bridles) channels (λ e. h (e ∙ length-map bridles span_of))

@@ -17,6 +17,7 @@ use Rattle.frame_chart.specs.Laying.{channel_for, filled_with, laid, no_entry}
 abbrev filled_to : List ℕ → ℕ → ℕ
 filled_to filled channel = get_or (0 ∷ filled) channel 0
 
+-- a span that is laid needs at most one new channel
 pub length-filled_with : (filled : List ℕ) (span : Span) → length (filled_with filled span) ≤ length filled + 1
 length-filled_with [] span = omega arith
 length-filled_with (lever ∷ levers) span = by (nat_lt lever span.lowest) (length-filled_with levers span)
@@ -102,9 +103,11 @@ pub places : List ℕ → List NumberedSpan → List ℕ
 places filled [] = []
 places filled (next ∷ others) = place_for filled next.span ∷ places (filled_with filled next.span) others
 
+-- the channel, from 0, in which the span at this place of the order is laid
 abbrev pub place_at : List ℕ → List NumberedSpan → ℕ → ℕ
 place_at filled xs t = get_or (places filled xs) t 0
 
+-- the span at this place of the order
 abbrev pub entry : List NumberedSpan → ℕ → Span
 entry xs t = (get_or xs t no_entry).span
 
@@ -112,6 +115,7 @@ entry xs t = (get_or xs t no_entry).span
 abbrev pub AreRising : List NumberedSpan → Type 0
 AreRising xs = (s t : ℕ) → s < t → t < length xs → (entry xs s).lowest ≤ (entry xs t).lowest
 
+-- each span begins at lever 1 or above
 abbrev pub AreLevers : List NumberedSpan → Type 0
 AreLevers xs = (t : ℕ) → t < length xs → 1 ≤ (entry xs t).lowest
 
@@ -178,6 +182,8 @@ pub record IsFound (filled : List ℕ) (xs : List NumberedSpan) (t place : ℕ) 
   pub there : place_at filled xs by ≡ place
   pub reaches : (entry xs t).lowest ≤ (entry xs by).highest
 
+-- a span finds each channel below its own taken, by one laid before it that reaches its lowest lever, or by how far
+-- the channel was filled at first
 pub laid_least : (filled : List ℕ) (xs : List NumberedSpan) (t place : ℕ) → t < length xs → place < place_at filled xs t
     → IsFound filled xs t place ⊎ ((entry xs t).lowest ≤ get_or filled place 0)
 unfolding places
@@ -209,6 +215,7 @@ laid_least filled (x ∷ xs) (suc t) place h less = by
 
 -- ---- the channels by the bridles' numbers
 
+-- as bridles are laid, the list of their channels keeps its length
 pub length-laid : (channels filled : List ℕ) (xs : List NumberedSpan)
     → length (laid channels filled xs) ≡ length channels
 length-laid channels filled [] = refl
@@ -216,6 +223,7 @@ length-laid channels filled (x ∷ xs) =
     length-laid (slice_set channels x.number (channel_for filled x.span)) (filled_with filled x.span) xs
     ∙ length-set channels x.number (channel_for filled x.span)
 
+-- the number of the bridle at this place of the order
 abbrev pub number_at : List NumberedSpan → ℕ → ℕ
 number_at xs t = (get_or xs t no_entry).number
 

@@ -100,6 +100,7 @@ same_below (suc top) spans one other a b rule its bridle h p less =
         absurd (not_its_own spans other one bridle h b t (sym (r t.by t.within q (omega arith)) ∙ t.there))
     by (inr m) (inr n) r = omega arith
 
+-- two sound layouts by the rule are the same
 pub one_layout : (spans : List Span) (one other : List ℕ) → IsSoundLayout spans one → IsSoundLayout spans other
     → IsByRule spans one → IsByRule spans other → one ≡ other
 one_layout spans one other a b rule its = ext_get_or 0 one other (a.each ∙ sym b.each) same

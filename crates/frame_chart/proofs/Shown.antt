@@ -24,6 +24,7 @@ use Rattle.frame_chart.proofs.Orders.{IsOf, before_in_order, each_in_order, ther
 
 -- ---- the bridles in their order
 
+-- the entry at each place of the order is of the bridle whose number it has
 pub of_at : (spans : List Span) (t : ℕ) → t < length (in_order spans) → IsOf spans (get_or (in_order spans) t no_entry)
 of_at spans t h = each_in_order spans t no_entry h
 
@@ -84,6 +85,7 @@ stands spans bridle less =
           there.is (channel_at spans there.place there.within);
     }
 
+-- one number is below another, or the other is no higher
 pub lower_or_not : (a b : ℕ) → (a < b) ⊎ (b ≤ a)
 lower_or_not a b = by (nat_lt a b) refl
   where
@@ -173,6 +175,7 @@ taken spans fits bridle channel h low s f =
       crosses_other = (omega arith, omega arith);
     }
 
+-- bridles that fit a frame are laid by the rule
 pub laid_by_rule : (spans : List Span) → All SpanFits spans → IsByRule spans (channels_of spans)
 laid_by_rule spans fits bridle channel h low less = by (stands spans bridle h)
   where
@@ -237,6 +240,7 @@ none_at_zero spans fits = sym (how_many-crossed 0 spans) ∙ none spans fits
 count_is_most : (spans : List Span) → All SpanFits spans → (chart_of_spans spans).count ≡ most_crossed most_levers spans
 count_is_most spans fits = column_crosses_most most_levers spans (none_at_zero spans fits)
 
+-- the chart of bridles that fit a frame is shown
 pub chart_is_shown : (spans : List Span) → All SpanFits spans → IsShownChart spans (chart_of_spans spans)
 chart_is_shown spans fits = record {
   sound = laid_soundly spans fits;
@@ -275,6 +279,7 @@ shown_has_fewest spans chart channels shown sound =
     column_has_fewest spans chart channels
     (record { crossing = shown.crossing; count = shown.count; none = shown.none }) sound
 
+-- of bridles that fit a frame, each lever below the column of the chart crosses fewer than its count
 pub column_is_least : (spans : List Span) (lever : ℕ) → All SpanFits spans → lever < (chart_of_spans spans).column
     → count_crossed lever spans < (chart_of_spans spans).count
 column_is_least spans lever fits less =

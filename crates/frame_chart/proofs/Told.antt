@@ -33,6 +33,7 @@ the_chart bridles fits =
 abbrev Charted : Type 0
 Charted = Result Chart NoMemory
 
+-- a chart that is made of the spans of bridles that fit a frame is the chart of those bridles
 pub chart_told : (bridles : List Bridle) (spans : List Span) (result : Charted) → All (BridleFits most_levers) bridles
     → spans ≡ spans_of bridles → IfOk result (λ chart. chart ≡ chart_of_spans spans)
     → IfOk result (IsChartOf (spans_of bridles))
@@ -51,6 +52,7 @@ made spans channels crossing count column a b d e =
     ∙ (ap length all ∙ length-crossed_by (column_of most_levers spans) spans) in
     cc
 
+-- the text of the chart of a box's bridles is the text of the box's chart
 pub box_told : (plan : BoxFields) (bridles : List Bridle) (chart : Chart) (result : Result (Vec ℕ) NoMemory)
     → bridles ≡ bridles_of plan → chart ≡ chart_of bridles
     → IfOk result (λ text. text.items ≡ chart_text plan bridles chart)

@@ -79,6 +79,7 @@ few_entries plan log is legal short = let a = length_by_parts plan log 10000 leg
 
 -- ---- the first box of a post
 
+-- a post that holds a box holds the one that calls from it
 pub caller_held : (posts : List ℕ) → posts ≢ [] → 0 < held (caller_of posts) posts
 caller_held [] holds = absurd (holds refl)
 caller_held (b ∷ bs) holds = held_first b bs

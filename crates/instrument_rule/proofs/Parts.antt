@@ -37,6 +37,7 @@ eqb_no a b ne = ⊎_elim (λ (t : ((a == b) ≡ true) × (a ≡ b)). absurd (ne 
 pub part_own : (b : ℕ) (e : Entry) (es : List Entry) → e.box_no ≡ b → part_of b (e ∷ es) ≡ e ∷ part_of b es
 part_own b e es is = cond_yes (e.box_no == b) e (part_of b es) (eqb_yes e.box_no b is)
 
+-- an entry of another box is none of a box's part
 pub part_other : (b : ℕ) (e : Entry) (es : List Entry) → e.box_no ≢ b → part_of b (e ∷ es) ≡ part_of b es
 part_other b e es ne = cond_no (e.box_no == b) e (part_of b es) (eqb_no e.box_no b ne)
 

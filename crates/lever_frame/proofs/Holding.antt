@@ -25,6 +25,7 @@ rows_hold_from same places from (row ∷ rows) all =
     (rows_hold_from same places (from + 1) rows
     (All-tail (IsSeated places) (bridle_of row from) (compiled (from + 1) rows) all))
 
+-- where every bridle of a table is seated, every row holds
 pub rows_hold : SeatedRows → (places : LeverPlace) (bridles : List Bridle) → bridles ≡ compiled 1 (rows_of bridles)
     → All (IsSeated places) bridles → All (RowHolds places) (rows_of bridles)
 rows_hold same places bridles made all =

@@ -51,6 +51,8 @@ is_some_of f (Some x) p h = ap is_some h
 
 -- ---- a frame as it opens
 
+-- a frame with all levers at normal and the bridles of a box's table, with the plans of its levers and no arm off,
+-- is a lever frame
 pub opens : (box_plan : BoxFields) (frame : FrameState) (levers : List LeverPlan) (off : List Bool)
     → frame ≡ record { ends = replicate (frame_size box_plan.levers) NormalEnd; bridles = compiled 1 box_plan.rows }
     → AreLeverPlans box_plan (frame_size box_plan.levers) levers → off ≡ replicate (frame_size box_plan.levers) false
@@ -64,6 +66,8 @@ opens box_plan frame levers off is are arms =
       arms = ap length arms ∙ (length-replicate (frame_size box_plan.levers) false ∙ sym wide);
     }
 
+-- a frame with all levers at normal and the bridles of a box's table, with the plans of its levers, is that of the
+-- box
 pub opens_of : (box_plan : BoxFields) (frame : FrameState) (levers : List LeverPlan) (off : List Bool)
     → frame ≡ record { ends = replicate (frame_size box_plan.levers) NormalEnd; bridles = compiled 1 box_plan.rows }
     → AreLeverPlans box_plan (frame_size box_plan.levers) levers
@@ -81,6 +85,7 @@ pub plan_is : (box_plan : BoxFields) (frame : LeverFrameFields) (lever : ℕ) �
     → IsLever (length frame.ends) lever → plan_at frame.levers lever ≡ lever_plan_of box_plan lever
 plan_is box_plan frame lever is own = is.each lever (subst (λ (n : ℕ). IsLever n lever) is.size own)
 
+-- the frame of a box answers a pull by the box's plan of the lever and its table
 pub pull_by_plan : (box_plan : BoxFields) (frame : LeverFrameFields) (lever : ℕ) (tracks : List (Option ℕ))
     → IsFrameOf box_plan frame → IsLever (length frame.ends) lever
     → pull_reply frame lever tracks ≡ pull_answer (lever_plan_of box_plan lever) box_plan.rows frame.ends lever tracks
@@ -88,6 +93,7 @@ pull_by_plan box_plan frame lever tracks is own =
     ap (λ (plan : LeverPlan). pull_answer plan frame.rows frame.ends lever tracks) (plan_is box_plan frame lever is own)
     ∙ ap (λ (rows : List Row). pull_answer (lever_plan_of box_plan lever) rows frame.ends lever tracks) is.table
 
+-- the frame of a box answers a lever that is put back by the box's plan of the lever and its table
 pub put_by_plan : (box_plan : BoxFields) (frame : LeverFrameFields) (lever : ℕ) (tracks : List (Option ℕ))
     → IsFrameOf box_plan frame → IsLever (length frame.ends) lever
     → put_reply frame lever tracks ≡ put_answer (lever_plan_of box_plan lever) box_plan.rows frame.ends lever tracks
@@ -95,12 +101,15 @@ put_by_plan box_plan frame lever tracks is own =
     ap (λ (plan : LeverPlan). put_answer plan frame.rows frame.ends lever tracks) (plan_is box_plan frame lever is own)
     ∙ ap (λ (rows : List Row). put_answer (lever_plan_of box_plan lever) rows frame.ends lever tracks) is.table
 
+-- a pull sets the lever's arm off where the box's plan gives the lever one
 pub arm_by_plan : (box_plan : BoxFields) (frame : LeverFrameFields) (lever : ℕ) → IsFrameOf box_plan frame
     → IsLever (length frame.ends) lever
     → (pulled frame lever).off ≡ arm_pulled (lever_plan_of box_plan lever).arm frame.off lever
 arm_by_plan box_plan frame lever is own =
     ap (λ (plan : LeverPlan). arm_pulled plan.arm frame.off lever) (plan_is box_plan frame lever is own)
 
+-- where the track circuits have every place that locks a lever in the box's plan, they have every place that locks
+-- it in the frame
 pub places_by_plan : (box_plan : BoxFields) (frame : LeverFrameFields) (lever : ℕ) (tracks : List (Option ℕ))
     → IsFrameOf box_plan frame → IsLever (length frame.ends) lever
     → All (λ place. place < length tracks) (track_of box_plan lever) → HasPlacesOf frame lever tracks
@@ -123,6 +132,7 @@ moved_of box_plan Spare after before new old = old
 moved_of box_plan (HeldByLever lever row) after before new old = old
 moved_of box_plan (HeldByTrack place train) after before new old = old
 
+-- the frame of a box is that of the box still once a lever was pulled, or held
 pub pulled_of : (box_plan : BoxFields) (frame : LeverFrameFields) (lever : ℕ) (reply : LeverReply)
     → IsFrameOf box_plan frame → IsFrameOf box_plan (moved_by reply (pulled frame lever) frame)
 pulled_of box_plan frame lever reply is =
@@ -131,6 +141,7 @@ pulled_of box_plan frame lever reply is =
     (arm_pulled (plan_at frame.levers lever).arm frame.off lever) is
     (length-set frame.ends (lever - 1) ReversedEnd)) is
 
+-- the frame of a box is that of the box still once a lever was put back, or held
 pub put_of : (box_plan : BoxFields) (frame : LeverFrameFields) (lever : ℕ) (reply : LeverReply)
     → IsFrameOf box_plan frame → IsFrameOf box_plan (moved_by reply (put_back frame lever) frame)
 put_of box_plan frame lever reply is =
@@ -138,6 +149,7 @@ put_of box_plan frame lever reply is =
     (stays_of box_plan frame (slice_set frame.ends (lever - 1) NormalEnd) (slice_set frame.off (lever - 1) false) is
     (length-set frame.ends (lever - 1) NormalEnd)) is
 
+-- the frame of a box is that of the box still once a train has passed a lever's arm
 pub passed_of : (box_plan : BoxFields) (frame : LeverFrameFields) (lever : ℕ) → IsFrameOf box_plan frame
     → IsFrameOf box_plan (passed frame lever)
 passed_of box_plan frame lever is = stays_of box_plan frame frame.ends (slice_set frame.off (lever - 1) false) is refl

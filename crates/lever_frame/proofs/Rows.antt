@@ -40,9 +40,11 @@ rows_back from (row ∷ rows) =
     ∙ (ap (λ (cs : List Cond). row_with row row.kind cs ∷ rows_of (compiled (from + 1) rows)) (conds_back row.when)
     ∙ ap (λ (rest : List Row). row ∷ rest) (rows_back (from + 1) rows))
 
+-- the rows that are found in the bridles of a table are the table's
 pub rows_are : (bridles : List Bridle) (rows : List Row) → bridles ≡ compiled 1 rows → rows_of bridles ≡ rows
 rows_are bridles rows made = ap (λ (bs : List Bridle). rows_of bs) made ∙ rows_back 1 rows
 
+-- bridles that are compiled of rows are compiled of the rows that are found in them
 pub made_of : (bridles : List Bridle) (rows : List Row) → bridles ≡ compiled 1 rows
     → bridles ≡ compiled 1 (rows_of bridles)
 made_of bridles rows made = made ∙ ap (compiled 1) (sym (rows_are bridles rows made))

@@ -347,7 +347,8 @@ keepers_next plan lists keepers b are within =
 -- and those of one box more
 pub keepers_more : {plan : PlanFields} {lists : List (List Entry)} {n : ℕ} {keepers behind : List (List Keeper)}
     {entries : List Entry} {more : List (List Keeper)} → AreKeepersBelow plan lists n keepers
-    → entries ≡ list_at lists n → AreKeepersFrom plan entries 0 behind → more ≡ keepers ++ behind → AreKeepersBelow plan lists (n + 1) more
+    → entries ≡ list_at lists n → AreKeepersFrom plan entries 0 behind → more ≡ keepers ++ behind
+    → AreKeepersBelow plan lists (n + 1) more
 keepers_more {plan} {lists} {n} {keepers} {behind} {entries} {more} below own from is =
     record {
       each = ap (λ (ks : List (List Keeper)). length ks) is ∙ length-append keepers behind

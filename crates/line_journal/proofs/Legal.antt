@@ -33,6 +33,7 @@ told_on plan e here pair = step_at plan (box_plan_of plan e.box_no) e.call here 
 abbrev pub told_in : PlanFields → LineState → Entry → Told PairState
 told_in plan state e = told_on plan e (box_at state e.box_no) (pair_at state (pair_for plan e))
 
+-- the reply of the law's step is what the entry's box and its pair tell
 pub step_reply : (plan : PlanFields) (state : LineState) (e : Entry)
     → (step plan state e.box_no e.call).reply ≡ (told_in plan state e).reply
 unfolding step

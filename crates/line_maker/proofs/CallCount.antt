@@ -35,6 +35,7 @@ calls_counted (suc n) =
     let one = for_one (runs_down (suc n)) (suc n) (train_moment (suc n)) in
     omega (arith, one_more Ash n, one_more Beech n, one_more Cedar n, calls_counted n, one)
 
+-- the scripts of the made line have 60 calls for each of its trains
 pub scripts_counted : (n : ℕ) → sum_by (λ script. length script.calls) (made_scripts n) ≡ 60 * n
 unfolding made_scripts
 scripts_counted n = omega (arith, calls_counted n)

@@ -340,6 +340,7 @@ pub own_box : (plan : PlanFields) (scripts : List Script) (b : ℕ) (script : Sc
 own_box plan scripts b script are l e = let is =
     is_own plan scripts b script are l e in omega (arith, is.box, l, are.each)
 
+-- a script of the line is one of the box that it names, which may make its calls
 pub own_calls : (plan : PlanFields) (scripts : List Script) (b : ℕ) (script : Script) → AreLineScripts plan scripts
     → b < length scripts → script ≡ get_or scripts b script → IsScriptOf plan script.box_no script
 own_calls plan scripts b script are l e = let is =

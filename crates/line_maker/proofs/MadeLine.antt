@@ -37,6 +37,7 @@ berth_at place home clear = record { place = place; homes = home ∷ []; clearin
 abbrev locks_points : ℕ → Row
 locks_points lever = record { subject = lever; kind = LocksNormal; object = 5; when = [] }
 
+-- box Ash, the first: signal levers 2 to 4, points 5, and a berth for the up line
 unfoldable pub ash : BoxFields
 ash = record {
   name = codes "Ash";
@@ -49,6 +50,7 @@ ash = record {
   rows = locks_points 2 ∷ locks_points 3 ∷ [];
 }
 
+-- box Beech, the middle one: signal levers 1 to 4, points 5, and a berth for each line
 unfoldable pub beech : BoxFields
 beech = record {
   name = codes "Beech";
@@ -62,6 +64,7 @@ beech = record {
   rows = locks_points 1 ∷ locks_points 3 ∷ [];
 }
 
+-- box Cedar, the last: signal levers 1, 2 and 4, points 5, and a berth for the down line
 unfoldable pub cedar : BoxFields
 cedar = record {
   name = codes "Cedar";
@@ -102,6 +105,7 @@ name_of i = codes "t" ++ decimal i
 abbrev pub brought_at : ℕ → ℕ
 brought_at i = if runs_down i then 0 else 2
 
+-- train i with its name and class, and the box and place where it is brought
 abbrev pub made_train : ℕ → TrainPlan
 made_train i = record { name = name_of i; class_no = class_of i; box_no = brought_at i; place = brought_at i }
 
@@ -110,6 +114,7 @@ unfoldable pub made_trains : ℕ → List TrainPlan
 made_trains zero = []
 made_trains (suc n) = made_trains n ++ made_train (suc n) ∷ []
 
+-- the three boxes of the made line
 abbrev pub made_boxes : List BoxFields
 made_boxes = ash ∷ beech ∷ cedar ∷ []
 

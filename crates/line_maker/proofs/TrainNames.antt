@@ -68,6 +68,7 @@ name_new j (suc n) h small =
     name_new j n (omega arith) small in
     rw (map-append, list_any-append, before, own_name) refl
 
+-- trains 1 to n are n trains
 pub trains_count : (n : ℕ) → length (made_trains n) ≡ n
 unfolding made_trains
 trains_count zero = refl

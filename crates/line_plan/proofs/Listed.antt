@@ -9,6 +9,7 @@ use Rattle.rail_text.proofs.PrintedLines.{both}
 use Rattle.line_plan.specs.declared.frame.Lever.{Lever}
 use Rattle.line_plan.specs.Frames.{are_rising, last_number}
 
+-- an item of a mapped list passes a test exactly where what some item is mapped to does
 pub any_map : {A B : Type 0} (p : B → Bool) (f : A → B) (xs : List A)
     → list_any p (map f xs) ≡ list_any (λ x. p (f x)) xs
 any_map p f [] = refl
@@ -26,6 +27,7 @@ less_more : (b : Bool) (n m : ℕ) (c : Bool) → ltb n m ≡ c → ltb (cond (n
 less_more true n m c e = grind (arith, nat_tests)
 less_more false n m c e = let same : ltb (1 + n) (1 + m) ≡ ltb n m = grind (arith, nat_tests) in same ∙ e
 
+-- the place that is found lies within a list exactly where an item of it passes the test
 pub position_less : {A : Type 0} (p : A → Bool) (xs : List A) → ltb (position_or_len p xs) (length xs) ≡ list_any p xs
 position_less p [] = refl
 position_less p (x ∷ xs) =
@@ -58,6 +60,7 @@ pub absent_map : {A : Type 0} (f : A → ℕ) (n : ℕ) (xs : List A) → is_som
     → list_any (λ k. eqb k n) (map f xs) ≡ false
 absent_map f n xs e = any_map (λ k. eqb k n) f xs ∙ sym (found_any (λ x. eqb (f x) n) xs) ∙ e
 
+-- where no item of a list has a number, it isn't among the numbers of the items
 pub absent_any : {A : Type 0} (f : A → ℕ) (n : ℕ) (xs : List A) → list_any (λ x. eqb (f x) n) xs ≡ false
     → list_any (λ k. eqb k n) (map f xs) ≡ false
 absent_any f n xs e = any_map (λ k. eqb k n) f xs ∙ e

@@ -6,6 +6,7 @@ use Rattle.std.proofs.lemmas.Option.{unwrap_or-slice_get}
 use Rattle.line_plan.specs.Frames.{BoxFields}
 use Rattle.line_plan.specs.Plans.{names_of}
 
+-- the name at a box's number is that box's name
 pub name_at : (boxes : List BoxFields) (b : ℕ) (d : BoxFields) → b < length boxes
     → get_or (names_of boxes) b [] ≡ (get_or boxes b d).name
 name_at [] b d lt = absurd (omega arith)

@@ -22,10 +22,12 @@ pub record IsAboveIt (plan : PlanFields) (b : ℕ) (x : Entry) : Type 0 where
   pub side : is_above plan x ≡ true
   pub box : b ≡ x.box_no + 1
 
+-- the box b is at the other end of the word of x: the next below
 pub record IsBelowIt (plan : PlanFields) (b : ℕ) (x : Entry) : Type 0 where
   pub side : is_above plan x ≡ false
   pub box : b + 1 ≡ x.box_no
 
+-- the box at the other end of an entry's word is the next above its box or the next below
 pub side_of : (plan : PlanFields) (b : ℕ) (x : Entry) → b ≡ other_end plan x → IsAboveIt plan b x ⊎ IsBelowIt plan b x
 side_of plan b x end =
     ⊎_elim (λ (same : pair_for plan x ≡ x.box_no).
@@ -49,6 +51,7 @@ mark_side plan left sought e x finds = side_of plan e.box_no x (at_other_end pla
 pub directly_earlier : (plan : PlanFields) (es : List Entry) (i j : ℕ) → IsDirectlyBefore plan es i j → i < j
 directly_earlier plan es i j before = ⊎_elim (λ r. r.earlier) (λ r. r.earlier) before
 
+-- an entry that comes before another stands earlier in the journal
 pub comes_earlier : (plan : PlanFields) (es : List Entry) (i j : ℕ) → ComesBefore plan es i j → i < j
 comes_earlier plan es i j (Directly before) = directly_earlier plan es i j before
 comes_earlier plan es i j (Later {k} first before) =

@@ -79,6 +79,8 @@ cleared_by t j (SectionFull k) kept =
     record { mark = FullUntil (k - 4); left = refl; keeps = ap (λ (i : ℕ). Some (FullUntil i)) same }
 cleared_by t j r kept = absurd cc
 
+-- where two entries fit a word from its two ends, and the first is kept back by the second, the mark of the second
+-- is the one that can't come behind the first
 pub is_kept_by : (q r : Reply) (a c : Act) (way : Way) (p : PairState) → kept_back q r ≡ true
     → FitsWord (kind_told r) way a r p → FitsWord (kind_told q) way c q p → IsKeptBy q r
 is_kept_by (Rung k) r a c way p kept f g = rung_by k r kept

@@ -52,6 +52,7 @@ abbrev pub IsOfKind : Option Mark → Kind → Type 0
 IsOfKind None kind = Unit {0}
 IsOfKind (Some mark) kind = kind ≡ word_kind mark
 
+-- the mark that an entry leaves is on a word of the kind of which its reply tells
 pub left_kind : (r : Reply) → IsOfKind (mark_left r) (kind_told r)
 left_kind (Rung k) = refl
 left_kind (BellBusy code k) = refl
@@ -71,6 +72,7 @@ left_kind (Berthed train j) = refl
 left_kind (Cleared train j) = refl
 left_kind r = tt
 
+-- the mark that makes an entry possible is on a word of the kind of which its reply tells
 pub maker_kind : (r : Reply) → IsOfKind (made_by r) (kind_told r)
 maker_kind (Heard code k) = refl
 maker_kind (Rung k) = refl
@@ -83,6 +85,7 @@ maker_kind (Cleared train j) = refl
 maker_kind (Entered train k) = refl
 maker_kind r = tt
 
+-- the mark that can't come behind an entry is on a word of the kind of which its reply tells
 pub keeper_kind : (r : Reply) → IsOfKind (kept_by r) (kind_told r)
 keeper_kind (Rung k) = refl
 keeper_kind (Heard code k) = refl
@@ -95,6 +98,7 @@ keeper_kind (Berthed train j) = refl
 keeper_kind (Cleared train j) = refl
 keeper_kind r = tt
 
+-- the mark of a turn that ends a position is on a word of the kind of which its reply tells
 pub ended_kind : (position : Position) (r : Reply) → IsOfKind (mark_ended position r) (kind_told r)
 ended_kind position (Turned v) = refl
 ended_kind position r = tt
@@ -103,6 +107,7 @@ awaited_kind : (act : Act) → IsOfKind (mark_awaited act) BlockWord
 awaited_kind (AwaitBlock way position) = refl
 awaited_kind act = tt
 
+-- the mark of a turn that ends the position which an await saw is on a word of the kind of which its reply tells
 pub missed_kind : (act : Act) (r : Reply) → IsOfKind (mark_missed act r) (kind_told r)
 missed_kind act (Seen v) = awaited_kind act
 missed_kind act r = tt
@@ -222,6 +227,8 @@ pub record AreOfKey (plan : PlanFields) (e x : Entry) (mark sought : Mark) : Typ
   pub word : on_one_word plan e x ≡ true
   pub same : mark ≡ sought
 
+-- where the key of a mark that one entry leaves is that of a mark sought from the other end of another's word, the
+-- entries are of two boxes and on one word, and the marks are one
 pub of_key : (plan : PlanFields) (e x : Entry) (mark sought : Mark) → kind_told e.reply ≡ word_kind mark
     → kind_told x.reply ≡ word_kind sought
     → same_key (key_at plan e.box_no e mark) (key_at plan (other_end plan x) x sought) ≡ true

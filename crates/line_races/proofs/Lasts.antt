@@ -70,16 +70,19 @@ abbrev pub IsReached : ℕ → Option ℕ → Type 0
 IsReached i None = ⊥
 IsReached i (Some k) = i ≤ k
 
+-- the later of two positions reaches as far as the first
 pub reached_left : (i : ℕ) (a b : Option ℕ) → IsReached i a → IsReached i (later_of a b)
 reached_left i None b r = absurd r
 reached_left i (Some k) None r = r
 reached_left i (Some k) (Some n) r = omega arith
 
+-- the later of two positions reaches as far as the second
 pub reached_right : (i : ℕ) (a b : Option ℕ) → IsReached i b → IsReached i (later_of a b)
 reached_right i None b r = r
 reached_right i (Some k) None r = absurd r
 reached_right i (Some k) (Some n) r = omega arith
 
+-- as far as the later of two positions reaches, one of the two does
 pub reached_by : (i : ℕ) (a b : Option ℕ) → IsReached i (later_of a b) → IsReached i a ⊎ IsReached i b
 reached_by i None b r = inr r
 reached_by i (Some k) None r = inl r

@@ -46,6 +46,8 @@ nothing_known_of known n b true above below =
 nothing_known_of known n b false above below =
     ap (λ (xs : List (Option ℕ)). slice_index_or xs b None) below ∙ read_replicate n b None
 
+-- with no marks, all instruments at Normal and no man knowing of his neighbours, that is kept which is to be kept
+-- of no entries
 pub nothing_scanned : (plan : PlanFields) (es : List Entry) (scan : Scan)
     → ((q : Key) → position_at scan.marks.positions q ≡ None) → ((q : Key) → position_at scan.turns.positions q ≡ None)
     → scan.shown.instruments.items ≡ replicate (length plan.boxes) both_normal

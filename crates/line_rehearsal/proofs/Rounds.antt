@@ -29,6 +29,7 @@ pub record IsRound (plan : PlanFields) (scripts : List Script) (until : Until) (
   pub search : first_free plan plain.line 0 (left_of (calls_of_scripts scripts) made)
       ≡ free_from plan plain.line (left_of (calls_of_scripts scripts) made) from
 
+-- a rehearsal begins with no call made, on a line that opens, and from the lowest box
 pub round_begins : (plan : PlanFields) (scripts : List Script) (until : Until) (made : List ℕ) (plain : PlainState)
     (es : List Entry) → IsUnderWay plan scripts made plain → plain ≡ opened plan
     → made ≡ replicate (length scripts) 0 → es ≡ [] → IsRound plan scripts until made plain es 0
@@ -51,6 +52,7 @@ more_so_far plan scripts until made after old new es more e from h m is =
     so_far_more plan (calls_of_scripts scripts) made after old.line new.line es more e h.so_far m
     (omega (arith, there, h.way.counts)) is
 
+-- a box's call that doesn't end the rehearsal makes it one entry longer; the search starts again at the box below
 pub round_more : (plan : PlanFields) (scripts : List Script) (until : Until) (made after : List ℕ)
     (old new : PlainState) (es more : List Entry) (e : Entry) (from next b : ℕ)
     → IsRound plan scripts until made old es from
@@ -96,6 +98,7 @@ round_ended plan scripts until made after old new es more e from is own h m all 
     over_ended plan (calls_of_scripts scripts) until after new.line es more e is (scripts_are plan scripts own)
     (more_so_far plan scripts until made after old new es more e from h m all) h.kept all ends
 
+-- the next entry leads the line to the state that the entries with it come to
 pub round_reached : (plan : PlanFields) (scripts : List Script) (until : Until) (made after : List ℕ)
     (old new : PlainState) (es more : List Entry) (e : Entry) (from : ℕ)
     → IsRound plan scripts until made old es from

@@ -53,6 +53,7 @@ so_far_none plan scripts n =
       turns = tt;
     }
 
+-- a rehearsal begins with no call made and no entry, on a line that opens
 pub so_far_begins : (plan : PlanFields) (scripts : List (List Call)) (n : ℕ) (made : List ℕ) (plain : PlainState)
     (es : List Entry) → made ≡ replicate n 0 → plain ≡ opened plan → es ≡ []
     → IsSoFar plan scripts made plain.line es
@@ -98,6 +99,7 @@ made_more made es e b within h = elim (eqb_tells e.box_no b) [
       rw (part_more b es e, differ.0, get_or-set_other made e.box_no b _ 0 other) (omega arith)
 ]
 
+-- a rehearsal has come one entry further with the next entry of the serial order
 pub so_far_more : (plan : PlanFields) (scripts : List (List Call)) (made after : List ℕ) (old new : LineState)
     (es more : List Entry) (e : Entry) → IsSoFar plan scripts made old es → MakesNext plan scripts made old e after new
     → e.box_no < length made → more ≡ es ++ e ∷ [] → IsSoFar plan scripts after new more

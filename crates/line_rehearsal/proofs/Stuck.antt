@@ -104,6 +104,7 @@ next_stopped plan state b (first ∷ calls) call s e =
     let same : first ≡ call = cc in
     subst (λ (c : Call). IsTrue (is_not_yet (step plan state b c).reply)) same s
 
+-- where every box is stopped, the boxes' next calls are awaits in vain, however often they are made
 pub in_vain : (plan : PlanFields) (state : LineState) (left : List (List Call)) (es : List Entry)
     → AreStopped plan state left → AreNextCalls left es → IsLegalFrom plan state es → AreInVain plan state left es
 in_vain plan state left [] s n l =
@@ -161,6 +162,7 @@ all_left_still plan state left (e ∷ es) shape h n =
     (All-head (λ (d : Entry). head_of (calls_left left d.box_no) ≡ Some d.call) e es n))
     (All-tail (λ (d : Entry). head_of (calls_left left d.box_no) ≡ Some d.call) e es n)
 
+-- after next calls of boxes, in any number, a box may still make its next call
 pub again : (plan : PlanFields) (state : LineState) (left : List (List Call)) (es : List Entry) (b : ℕ) (call : Call)
     → IsStateOf plan state → AreLeft plan state left → AreNextCalls left es
     → head_of (calls_left left b) ≡ Some call → MayCall plan (state_after plan state es) b call

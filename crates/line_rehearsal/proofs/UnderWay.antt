@@ -43,6 +43,7 @@ none_made plan scripts plain is own line as_opened =
       few = rw first (omega (arith, few, begun));
     }
 
+-- a line that opens, with no call made, may be worked by its scripts
 pub way_opens : (plan : PlanFields) (scripts : List Script) (made : List ℕ) (plain : PlainState) → IsPlan plan
     → AreScriptsOf plan scripts → IsLineOf plan plain → plain ≡ opened plan → made ≡ replicate (length scripts) 0
     → IsUnderWay plan scripts made plain
@@ -52,6 +53,7 @@ way_opens plan scripts made plain is own line as_opened none =
 
 -- ---- after each call
 
+-- a line that is worked by its scripts is so after a box's next call too
 pub way_goes_on : (plan : PlanFields) (scripts : List Script) (made after : List ℕ) (old new : PlainState) (b : ℕ)
     (call : Call) (reply : Reply) → IsUnderWay plan scripts made old
     → TakesCall (left_of (calls_of_scripts scripts) made) (left_of (calls_of_scripts scripts) after) b call
@@ -71,6 +73,7 @@ way_goes_on plan scripts made after old new b call reply h takes told line calls
       few = omega (arith, fewer, h.few, calls);
     }
 
+-- the answered call of the lowest box that may go on is the next entry of the serial order
 pub makes_next : (plan : PlanFields) (scripts : List (List Call)) (made after : List ℕ) (old new : LineState) (b : ℕ)
     (call : Call) (reply : Reply) → first_free plan old 0 (left_of scripts made) ≡ Some b
     → TakesCall (left_of scripts made) (left_of scripts after) b call
@@ -95,6 +98,7 @@ goes_on_there plan scripts made state b free =
     let there = box_there plan state left b (is_next plan state left b free) in
     omega (arith, there, roster-length scripts made)
 
+-- the lowest box that may go on has a call left
 pub has_call_left : (plan : PlanFields) (scripts : List Script) (made : List ℕ) (state : LineState) (b : ℕ)
     → first_free plan state 0 (left_of (calls_of_scripts scripts) made) ≡ Some b
     → 0 < length (calls_left (left_of (calls_of_scripts scripts) made) b)

@@ -306,8 +306,8 @@ fn put_pairs(out: &mut String, plan: &Plan, trains: &[ByWay<HeldTrains>]) -> Res
 }
 
 /// Puts the lines of all sections behind a text: for each pair of neighbours in order that of the down line, and then
-/// that of the up line, each with the most trains that were counted of the section. Where memory runs out the text is as
-/// it was.
+/// that of the up line, each with the most trains that were counted of the section. Where memory runs out the text is
+/// as it was.
 #[tactic(auto, using(crate::proofs::PairTexts::all_pairs))]
 pub fn put_sections(
     out: &mut String,

@@ -2,6 +2,7 @@
 use Rattle.std.proofs.Common.{◌≡◌, Result, Ok, Err, IfOk}
 use Rattle.std.proofs.lemmas.Result.{IfOk-at_ok}
 
+-- where each of two things that were made meets its own, both do together
 pub both_hold : {E A B : Type 0} (first : Result A E) (second : Result B E) (result : Result (A × B) E)
     (P : A → Type 0) (Q : B → Type 0) → IfOk result (λ both. (first ≡ Ok both.0) × (second ≡ Ok both.1)) → IfOk first P
     → IfOk second Q → IfOk result (λ both. P both.0 × Q both.1)

@@ -263,6 +263,7 @@ pub box_ahead : {plan : PlanFields} {ahead rest : List Entry} {e : Entry} {lines
 box_ahead {plan} {ahead} {rest} {e} {lines} spelled left next =
     omega (arith, (spelled_ahead spelled next).0.box, left.each)
 
+-- of the lines that are left, the next in the register of its box tells of the first entry ahead
 pub told_ahead : {plan : PlanFields} {ahead rest : List Entry} {e : Entry} {lines : List (List ℕ)} (other : List ℕ)
     {told : List ℕ} → IsPlan plan → All (IsSpelled plan) ahead → AreLinesLeft plan ahead lines → ahead ≡ e ∷ rest
     → told ≡ told_in (get_or lines e.box_no other) → told ≡ told_text plan e
@@ -273,6 +274,8 @@ told_ahead {plan} {ahead} {rest} {e} {lines} other {told} is spelled left next t
     read_any lines e.box_no other [] (omega (arith, can.box, left.each)) in
     told_is ∙ (ap (λ (t : List ℕ). told_in t) read ∙ told_next plan e rest lines is can here)
 
+-- behind the next line of the register of the first entry ahead, the lines that are left are those of the other
+-- entries
 pub left_ahead : {plan : PlanFields} {ahead rest : List Entry} {e : Entry} {lines : List (List ℕ)} (other : List ℕ)
     {behind : List ℕ} → IsPlan plan → All (IsSpelled plan) ahead → AreLinesLeft plan ahead lines
     → ahead ≡ e ∷ rest → behind ≡ behind_line (get_or lines e.box_no other)

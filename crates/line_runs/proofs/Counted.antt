@@ -68,6 +68,7 @@ refused_few es =
       length-filter_both (λ (e : Entry). is_refused e.reply) (λ (e : Entry). not (is_refused e.reply)) (λ _. refl) es,
     )
 
+-- the refused replies that are counted along a journal of few entries stay below 2^64 with the next one
 pub counted_fits : {plan : PlanFields} {es ahead rest : List Entry} {e : Entry} {refused one : ℕ}
     {trains : List (ByWay HeldTrains)} → ahead ≡ e ∷ rest → AreFewEntries es
     → one ≡ bool_byte (is_refused e.reply) → AreCountedTo plan es ahead refused trains

@@ -16,6 +16,7 @@ use Rattle.line_runs.specs.Watched.{AreRoundsOf, IsFilled}
 abbrev blank_board : PlanFields → ℕ → BoardFields
 blank_board plan n = record { boxes = length plan.boxes; left = n; rounds = [] }
 
+-- the rounds of a board that was blank are those that were put on it
 pub all_rounds : (plan : PlanFields) (old new : BoardFields) (rounds : List (List Sight))
     → old ≡ blank_board plan old.left → new ≡ record { boxes = old.boxes; left = 0; rounds = old.rounds ++ rounds }
     → new.rounds ≡ rounds
@@ -23,6 +24,7 @@ all_rounds plan old new rounds blank e =
     ap (λ (b : BoardFields). b.rounds) e
     ∙ ap (λ (before : List (List Sight)). before ++ rounds) (ap (λ (b : BoardFields). b.rounds) blank)
 
+-- a blank board is filled once as many rounds are put on it as it had left
 pub all_filled : (plan : PlanFields) (old new : BoardFields) (rounds : List (List Sight))
     → old ≡ blank_board plan old.left → new ≡ record { boxes = old.boxes; left = 0; rounds = old.rounds ++ rounds }
     → length rounds ≡ old.left → IsFilled plan old.left new
@@ -32,6 +34,7 @@ all_filled plan old new rounds blank e count = record {
   rounds = ap (λ (rs : List (List Sight)). length rs) (all_rounds plan old new rounds blank e) ∙ count;
 }
 
+-- the rounds that were filled while men worked are a board of each legal history whose parts their registers are
 pub rounds_shown : (table_id : TableId) (plan key : PlanFields) (men written : List Man)
     (rounds all : List (List Sight)) (log : List Entry) (registers : List RegisterFields) → IsPlan plan → key ≡ plan
     → written ≡ men → all ≡ rounds → AreMen table_id key written → IsWatched key men rounds log

@@ -4,6 +4,7 @@ use Rattle.line_plan.specs.Plans.{PlanFields}
 use Rattle.line_law.specs.declared.call.Entry.{Entry}
 use Rattle.line_report.specs.Refusals.{refused_entries, refused_entry}
 
+-- the refused entries of two parts of a journal are those of the first, and then those of the second, numbered on
 pub refused_entries-append : (plan : PlanFields) (number : ℕ) (es fs : List Entry)
     → refused_entries plan number (es ++ fs)
     ≡ refused_entries plan number es ++ refused_entries plan (number + length es) fs

@@ -63,6 +63,7 @@ calls_past : (scripts : List Script) (b : ℕ) → length scripts ≤ b → call
 calls_past scripts b ge = get_or_past (calls_of_scripts scripts) b []
     (omega (arith, length-map scripts (λ (script : Script). script.calls)))
 
+-- no script of a line has more than 10000 calls
 pub lengths_few : (plan : PlanFields) (scripts : List Script) → AreScriptsOf plan scripts
     → All (λ n. n ≤ 10000) (lengths_of scripts)
 lengths_few plan scripts own = All-map (λ (n : ℕ). n ≤ 10000) (λ (script : Script). length script.calls) scripts
@@ -227,6 +228,8 @@ pub record AreDone (table_id : TableId) (plan key : PlanFields) (scripts : List 
   pub back : written ≡ after
   pub are : AreMen table_id key written
 
+-- where each man of a line that opened has worked his script, they all have, and are men of that line when they are
+-- written back
 pub men_done : (table_id : TableId) (plan key : PlanFields) (scripts : List Script) (looks n : ℕ)
     (before lent after : List Man) → key ≡ plan → lent ≡ before → n ≡ length lent → AreScriptsOf plan scripts
     → AreFresh table_id plan (lengths_of scripts) before → length after ≡ length lent
@@ -259,6 +262,8 @@ of_men table_id plan key scripts looks before after written registers of same fr
       (subst (λ (p : PlanFields). Closed p written registers) of closed);
 }
 
+-- once all men have worked and the line is closed, its registers are the parts of one legal history with exactly
+-- the scripts' calls
 pub done_worked : (table_id : TableId) (plan key : PlanFields) (scripts : List Script) (looks : ℕ)
     (before after written : List Man) (registers : List RegisterFields) → IsPlan plan → key ≡ plan
     → AreScriptsOf plan scripts → AreFresh table_id plan (lengths_of scripts) before
@@ -271,6 +276,8 @@ done_worked table_id plan key scripts looks before after written registers is of
 
 -- ---- on one thread
 
+-- the parts of the journal that scripts make one call at a time are those of one legal history with exactly the
+-- scripts' calls
 pub alone_worked : (plan : PlanFields) (scripts : List Script) (es : List Entry) (registers : List RegisterFields)
     → IsPlan plan → AreScriptsOf plan scripts → es ≡ serial_journal plan (calls_of_scripts scripts)
     → AreParts plan es registers → AreWorked plan scripts registers

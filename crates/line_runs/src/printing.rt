@@ -154,8 +154,8 @@ fn print_heading(alloc: Global, plan: &Plan) -> Result<Vec<u8>, AllocError>
     Ok(text.into_bytes())
 }
 
-// The journal's lines of the entries from one place on up to another, copied from the registers that are printed, behind
-// a text. There is room for so many bytes.
+// The journal's lines of the entries from one place on up to another, copied from the registers that are printed,
+// behind a text. There is room for so many bytes.
 fn copy_part(
     alloc: Global,
     plan: &Plan,

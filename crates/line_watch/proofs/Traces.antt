@@ -120,6 +120,7 @@ kind_back BlockWord Down Down act reply pair shown k same fits e = shown_back ac
 
 -- ---- in a line
 
+-- the instrument of a pair and a way, in a state of the line
 abbrev pub block_in : LineState → ℕ → Way → Block
 block_in state q w = of_way (pair_at state q).blocks w
 

@@ -8,6 +8,7 @@ use Rattle.script_text.specs.declared.script.Script.{Script}
 use Rattle.signalman_seats.specs.Men.{IsFresh, Man}
 use Rattle.line_working.specs.Working.{CanWork}
 
+-- a man of a line that opens may work the script of his box, where he has room for its calls
 pub fresh_works : (table_id : TableId) (plan : PlanFields) (b room : ℕ) (script : Script) (man : Man)
     → IsFresh table_id plan b room man → IsScriptOf plan b script → length script.calls ≤ room
     → CanWork table_id plan script man

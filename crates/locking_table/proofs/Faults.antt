@@ -20,6 +20,7 @@ use Rattle.locking_table.proofs.LeverWords.{lever_of-spelled}
 use Rattle.locking_table.proofs.RoundTrip.{at, row_reads}
 use Rattle.locking_table.proofs.Spelling.{end_of_word-spelled, only-spelled}
 
+-- words in a row
 abbrev pub Texts : Type 0
 Texts = List (List ℕ)
 
@@ -130,6 +131,7 @@ step meaning next rest front n e flat reading begins more (word ∷ words) h =
 
 -- ---- steps in a row are steps one after another
 
+-- three steps of reading, one after another, come to the same whichever two are taken together
 pub twice : {A B C : Type 0} (r : Result A RowFault) (f : A → Result B RowFault) (g : B → Result C RowFault)
     → ((r >>= f) >>= g) ≡ (r >>= λ x. f x >>= g)
 twice (Ok x) f g = refl
@@ -142,6 +144,7 @@ thrice (Err e) f g h = refl
 
 -- ---- a condition
 
+-- where words begin a row's text, so do the first of them
 pub begins_with : (front more words : Texts) → BeginsRow words → words ≡ front ++ more → BeginsRow front
 begins_with front more words b same = record {
   row = b.row;
@@ -202,6 +205,8 @@ same_front : (rest : ℕ → Texts → Result Row RowFault) (n : ℕ) (front oth
     → Reading rest front n → Reading rest other n
 same_front rest n front other same reading = subst (λ (ws : Texts). Reading rest ws n) same reading
 
+-- where reading fails in a condition, or behind it, the error names the word at which the words leave the grammar,
+-- if it does so behind each condition that is read
 pub cond_stops : (joint : List ℕ) (next : Cond × Left → Result Row RowFault) (front : Texts) (n : ℕ) (e : RowFault)
     → n ≡ length front + 1
     → ((c : Cond) → CondFits 120 c → BeginsRow (front ++ cond_words joint c))

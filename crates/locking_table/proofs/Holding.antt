@@ -21,10 +21,12 @@ one a b h k = rw (h, k) refl
 not_both : (a b : Bool) → (a && b) ≡ false → ¬ (IsTrue a × IsTrue b)
 not_both a b h p = let e = one a b p.0 p.1 in cc
 
+-- a lever may move where there are no rows
 pub may_move_none : (ends : List End) (lever : ℕ) → MayMove ends lever []
 may_move_none ends lever =
     record { mid = All-nil (RowHolds (stand_of ends lever AtMid)); new = All-nil (RowHolds (moved_from ends lever)) }
 
+-- a lever that may move under some rows may move under one more that lets it
 pub may_move_more : (ends : List End) (lever : ℕ) (row : Row) (rows : List Row) → row_allows ends lever row ≡ true
     → MayMove ends lever rows → MayMove ends lever (row ∷ rows)
 may_move_more ends lever row rows h may =
@@ -64,6 +66,7 @@ free_from ends lever from (row ∷ rows) may =
           All-tail (RowHolds (moved_from ends lever)) row rows may.new;
     }))
 
+-- nothing holds a lever exactly where it may move
 pub held_by_none : (ends : List End) (lever : ℕ) (rows : List Row)
     → (holder_of ends lever rows ≡ None) ↔ MayMove ends lever rows
 held_by_none ends lever rows = (free_to ends lever 1 rows, free_from ends lever 1 rows)
@@ -119,6 +122,7 @@ first_from ends lever from (row ∷ rows) holder h =
     first_step ends lever from row rows holder (row_allows ends lever row) refl
     (first_from ends lever (from + 1) rows holder) h
 
+-- what holds a lever is the first row that fails as it moves
 pub held_by_first : (ends : List End) (lever : ℕ) (rows : List Row) (holder : Holder)
     → holder_of ends lever rows ≡ Some holder → IsFirstToFail ends lever rows holder
 held_by_first ends lever rows holder h =

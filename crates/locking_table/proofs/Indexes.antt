@@ -215,6 +215,7 @@ uses_within rows rs uses us lever numbers index same alike read =
     ∙ (ap (λ (l : List (List ℕ)). slice_index_or l lever []) alike ∙ index lever) in
     rw (named, same) (within lever rows)
 
+-- where all rows hold, the rows that the index gives for a lever tell what of the whole table holds it
 pub uses_tell : (ends : List End) (rows rs : List Row) (uses us : List (List ℕ)) (lever : ℕ) (numbers : List ℕ)
     → IsIndex rows uses → rs ≡ rows → us ≡ uses → numbers ≡ slice_index_or us lever []
     → All (RowHolds (at_ends ends)) rows

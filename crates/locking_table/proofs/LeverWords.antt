@@ -16,6 +16,7 @@ abbrev pub read_on : ℕ → List ℕ → ℕ
 read_on n [] = n
 read_on n (c ∷ cs) = read_on (10 * n + (c - 48)) cs
 
+-- digits that are read on from 0 make the number that they spell in decimal
 pub own : IsNumeralModel (λ ds. all_ascii_digits ds ≡ true) (read_on 0)
 own = numerals_by_fold _ (search rules) read_on (search rules)
 
@@ -50,6 +51,7 @@ lever_of-digits (c ∷ cs) d first high =
     ap (λ (o : Option ℕ). lever_on o cs) (with_digit-some 0 c p.0 (omega arith) (omega arith))
     ∙ lever_on-digits (10 * 0 + (c - 48)) cs p.1 (omega arith) high
 
+-- a lever's number, as it is printed, names that lever
 pub lever_of-decimal : (n : ℕ) → IsLever 120 n → lever_of (decimal n) ≡ Some n
 lever_of-decimal n is =
     let value : read_on 0 (decimal n) ≡ n = digits_value-decimal own n (omega arith) in
@@ -119,6 +121,7 @@ lever_of-first : (word : List ℕ) (k : ℕ) → lever_of word ≡ Some k → (0
 lever_of-first [] k e = cc
 lever_of-first (c ∷ cs) k e = (omega arith, first_digit c cs k (with_digit 0 c) refl e)
 
+-- a word that names a lever is the lever's number as it is printed
 pub lever_of-spelled : (word : List ℕ) (n : ℕ) → lever_of word ≡ Some n → IsLever 120 n × (word ≡ decimal n)
 lever_of-spelled word n e =
     let named = named_on 0 word n (omega arith) e in

@@ -20,6 +20,7 @@ use Rattle.locking_table.specs.Words.{Left, words_of}
 use Rattle.locking_table.proofs.LeverWords.{lever_of-decimal}
 use Rattle.locking_table.proofs.WordLemmas.{decimal_no_space, has_no_space, words_of-joined}
 
+-- the words that are left, the first of which has this number
 abbrev pub at : ℕ → List (List ℕ) → Left
 at n words = record { number = n; words = words }
 
@@ -77,6 +78,7 @@ asked_reads LocksNormal object words is = rw (lever_reads 3 object (codes "norma
 asked_reads ReleasedBy object words is = rw (lever_reads 4 object words is) refl
 asked_reads LocksBoth object words is = rw (lever_reads 3 object (codes "both" ∷ codes "ways" ∷ words) is) refl
 
+-- the words of a row of the grammar are read as that row
 pub row_reads : (row : Row) → IsGrammarRow row → row_from (at 1 (row_words row)) ≡ Ok row
 unfolding row_from
 row_reads row is =
@@ -126,11 +128,13 @@ pub words_of-row_text : (row : Row) → RowFits 120 row → words_of (row_text r
 words_of-row_text row fits =
     words_of-joined (decimal row.subject) (kind_words row.kind row.object ++ when_words row.when) (row_plain row fits)
 
+-- the text of a row of the grammar is read as that row
 pub grammar_reads : (row : Row) → IsGrammarRow row → grammar_of (row_text row) ≡ Ok row
 unfolding grammar_of
 grammar_reads row is =
     ap (λ (words : List (List ℕ)). row_from (at 1 words)) (words_of-row_text row is.levers) ∙ row_reads row is
 
+-- the text of a row, whose levers all differ, is read as that row
 pub printed_is_read : (row : Row) → IsRow row → row_of (row_text row) ≡ Ok row
 unfolding row_of
 printed_is_read row is =

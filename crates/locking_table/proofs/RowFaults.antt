@@ -286,6 +286,8 @@ answer_step text number (Err e) is h =
     let same : s.number ≡ number = let a = s.names in cc in
     subst (λ (n : ℕ). StopsAt (words_of text) n) same s.stops
 
+-- where a text is told to be a bad row from a word on, that word is the first with which no row's text goes on, or
+-- one past the last
 pub bad_row : (text : List ℕ) (number : ℕ) → row_of text ≡ Err (faults.BadRow number) → StopsAt (words_of text) number
 unfolding row_of
 bad_row text number h = answer_step text number (grammar_of text) refl h
@@ -315,5 +317,6 @@ twice_read : (text : List ℕ) → row_of text ≡ Err faults.SameLever → Name
 unfolding row_of
 twice_read text h = twice_step text (grammar_of text) refl h
 
+-- a text is refused for the same lever exactly where it is that of a row that names a lever twice
 pub same_lever : (text : List ℕ) → (row_of text ≡ Err faults.SameLever) ↔ NamesTwice text
 same_lever text = (twice_read text, twice_refused text)

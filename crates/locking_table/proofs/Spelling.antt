@@ -39,6 +39,7 @@ two_of true t x y z h = inl (refl, cc)
 two_of false true x y z h = inr (refl, cc)
 two_of false false x y z h = cc
 
+-- a word that is read as an end is the word for that end
 pub end_of_word-spelled : (word : List ℕ) (e : End) → end_of_word word ≡ Some e → word ≡ end_word e
 end_of_word-spelled word e h =
     elim (two_of (bytes_eq word (codes "normal")) (bytes_eq word (codes "reversed")) Normal Reversed e h) [
@@ -46,10 +47,12 @@ end_of_word-spelled word e h =
       | inr p ↦ same_bytes word (codes "reversed") p.0 ∙ ap end_word p.1
     ]
 
+-- the word for a verb
 abbrev pub verb_word : Verb → List ℕ
 verb_word Locks = codes "locks"
 verb_word Released = codes "released"
 
+-- a word that is read as a verb is the word for that verb
 pub verb_of-spelled : (word : List ℕ) (v : Verb) → verb_of word ≡ Some v → word ≡ verb_word v
 verb_of-spelled word v h =
     elim (two_of (bytes_eq word (codes "locks")) (bytes_eq word (codes "released")) Locks Released v h) [
@@ -57,10 +60,12 @@ verb_of-spelled word v h =
       | inr p ↦ same_bytes word (codes "released") p.0 ∙ ap verb_word p.1
     ]
 
+-- the word behind a lever that is locked: in its normal place, or both ways
 abbrev pub bound_word : Bound → List ℕ
 bound_word bounds.Normal = codes "normal"
 bound_word bounds.Both = codes "both"
 
+-- a word that is read as how a lever is locked is the word for that
 pub bound_of-spelled : (word : List ℕ) (b : Bound) → bound_of word ≡ Some b → word ≡ bound_word b
 bound_of-spelled word b h =
     elim (two_of (bytes_eq word (codes "normal")) (bytes_eq word (codes "both")) bounds.Normal bounds.Both b h) [
@@ -72,6 +77,7 @@ only_step : {A : Type 0} (t : Bool) (x y : A) → (if t then Some x else None) �
 only_step true x y h = refl
 only_step false x y h = cc
 
+-- a word that is taken for the one that is wanted is that word
 pub only-spelled : (wanted word : List ℕ) → only wanted word ≡ Some tt → word ≡ wanted
 only-spelled wanted word h = same_bytes word wanted (only_step (bytes_eq word wanted) tt tt h)
 
@@ -334,6 +340,7 @@ pub record SpelledText (text : List ℕ) (row : Row) : Type 0 where
   pub grammar : IsGrammarRow row
   pub text_is : text ≡ row_text row
 
+-- a text that the grammar reads as a row is the row's own, and the row is one of the grammar
 pub grammar_spelled : (text : List ℕ) (row : Row) → grammar_of text ≡ Ok row → SpelledText text row
 unfolding grammar_of
 grammar_spelled text row h =
@@ -345,6 +352,7 @@ checked_step : (row made : Row) (t : Bool) → (if t then Ok row else Err faults
 checked_step row made true h = (refl, cc)
 checked_step row made false h = cc
 
+-- a text that is read as a row is the row's own, and the levers of the row all differ
 pub read_is_spelled : (text : List ℕ) (row : Row) → row_of text ≡ Ok row → IsRow row × (text ≡ row_text row)
 unfolding row_of
 read_is_spelled text row h =
@@ -354,10 +362,12 @@ read_is_spelled text row h =
     subst (λ (r : Row). IsRow r × (text ≡ row_text r)) c.1
     (record { levers = g.grammar.levers; differ = c.0; few = g.grammar.few }, g.text_is)
 
+-- a row that the grammar reads, and whose levers all differ, is one that a table may have
 pub grammar_row : (text : List ℕ) (row : Row) → grammar_of text ≡ Ok row → all_differ (levers_of row) ≡ true → IsRow row
 grammar_row text row h differ =
     let g = grammar_spelled text row h in record { levers = g.grammar.levers; differ = differ; few = g.grammar.few }
 
+-- a text that the grammar reads as a row is the row's own
 pub grammar_text : (text : List ℕ) (row : Row) → grammar_of text ≡ Ok row → text ≡ row_text row
 grammar_text text row h = (grammar_spelled text row h).text_is
 

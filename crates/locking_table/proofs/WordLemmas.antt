@@ -49,6 +49,7 @@ no_word text (Some rest) false e =
 
 -- ---- words and their text
 
+-- there is no space in the word
 abbrev pub has_no_space : List ℕ → Bool
 has_no_space word = list_all (λ b. not (b == 32)) word
 
@@ -107,6 +108,7 @@ joined_step b bs true is ih =
 joined_step b bs false is ih =
     onto_joined b (words_of bs) (cut_of bs).0 (words_after (cut_of bs).1) (words-cut bs) ∙ ap (λ (l : List ℕ). b ∷ l) ih
 
+-- the words of a text, with single spaces between them, are the text
 pub joined-words_of : (text : List ℕ) → joined (words_of text) ≡ text
 joined-words_of [] = refl
 joined-words_of (b ∷ bs) = joined_step b bs (eqb b 32) (λ h. grind (arith, nat_tests)) (joined-words_of bs)
@@ -121,5 +123,6 @@ digits_no_space (c ∷ cs) h =
     let p = both_words (is_ascii_digit c) (all_ascii_digits cs) h in
     let here = digit_no_space c p.0 in let more = digits_no_space cs p.1 in rw (here, more) refl
 
+-- there is no space in a printed number
 pub decimal_no_space : (n : ℕ) → n < 2 ^ 64 → has_no_space (decimal n) ≡ true
 decimal_no_space n small = digits_no_space (decimal n) (digits_decimal own n small)

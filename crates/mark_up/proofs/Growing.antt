@@ -133,6 +133,7 @@ element_behind text text2 said tags tag attributes differ is d =
 pub same : (text text2 : List ℕ) (tags : List Tag) → IsBegun text tags → text2 ≡ text → IsBegun text2 tags
 same text text2 tags is d = moved _ _ _ (sym d) is
 
+-- where the innermost of several elements that stand open ends, the page is begun within those around it
 pub ended : (text text2 : List ℕ) (tags tags2 : List Tag) (tag : Tag) → 1 < length (reverse tags)
     → IsBegun text (reverse tags) → tag ≡ get_or tags (length tags - 1) tag → tags2 ≡ take (length tags - 1) tags
     → text2 ≡ text ++ end_tag tag → IsBegun text2 (reverse tags2)
@@ -144,6 +145,7 @@ ended text text2 tags tags2 tag more is at e d =
     let left : 0 < length (reverse tags2) = omega (arith, more, ap length first) in
     moved _ _ _ (sym d) (element_ends text tag (reverse tags2) left (subst (λ t. IsBegun text t) first is))
 
+-- a page whose root alone stands open is a document once the root ends
 pub finished : (text text2 : List ℕ) (tags : List Tag) (root : Tag) → length (reverse tags) ≡ 1
     → IsBegun text (reverse tags) → root ≡ get_or tags 0 root → text2 ≡ text ++ end_tag root → IsDocument text2
 finished text text2 tags root one is at d =

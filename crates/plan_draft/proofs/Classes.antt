@@ -17,10 +17,12 @@ use Rattle.line_plan.specs.declared.plan.Class.{Class}
 use Rattle.line_plan.specs.Plans.{AreClasses, names_of_classes, have_codes, class_code}
 use Rattle.plan_draft.specs.Drafts.{opening_classes}
 
+-- there are ten opening codes
 pub opening_length : length opening_codes ≡ 10
 unfolding opening_codes
 opening_length = refl
 
+-- the opening codes and classes are the codes and classes of a plan
 pub opening_are : AreClasses opening_codes opening_classes
 unfolding opening_codes
 opening_are = record {
@@ -55,6 +57,7 @@ own_code n i low e = let late : ltb i 4 ≡ false = grind (arith, nat_tests) in 
   same : (k : ℕ) → eqb k k ≡ true
   same k = grind (arith, nat_tests)
 
+-- a class of a new name, with a new code, may stand behind the classes while there are fewer than 200 codes
 pub class_grows : (table : List (List ℕ)) (classes : List Class) (name text code : List ℕ) → AreClasses table classes
     → is_name name ≡ true → list_any (bytes_eq name) (names_of_classes classes) ≡ false → code_of text ≡ Some code
     → is_some (code_number table code) ≡ false

@@ -18,6 +18,7 @@ use Rattle.plan_draft.specs.Reading.{between, may_follow}
 pub not_in_box : (stage : Stage) → rank stage ≤ 5 → in_box stage ≡ false
 not_in_box stage low = grind (arith, nat_tests)
 
+-- a stage that lies between two ranks is at least the one and at most the other
 pub bounds : (low high : ℕ) (stage : Stage) → between low high stage ≡ true → (low ≤ rank stage) × (rank stage ≤ high)
 bounds low high stage e = (grind (arith, nat_tests), grind (arith, nat_tests))
 

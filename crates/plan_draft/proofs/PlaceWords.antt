@@ -18,6 +18,7 @@ places_step : (names ws : List (List ℕ)) (front : List ℕ) (i : ℕ) → i < 
 unfolding places_onto
 places_step names ws front i lt = ap (places_onto names front) (drop_next ws i lt)
 
+-- the places of the words are the same with the place of the next word read
 pub places_next : (names ws : List (List ℕ)) (front more text : List ℕ) (i place : ℕ) (read : Result (List ℕ) Cause)
     → i < length ws → places_onto names front (drop i ws) ≡ read → more ≡ front ++ place ∷ [] → text ≡ word i ws
     → Ok place ≡ number_in_names names text → places_onto names more (drop (i + 1) ws) ≡ read

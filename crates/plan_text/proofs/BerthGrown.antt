@@ -151,6 +151,7 @@ berth_more k b texts words Down berth low h none clear most text =
       rows = λ _. rows;
     }
 
+-- where a line `berth` is taken, the lines of the box that it makes are those before and this one
 pub berth_grows : (boxes n k : ℕ) (b : BoxFields) (texts : List (List (List ℕ))) (words : List (List ℕ)) → k ≤ 11
     → keyword words ≡ codes "berth" → BoxGrown k b texts → OfOk (BoxBy 11 texts words) (berth_onto boxes n b words)
 unfolding berth_onto
@@ -285,6 +286,7 @@ no_length : (ns : List ℕ) → eqb (length ns) 0 ≡ true → ns ≡ []
 no_length [] e = refl
 no_length (n ∷ ns) e = absurd (grind (arith, nat_tests))
 
+-- where a line `clear` is taken, the lines of the box that it makes are those before and this one
 pub clear_grows : (k : ℕ) (b : BoxFields) (texts : List (List (List ℕ))) (words : List (List ℕ)) → k ≤ 12
     → keyword words ≡ codes "clear" → BoxGrown k b texts → OfOk (BoxBy 12 texts words) (clear_onto b words)
 unfolding clear_onto
@@ -394,6 +396,7 @@ permissive_more k b texts words Down berth n low h at none text =
       rows = λ _. rows;
     }
 
+-- where a line `permissive` is taken, the lines of the box that it makes are those before and this one
 pub permissive_grows : (k : ℕ) (b : BoxFields) (texts : List (List (List ℕ))) (words : List (List ℕ)) → k ≤ 13
     → keyword words ≡ codes "permissive" → BoxGrown k b texts → OfOk (BoxBy 13 texts words) (permissive_onto b words)
 unfolding permissive_onto
@@ -455,6 +458,7 @@ track_more k b texts words track low h text =
       rows = λ _. rows;
     }
 
+-- where a line `track` is taken, the lines of the box that it makes are those before and this one
 pub track_grows : (k : ℕ) (b : BoxFields) (texts : List (List (List ℕ))) (words : List (List ℕ)) → k ≤ 14
     → keyword words ≡ codes "track" → BoxGrown k b texts → OfOk (BoxBy 14 texts words) (track_onto b words)
 unfolding track_onto
@@ -527,6 +531,7 @@ row_is rest row single e =
       go [] h f = absurd (omega (arith, ap length f, row_long row))
       go (w ∷ ws) h f = sym (words_of-joined (w ∷ ws) (omega arith) h) ∙ f
 
+-- where a line `row` is taken, the lines of the box that it makes are those before and this one
 pub row_grows : (k : ℕ) (b : BoxFields) (texts : List (List (List ℕ))) (words : List (List ℕ)) → k ≤ 15
     → keyword words ≡ codes "row" → list_all (lacks 32) words ≡ true → BoxGrown k b texts
     → OfOk (BoxBy 15 texts words) (row_onto b words)

@@ -167,6 +167,7 @@ regrouped : (d : DraftFields) (high : ℕ) (x : BoxFields) (one two more : List 
 regrouped d high x one two more last go =
     subst (λ (ls : List (List (List ℕ))). GoesOn d high x ls last) (sym (append_assoc one two more)) go
 
+-- a box's printed lines `berth`, of either way first, add its berths to the box, without clearing places so far
 pub berths_are_read : (d : DraftFields) (b : BoxFields) (first : Way) (more : List (List (List ℕ))) (last : DraftFields)
     → IsBox d.count (length d.plan.boxes) b
     → GoesOn d 11 (with_berths b (bare_of b.berth_up) (bare_of b.berth_down)) more last
@@ -250,6 +251,7 @@ one_clear d b way (Some berth) other more last are is go = step berth.clearing i
       (clear_line_kind (way_word way ∷ place_words b.places (p ∷ ps))) (clear_is_line b way (p ∷ ps) are all few)
       (clear_step d.count (length d.plan.boxes) b way berth other p ps are all few differ) go
 
+-- a box's printed lines `clear`, of either way first, add their clearing places to its berths
 pub clears_are_read : (d : DraftFields) (b : BoxFields) (first : Way) (more : List (List (List ℕ))) (last : DraftFields)
     → IsBox d.count (length d.plan.boxes) b
     → GoesOn d 12 (with_berths b (clear_of b.berth_up) (clear_of b.berth_down)) more last
@@ -310,6 +312,7 @@ one_permissive d b way (Some berth) other more last is go = step berth.permissiv
       (permissive_line_kind (way_word way ∷ decimal n ∷ [])) (permissive_is_line way n all.1)
       (permissive_step d.count (length d.plan.boxes) b way berth other n all.0 all.1) go
 
+-- a box's printed lines `permissive`, of either way first, make its lines permissive as they are
 pub permissives_are_read : (d : DraftFields) (b : BoxFields) (first : Way) (more : List (List (List ℕ)))
     (last : DraftFields) → IsBox d.count (length d.plan.boxes) b
     → GoesOn d 13 (with_berths b b.berth_up b.berth_down) more last

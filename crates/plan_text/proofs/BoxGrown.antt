@@ -50,6 +50,8 @@ BoxBy k texts words next = BoxGrown k next (texts ++ words ∷ [])
 
 -- ---- where a line comes to stand
 
+-- a box's own line, then those of places, levers and signals, of berths, clearing places and permissive lines, of
+-- track circuits and rows
 abbrev pub parts : {W : Type 0} → W → List W → List W → List W → List W → List W → List W → List W → List W → List W
 parts x p l s b c m t r = (x ∷ (p ++ l ++ s)) ++ (b ++ c ++ m) ++ (t ++ r)
 
@@ -87,6 +89,7 @@ grow_signals {W} x w p l s b c m t r eb ec em et er =
     flat x p l (s ++ w ∷ []) b c m t r ∙ ap (λ (z : List W). x ∷ (p ++ (l ++ z))) (end_here w s _ _ none one)
     ∙ sym (flat_more x w p l s b c m t r)
 
+-- where nothing stands behind the lines of berths, a line more of these is the last of the box
 pub grow_berths : {W : Type 0} (x w : W) (p l s b b' c c' m m' t r : List W) → b' ≡ b ++ w ∷ [] → c ≡ [] → c' ≡ []
     → m ≡ [] → m' ≡ [] → t ≡ [] → r ≡ [] → parts x p l s b' c' m' t r ≡ parts x p l s b c m t r ++ w ∷ []
 grow_berths {W} x w p l s b b' c c' m m' t r eb ec ec' em em' et er =
@@ -96,6 +99,7 @@ grow_berths {W} x w p l s b b' c c' m m' t r eb ec ec' em em' et er =
     ∙ ap (λ (z : List W). x ∷ (p ++ (l ++ (s ++ z)))) (end_here w b _ _ none one)
     ∙ sym (flat_more x w p l s b c m t r)
 
+-- where nothing stands behind the lines of clearing places, a line more of these is the last of the box
 pub grow_clears : {W : Type 0} (x w : W) (p l s b b' c c' m m' t r : List W) → b' ≡ b → c' ≡ c ++ w ∷ [] → m ≡ []
     → m' ≡ [] → t ≡ [] → r ≡ [] → parts x p l s b' c' m' t r ≡ parts x p l s b c m t r ++ w ∷ []
 grow_clears {W} x w p l s b b' c c' m m' t r eb ec em em' et er =
@@ -106,6 +110,7 @@ grow_clears {W} x w p l s b b' c c' m m' t r eb ec em em' et er =
     ∙ ap (λ (z : List W). x ∷ (p ++ (l ++ (s ++ (b ++ z))))) (end_here w c _ _ none one)
     ∙ sym (flat_more x w p l s b c m t r)
 
+-- where nothing stands behind the lines of permissive lines, a line more of these is the last of the box
 pub grow_most : {W : Type 0} (x w : W) (p l s b b' c c' m m' t r : List W) → b' ≡ b → c' ≡ c → m' ≡ m ++ w ∷ [] → t ≡ []
     → r ≡ [] → parts x p l s b' c' m' t r ≡ parts x p l s b c m t r ++ w ∷ []
 grow_most {W} x w p l s b b' c c' m m' t r eb ec em et er =
@@ -117,6 +122,7 @@ grow_most {W} x w p l s b b' c c' m m' t r eb ec em et er =
     ∙ ap (λ (z : List W). x ∷ (p ++ (l ++ (s ++ (b ++ (c ++ z)))))) (end_here w m _ _ none one)
     ∙ sym (flat_more x w p l s b c m t r)
 
+-- where a box has no rows, a line of track circuits more is its last
 pub grow_tracks : {W : Type 0} (x w : W) (p l s b c m t r : List W) → r ≡ []
     → parts x p l s b c m (t ++ w ∷ []) r ≡ parts x p l s b c m t r ++ w ∷ []
 grow_tracks {W} x w p l s b c m t r er =
@@ -125,6 +131,7 @@ grow_tracks {W} x w p l s b c m t r er =
     ∙ ap (λ (z : List W). x ∷ (p ++ (l ++ (s ++ (b ++ (c ++ (m ++ z))))))) (end_here w t _ _ er one)
     ∙ sym (flat_more x w p l s b c m t r)
 
+-- a row more is the last line of a box
 pub grow_rows : {W : Type 0} (x w : W) (p l s b c m t r : List W)
     → parts x p l s b c m t (r ++ w ∷ []) ≡ parts x p l s b c m t r ++ w ∷ []
 grow_rows x w p l s b c m t r = flat x p l s b c m t (r ++ w ∷ []) ∙ sym (flat_more x w p l s b c m t r)
@@ -133,14 +140,17 @@ both_none : {A : Type 0} (w : Way) (f : Way → List A) → f Up ≡ [] → f Do
 both_none Up f u d = rw (u, d) refl
 both_none Down f u d = rw (u, d) refl
 
+-- where the up line has none, the lines of both ways are those of the down line
 pub both_down : {A : Type 0} (w : Way) (f : Way → List A) → f Up ≡ [] → both_ways w f ≡ f Down
 both_down Up f u = rw u refl
 both_down Down f u = rw u (append-nil (f Down))
 
+-- where the down line has none, the lines of both ways are those of the up line
 pub both_up : {A : Type 0} (w : Way) (f : Way → List A) → f Down ≡ [] → both_ways w f ≡ f Up
 both_up Up f d = rw d (append-nil (f Up))
 both_up Down f d = rw d refl
 
+-- lines that are the same for each way are the same for both together
 pub both_same : {A : Type 0} (w : Way) (f g : Way → List A) → f Up ≡ g Up → f Down ≡ g Down
     → both_ways w f ≡ both_ways w g
 both_same Up f g u d = rw (u, d) refl
@@ -150,9 +160,11 @@ both_same Down f g u d = rw (u, d) refl
 abbrev pub berth_part : FirstWays → BoxFields → List (List (List ℕ))
 berth_part first b = both_ways first.berths (λ way. berth_lines b.places way (berth_of b way))
 
+-- the lines of the clearing places of both ways
 abbrev pub clear_part : FirstWays → BoxFields → List (List (List ℕ))
 clear_part first b = both_ways first.clears (λ way. clear_lines b.places way (berth_of b way))
 
+-- the lines that say of both ways how many trains a permissive line takes
 abbrev pub most_part : FirstWays → BoxFields → List (List (List ℕ))
 most_part first b = both_ways first.permissives (λ way. permissive_lines way (berth_of b way))
 
@@ -161,27 +173,32 @@ no_berths first b u d =
     both_none first.berths (λ way. berth_lines b.places way (berth_of b way)) (ap (berth_lines b.places Up) u)
     (ap (berth_lines b.places Down) d)
 
+-- where neither way has clearing places, the box has no line of them
 pub no_clears : (first : FirstWays) (b : BoxFields) → clear_lines b.places Up b.berth_up ≡ []
     → clear_lines b.places Down b.berth_down ≡ [] → clear_part first b ≡ []
 no_clears first b u d = both_none first.clears (λ way. clear_lines b.places way (berth_of b way)) u d
 
+-- where neither way's line is permissive, the box has no line that says so
 pub no_most : (first : FirstWays) (b : BoxFields) → permissive_lines Up b.berth_up ≡ []
     → permissive_lines Down b.berth_down ≡ [] → most_part first b ≡ []
 no_most first b u d = both_none first.permissives (λ way. permissive_lines way (berth_of b way)) u d
 
 -- ---- words of lines
 
+-- a line of two words whose first and second are these is these two
 pub two_same : (words : List (List ℕ)) (a b : List ℕ) → length words ≡ 2 → keyword words ≡ a → word 1 words ≡ b
     → words ≡ a ∷ b ∷ []
 two_same words a b n e f =
     two_words words n ∙ ap (λ (x : List ℕ). x ∷ word 1 words ∷ []) e ∙ ap (λ (x : List ℕ). a ∷ x ∷ []) f
 
+-- a line of three words whose first, second and third are these is these three
 pub three_same : (words : List (List ℕ)) (a b c : List ℕ) → length words ≡ 3 → keyword words ≡ a → word 1 words ≡ b
     → word 2 words ≡ c → words ≡ a ∷ b ∷ c ∷ []
 three_same words a b c n e f g =
     three_words words n ∙ ap (λ (x : List ℕ). x ∷ word 1 words ∷ word 2 words ∷ []) e
     ∙ ap (λ (x : List ℕ). a ∷ x ∷ word 2 words ∷ []) f ∙ ap (λ (x : List ℕ). a ∷ b ∷ x ∷ []) g
 
+-- a line of three words or more whose first, second and all behind are these is these
 pub many_same : (words : List (List ℕ)) (a b : List ℕ) (more : List (List ℕ)) → 3 ≤ length words → keyword words ≡ a
     → word 1 words ≡ b → drop 2 words ≡ more → words ≡ a ∷ b ∷ more
 many_same words a b more n e f g =
@@ -201,6 +218,7 @@ new_place_is b text =
       weak (Ok name) h = h.0
       weak (Err e) h = tt
 
+-- where a line `place` is taken, the lines of the box that it makes are those before and this one
 pub place_grows : (k : ℕ) (b : BoxFields) (texts : List (List (List ℕ))) (words : List (List ℕ)) → k ≤ 7
     → keyword words ≡ codes "place" → BoxGrown k b texts → OfOk (BoxBy 7 texts words) (place_onto b words)
 unfolding place_onto
@@ -257,6 +275,7 @@ next_number_is b text =
     bind_keeps (InRange 1 120 text) (λ n. text ≡ decimal n) (number_in 1 120 text) _ (number_in_is 1 120 text)
     (λ n r. if_keeps (λ n. text ≡ decimal n) (ltb (frame_size b.levers) n) _ _ (λ _. r.0) (λ _. tt))
 
+-- where a line `lever` is taken, the lines of the box that it makes are those before and this one
 pub lever_grows : (k : ℕ) (b : BoxFields) (texts : List (List (List ℕ))) (words : List (List ℕ)) → k ≤ 8
     → keyword words ≡ codes "lever" → BoxGrown k b texts → OfOk (BoxBy 8 texts words) (lever_onto b words)
 unfolding lever_onto
@@ -357,6 +376,7 @@ signal_text names lever start over (ends.Place place) e = refl
 signal_text names lever start over ends.Away e = refl
 signal_text names lever start over (ends.Section way) e = absurd cc
 
+-- where a line `signal` is taken, the lines of the box that it makes are those before and this one
 pub signal_grows : (k : ℕ) (b : BoxFields) (texts : List (List (List ℕ))) (words : List (List ℕ)) → k ≤ 9
     → keyword words ≡ codes "signal" → BoxGrown k b texts → OfOk (BoxBy 9 texts words) (signal_onto b words)
 unfolding signal_onto
@@ -376,6 +396,7 @@ signal_grows k b texts words low key h =
     (four_same words (over_words b.places over) (codes "signal") (decimal lever) (name_word b.places start)
     (end_word b.places to) o key e f g.0 ∙ signal_text b.places lever start over to g.1))))))
 
+-- where a line `starter` is taken, the lines of the box that it makes are those before and this one
 pub starter_grows : (boxes n k : ℕ) (b : BoxFields) (texts : List (List (List ℕ))) (words : List (List ℕ)) → k ≤ 10
     → keyword words ≡ codes "starter" → BoxGrown k b texts → OfOk (BoxBy 10 texts words) (starter_onto boxes n b words)
 unfolding starter_onto

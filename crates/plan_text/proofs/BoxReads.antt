@@ -87,9 +87,11 @@ with_signals b signals =
       rows = [];
     }
 
+-- the places of a box have names that all differ
 pub box_names : (boxes n : ℕ) (b : BoxFields) → IsBox boxes n b → AreNames b.places
 box_names boxes n b is = record { each = is.named; differ = is.distinct }
 
+-- the levers of a box are a frame: their numbers rise, and it has at most 120 levers
 pub box_frame : (boxes n : ℕ) (b : BoxFields) → IsBox boxes n b → IsFrame b.levers
 box_frame boxes n b is = record { rising = is.rising; most = is.frame }
 
@@ -112,6 +114,7 @@ place_line_kind : (name : List ℕ) → line_kind (keyword (place_line name)) �
 unfolding line_kind
 place_line_kind name = refl
 
+-- a box's printed lines `place` add its places to the box
 pub places_are_read : (d : DraftFields) (b : BoxFields) (more : List (List (List ℕ))) (last : DraftFields)
     → IsBox d.count (length d.plan.boxes) b
     → GoesOn d 7 (with_places b b.places) more last
@@ -152,6 +155,7 @@ lever_line_kind : (lever : Lever) → line_kind (keyword (lever_line lever)) ≡
 unfolding line_kind
 lever_line_kind lever = refl
 
+-- a box's printed lines `lever` add its levers to the box
 pub levers_are_read : (d : DraftFields) (b : BoxFields) (more : List (List (List ℕ))) (last : DraftFields)
     → IsBox d.count (length d.plan.boxes) b
     → GoesOn d 8 (with_levers b b.levers) more last
@@ -444,6 +448,7 @@ signals_read d b more last is go front (s ∷ vs) e sorted =
           stepped d b front s stages.Signal lines last
           (signal_steps d.count (length d.plan.boxes) b front s ends.Away is next to refl) signal_kind rest
 
+-- a box's printed lines `signal` and `starter` add its signals to the box
 pub signals_are_read : (d : DraftFields) (b : BoxFields) (more : List (List (List ℕ))) (last : DraftFields)
     → IsBox d.count (length d.plan.boxes) b
     → GoesOn d 10 (with_signals b b.signals) more last

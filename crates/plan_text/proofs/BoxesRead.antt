@@ -54,6 +54,7 @@ pub record Stands (plan : PlanFields) (boxes : List BoxFields) (trains : List Tr
   pub all : all_boxes draft ≡ boxes
   pub same : so_far draft.plan boxes draft.plan.trains ≡ so_far plan boxes trains
 
+-- from any draft with these boxes and trains, these lines are read to the end as the whole plan
 abbrev pub Goes : PlanFields → List BoxFields → List TrainPlan → ℕ → List (List (List ℕ)) → Type 0
 Goes plan boxes trains high more =
     (draft : DraftFields) → Stands plan boxes trains high draft → AreRead draft more (whole plan)
@@ -192,6 +193,7 @@ one_box plan first front rest b more is e go draft st =
     (λ stage i. go (hold (opened plan front b) stage b) (closed_stands plan front b stage i)) stages.Box
     (record { low = omega arith; most = omega arith }))
 
+-- the printed lines of a plan's further boxes are read as those boxes, in whichever order the ways of each stand
 pub boxes_are_read : (plan : PlanFields) (more : List (List (List ℕ))) → IsPlan plan → Goes plan plan.boxes [] 15 more
     → (firsts : List FirstWays) (front vs : List BoxFields) → plan.boxes ≡ front ++ vs
     → Goes plan front [] 15 (boxes_lines_by firsts vs ++ more)
@@ -297,6 +299,7 @@ driven_stands : (plan : PlanFields) (trains : List TrainPlan)
     → Stands plan plan.boxes trains 16 (driven plan stages.Train trains)
 driven_stands plan trains = record { count = refl; low = omega arith; most = omega arith; all = refl; same = refl }
 
+-- the printed lines of a plan's further trains are read as those trains
 pub trains_are_read : (plan : PlanFields) (more : List (List (List ℕ))) → IsPlan plan
     → Goes plan plan.boxes plan.trains 16 more → (front vs : List TrainPlan) → plan.trains ≡ front ++ vs
     → Goes plan plan.boxes front 16 (map (train_line plan) vs ++ more)
@@ -328,6 +331,7 @@ unfolding end_onto
 end_onto_reads plan draft st =
     rw (fulls plan plan.trains draft st) (ap Ok (closes plan plan.trains stages.Ended draft st))
 
+-- where all boxes and trains stand, the line `end` completes the plan
 pub end_is_read : (plan : PlanFields) → Goes plan plan.boxes plan.trains 16 ((codes "end" ∷ []) ∷ [])
 unfolding line_kind may_follow kind_onto
 end_is_read plan draft st =

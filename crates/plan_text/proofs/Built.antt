@@ -50,11 +50,13 @@ position_within p xs i e = go (ltb (position_or_len p xs) (length xs)) refl e wh
   go true t e = let same : position_or_len p xs ≡ i = cc in grind (arith, nat_tests)
   go false t e = absurd cc
 
+-- where what is missing is refused, what holds of the thing that is there holds of what is taken
 pub known_keeps : {A : Type 0} (P : A → Type 0) (cause : Cause) (o : Option A) → ((x : A) → o ≡ Some x → P x)
     → OfOk P (known cause o)
 known_keeps P cause None h = tt
 known_keeps P cause (Some x) h = h x refl
 
+-- the number that is read for a name is the number of one of the names
 pub number_is : (names : List (List ℕ)) (text : List ℕ) → OfOk (λ n. n < length names) (number_in_names names text)
 unfolding number_in_names
 number_is names text =
@@ -62,6 +64,7 @@ number_is names text =
     (λ _. known_keeps (λ n. n < length names) _ (position (bytes_eq text) names)
     (λ n e. position_within (bytes_eq text) names n e)) (λ _. tt)
 
+-- a word that is taken as a new name is a name, and none of those so far
 pub new_name_is : (names : List (List ℕ)) (text : List ℕ)
     → OfOk (λ name. (text ≡ name) × (is_name name ≡ true) × (list_any (bytes_eq name) names ≡ false))
     (new_name names text)
@@ -97,6 +100,7 @@ places_are names front (text ∷ texts) h =
           weaker _ _ (places_onto names (front ++ place ∷ []) texts)
           (λ ps q. (q.0, omega (arith, q.1, length-append front (place ∷ [])))) r
 
+-- where the count of a line's words is taken, it lies within the bounds
 pub counted_is : (low high : ℕ) (words : List (List ℕ))
     → OfOk (λ _. (low ≤ length words) × (length words ≤ high)) (counted low high words)
 counted_is low high words =
@@ -105,9 +109,11 @@ counted_is low high words =
 
 -- ---- nothing yet
 
+-- of a list without items, anything holds of each item
 pub none_all : {A : Type 0} (P : A → Type 0) (xs : List A) → xs ≡ [] → All P xs
 none_all P xs e = All-same P xs [] e (All-nil P)
 
+-- of what isn't there, anything holds
 pub none_if : {A : Type 0} (P : A → Type 0) (o : Option A) → o ≡ None → IfSome o P
 none_if P None e = tt
 none_if P (Some x) e = absurd cc
@@ -118,6 +124,7 @@ all_more : (xs : List (List ℕ)) (x : List ℕ) → list_all is_name xs ≡ tru
     → list_all is_name (xs ++ x ∷ []) ≡ true
 all_more xs x h e = list_all-append is_name xs (x ∷ []) ∙ rw (h, e) refl
 
+-- a box with a place more still meets the conditions of a box
 pub place_keeps : (boxes b k : ℕ) (name : List ℕ) (box_plan : BoxFields) (words : List (List ℕ)) → k ≤ 7
     → Built boxes b k name box_plan → OfOk (Built boxes b 7 name) (place_onto box_plan words)
 unfolding place_onto new_place
@@ -190,6 +197,7 @@ last_more : (before : ℕ) (levers : List Lever) (lever : Lever)
 last_more before [] lever = refl
 last_more before (first ∷ levers) lever = last_more first.number levers lever
 
+-- a box with a lever more still meets the conditions of a box
 pub lever_keeps : (boxes b k : ℕ) (name : List ℕ) (box_plan : BoxFields) (words : List (List ℕ)) → k ≤ 8
     → Built boxes b k name box_plan → OfOk (Built boxes b 8 name) (lever_onto box_plan words)
 unfolding lever_onto next_number

@@ -249,6 +249,7 @@ with_berth_built boxes b k own box_plan Down place berth low h comes within n =
       name = h.name;
     }
 
+-- a box with a berth more still meets the conditions of a box
 pub berth_keeps : (boxes b k : ℕ) (own : List ℕ) (box_plan : BoxFields) (words : List (List ℕ)) → k ≤ 11
     → Built boxes b k own box_plan → OfOk (Built boxes b 11 own) (berth_onto boxes b box_plan words)
 unfolding berth_onto
@@ -352,6 +353,7 @@ cleared_built boxes b k own box_plan Down berth places low h e c =
       name = h.name;
     }
 
+-- a box with clearing places for a berth still meets the conditions of a box
 pub clear_keeps : (boxes b k : ℕ) (own : List ℕ) (box_plan : BoxFields) (words : List (List ℕ)) → k ≤ 12
     → Built boxes b k own box_plan → OfOk (Built boxes b 12 own) (clear_onto box_plan words)
 unfolding clear_onto
@@ -431,6 +433,7 @@ permitted_built boxes b k own box_plan Down n low h least most =
       name = h.name;
     }
 
+-- a box with a line made permissive still meets the conditions of a box
 pub permissive_keeps : (boxes b k : ℕ) (own : List ℕ) (box_plan : BoxFields) (words : List (List ℕ)) → k ≤ 13
     → Built boxes b k own box_plan → OfOk (Built boxes b 13 own) (permissive_onto box_plan words)
 unfolding permissive_onto
@@ -492,6 +495,7 @@ track_lever_is box_plan text =
     if_keeps (IsFreeLever box_plan) (list_any (λ track. eqb track.lever lever) box_plan.tracks) _ _ (λ _. tt)
     (λ free. (w, free)))
 
+-- a box with a line of track circuits more still meets the conditions of a box
 pub track_keeps : (boxes b k : ℕ) (own : List ℕ) (box_plan : BoxFields) (words : List (List ℕ)) → k ≤ 14
     → Built boxes b k own box_plan → OfOk (Built boxes b 14 own) (track_onto box_plan words)
 unfolding track_onto
@@ -557,6 +561,7 @@ all_worked_is box_plan (lever ∷ levers) =
       more w (Ok x) h = All-cons (IsWorking box_plan) lever levers w h
       more w (Err e) h = tt
 
+-- a box with a row more still meets the conditions of a box
 pub row_keeps : (boxes b k : ℕ) (own : List ℕ) (box_plan : BoxFields) (words : List (List ℕ)) → k ≤ 15
     → Built boxes b k own box_plan → OfOk (Built boxes b 15 own) (row_onto box_plan words)
 unfolding row_onto

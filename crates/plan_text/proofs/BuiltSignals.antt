@@ -114,6 +114,7 @@ end_is box_plan text =
 
 -- ---- lists that grow
 
+-- numbers that all differ still do so with one more that isn't among them
 pub differ_more : (ns : List ℕ) (n : ℕ) → IsTrue (all_differ ns) → list_any (λ k. eqb k n) ns ≡ false
     → IsTrue (all_differ (ns ++ n ∷ []))
 differ_more [] n h e = refl
@@ -244,6 +245,7 @@ no_way : (boxes b : ℕ) (o : Option Way) → o ≡ None → IfSome o (λ way. I
 no_way boxes b None e = tt
 no_way boxes b (Some way) e = absurd cc
 
+-- a box with a signal more still meets the conditions of a box
 pub signal_keeps : (boxes b k : ℕ) (own : List ℕ) (box_plan : BoxFields) (words : List (List ℕ)) → k ≤ 9
     → Built boxes b k own box_plan → OfOk (Built boxes b 9 own) (signal_onto box_plan words)
 unfolding signal_onto
@@ -300,6 +302,7 @@ starters_down Down box_plan signal e none few = first_starter Down box_plan.sign
 starters_down Up box_plan signal e none few = let other : is_starter Down signal ≡ false =
     rw e refl in other_starter Down box_plan.signals signal few other
 
+-- a box with a starter more still meets the conditions of a box
 pub starter_keeps : (boxes b k : ℕ) (own : List ℕ) (box_plan : BoxFields) (words : List (List ℕ)) → k ≤ 10
     → Built boxes b k own box_plan → OfOk (Built boxes b 10 own) (starter_onto boxes b box_plan words)
 unfolding starter_onto

@@ -673,6 +673,7 @@ pub read_ended : (bytes : List ℕ) (d : DraftFields)
     → text_onto words_onto (λ draft. has_ended draft.stage) most_bytes start bytes ≡ Ok d → has_ended d.stage ≡ true
 read_ended bytes d e = (subst (OfOk IsRead) e (text_is_read bytes)).1
 
+-- where a text is read to its end, the plan of its draft meets every condition of a plan
 pub read_is_plan : (bytes : List ℕ) (d : DraftFields)
     → text_onto words_onto (λ draft. has_ended draft.stage) most_bytes start bytes ≡ Ok d → IsPlan d.plan
 read_is_plan bytes d e = let r = subst (OfOk IsRead) e (text_is_read bytes) in ended_is_plan d r.0 r.1
@@ -681,6 +682,7 @@ plan_keeps_all : (r : Result DraftFields Fault) → OfOk IsRead r → OfOk IsPla
 plan_keeps_all (Ok d) h = ended_is_plan d h.0 h.1
 plan_keeps_all (Err e) h = tt
 
+-- what a text is read as meets every condition of a plan
 pub plan_of_is_plan : (bytes : List ℕ) (plan : PlanFields) → plan_of bytes ≡ Ok plan → IsPlan plan
 unfolding plan_of
 plan_of_is_plan bytes plan e =

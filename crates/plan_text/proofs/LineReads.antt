@@ -21,6 +21,7 @@ pub record IsLine (words : List (List ℕ)) : Type 0 where
   pub short : length (join_with_byte 32 words) ≤ 200
   pub begins : is_skipped (keyword words) ≡ false
 
+-- each of these may stand in a text as a line
 abbrev pub AreLines : List (List (List ℕ)) → Type 0
 AreLines [] = Unit {0}
 AreLines (words ∷ lines) = IsLine words × AreLines lines
@@ -35,9 +36,11 @@ pub record AreRead (draft : DraftFields) (lines : List (List (List ℕ))) (last 
   pub stand : AreLines lines
   pub onto : onto_all draft lines ≡ Ok last
 
+-- no lines at all leave a draft as it is
 pub read_none : (draft : DraftFields) → AreRead draft [] draft
 read_none draft = record { stand = tt; onto = refl }
 
+-- where a line makes the next draft and the lines behind it are read from there, all of them are read
 pub read_line : (draft next last : DraftFields) (words : List (List ℕ)) (lines : List (List (List ℕ))) → IsLine words
     → words_onto draft words ≡ Ok next → AreRead next lines last → AreRead draft (words ∷ lines) last
 read_line draft next last words lines is e r = record { stand = (is, r.stand); onto = rw e r.onto }
@@ -65,38 +68,47 @@ pub record IsBoxKind (kind : Stage) : Type 0 where
   pub onto : (draft : DraftFields) (words : List (List ℕ)) → kind_onto kind draft words ≡ here_onto kind draft words
   pub follows : (last : Stage) → may_follow kind last ≡ between 6 (rank kind) last
 
+-- lines `place` stand in a box
 pub place_kind : IsBoxKind stages.Place
 unfolding kind_onto may_follow
 place_kind = record { low = omega arith; high = omega arith; onto = λ draft words. refl; follows = λ last. refl }
 
+-- lines `lever` stand in a box
 pub lever_kind : IsBoxKind stages.Lever
 unfolding kind_onto may_follow
 lever_kind = record { low = omega arith; high = omega arith; onto = λ draft words. refl; follows = λ last. refl }
 
+-- lines `signal` stand in a box
 pub signal_kind : IsBoxKind stages.Signal
 unfolding kind_onto may_follow
 signal_kind = record { low = omega arith; high = omega arith; onto = λ draft words. refl; follows = λ last. refl }
 
+-- lines `starter` stand in a box
 pub starter_kind : IsBoxKind stages.Starter
 unfolding kind_onto may_follow
 starter_kind = record { low = omega arith; high = omega arith; onto = λ draft words. refl; follows = λ last. refl }
 
+-- lines `berth` stand in a box
 pub berth_kind : IsBoxKind stages.Berth
 unfolding kind_onto may_follow
 berth_kind = record { low = omega arith; high = omega arith; onto = λ draft words. refl; follows = λ last. refl }
 
+-- lines `clear` stand in a box
 pub clear_kind : IsBoxKind stages.Clear
 unfolding kind_onto may_follow
 clear_kind = record { low = omega arith; high = omega arith; onto = λ draft words. refl; follows = λ last. refl }
 
+-- lines `permissive` stand in a box
 pub permissive_kind : IsBoxKind stages.Permissive
 unfolding kind_onto may_follow
 permissive_kind = record { low = omega arith; high = omega arith; onto = λ draft words. refl; follows = λ last. refl }
 
+-- lines `track` stand in a box
 pub track_kind : IsBoxKind stages.Track
 unfolding kind_onto may_follow
 track_kind = record { low = omega arith; high = omega arith; onto = λ draft words. refl; follows = λ last. refl }
 
+-- lines `row` stand in a box
 pub row_kind : IsBoxKind stages.Row
 unfolding kind_onto may_follow
 row_kind = record { low = omega arith; high = omega arith; onto = λ draft words. refl; follows = λ last. refl }

@@ -13,24 +13,29 @@ use Rattle.line_plan.specs.declared.frame.Lever.{Lever}
 use Rattle.line_plan.specs.Frames.{last_number, are_rising}
 use Rattle.line_plan.proofs.Listed.{any_map}
 
+-- what holds of each item of a list holds of one in its midst
 pub all_at : {A : Type 0} (P : A → Type 0) (front rest : List A) (x : A) → All P (front ++ x ∷ rest) → P x
 all_at P [] rest x h = All-head P x rest h
 all_at P (y ∷ front) rest x h = all_at P front rest x (All-tail P y (front ++ x ∷ rest) h)
 
+-- where all items of a list pass a test, one in its midst does
 pub test_at : {A : Type 0} (p : A → Bool) (front rest : List A) (x : A) → list_all p (front ++ x ∷ rest) ≡ true
     → p x ≡ true
 test_at p [] rest x h = (both (p x) (list_all p rest) h).0
 test_at p (y ∷ front) rest x h = test_at p front rest x (both (p y) (list_all p (front ++ x ∷ rest)) h).1
 
+-- where no test of two passes, neither the one nor the other does
 pub or_false : (a b : Bool) → a || b ≡ false → (a ≡ false) × (b ≡ false)
 or_false true b e = absurd cc
 or_false false b e = (refl, e)
 
+-- where no item of a list passes a test, one in its midst doesn't
 pub none_at : {A : Type 0} (p : A → Bool) (front rest : List A) (x : A) → list_any p (front ++ x ∷ rest) ≡ false
     → p x ≡ false
 none_at p [] rest x h = (or_false (p x) (list_any p rest) h).0
 none_at p (y ∷ front) rest x h = none_at p front rest x (or_false (p y) (list_any p (front ++ x ∷ rest)) h).1
 
+-- what stands before an item of a list is shorter than the list
 pub shorter : {A : Type 0} (front rest : List A) (x : A) → length front < length (front ++ x ∷ rest)
 shorter front rest x = omega (arith, length-append front (x ∷ rest))
 

@@ -23,6 +23,7 @@ class_lines [] classes = []
 class_lines (code ∷ table) [] = []
 class_lines (code ∷ table) (c ∷ classes) = (codes "class" ∷ c.name ∷ code_text code ∷ []) ∷ class_lines table classes
 
+-- a class more with its code makes one line `class` more, the last
 pub class_lines-more : (table : List (List ℕ)) (classes : List Class) (code : List ℕ) (c : Class)
     → length table ≡ length classes
     → class_lines (table ++ code ∷ []) (classes ++ c ∷ [])
@@ -34,6 +35,7 @@ class_lines-more (x ∷ table) (d ∷ classes) code c e =
     ap (λ (ls : List (List (List ℕ))). (codes "class" ∷ d.name ∷ code_text x ∷ []) ∷ ls)
     (class_lines-more table classes code c (omega (arith, e)))
 
+-- a box more makes its lines more, behind those of the boxes before it
 pub boxes_lines-more : (firsts : List FirstWays) (boxes : List BoxFields) (first : FirstWays) (b : BoxFields)
     → length firsts ≡ length boxes
     → boxes_lines_by (firsts ++ first ∷ []) (boxes ++ b ∷ []) ≡ boxes_lines_by firsts boxes ++ box_lines_by first b
@@ -51,6 +53,7 @@ heads version count delay looks =
     (codes "plan" ∷ decimal version ∷ []) ∷ (codes "boxes" ∷ decimal count ∷ []) ∷ (codes "delay" ∷ decimal delay ∷ [])
     ∷ (codes "looks" ∷ decimal looks ∷ []) ∷ []
 
+-- the line `end`, if it has stood
 abbrev pub end_lines : Bool → List (List (List ℕ))
 end_lines true = (codes "end" ∷ []) ∷ []
 end_lines false = []
@@ -78,11 +81,13 @@ pub record Body (d : DraftFields) (texts : List (List (List ℕ))) : Type 0 wher
       ++ (boxes_lines_by firsts d.plan.boxes
       ++ (here ++ (map (train_line d.plan) d.plan.trains ++ end_lines (eqb (rank d.stage) 17)))))
 
+-- what a line makes of such a draft
 abbrev pub BodyBy : List (List (List ℕ)) → List (List ℕ) → DraftFields → Type 0
 BodyBy texts words next = Body next (texts ++ words ∷ [])
 
 -- ---- where a line comes to stand
 
+-- a line behind all parts of a plan's lines stands at the end of the last part
 pub whole_more : {W : Type 0} (w : W) (h c b o t e : List W)
     → (h ++ (c ++ (b ++ (o ++ (t ++ e))))) ++ w ∷ [] ≡ h ++ (c ++ (b ++ (o ++ (t ++ (e ++ w ∷ [])))))
 whole_more w h c b o t e = simp append_assoc
@@ -98,9 +103,11 @@ more_here {W} w h c b o t e e' et ee ee' =
 
 -- ---- ranks
 
+-- a stage at most 16 isn't 17, the stage of a draft that has ended
 pub not_seventeen : (n : ℕ) → n ≤ 16 → eqb n 17 ≡ false
 not_seventeen n h = grind (arith, nat_tests)
 
+-- a stage at most 5 lies in no box: those in a box are 6 to 15
 pub out_below : (n : ℕ) → n ≤ 5 → leb 6 n && leb n 15 ≡ false
 out_below n h = grind (arith, nat_tests)
 
@@ -109,6 +116,7 @@ in_between n a b = grind (arith, nat_tests)
 
 -- ---- a line of a box
 
+-- where a line is taken into the open box, the lines of the draft are those before and this one
 pub here_more : (kind : Stage) (d : DraftFields) (texts : List (List (List ℕ))) (words : List (List ℕ))
     (h : Body d texts) → IsBoxKind kind → InBox d.stage (rank kind) → (r : Result BoxFields Cause)
     → OfOk (BoxBy (rank kind) h.here words) r

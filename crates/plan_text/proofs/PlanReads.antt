@@ -34,6 +34,7 @@ use Rattle.plan_text.proofs.BoxesRead.{goes_later}
 
 -- ---- the first four lines
 
+-- a draft that has these first four lines at most, with the opening codes and classes, no box and no train
 abbrev pub headed : Stage → ℕ → ℕ → ℕ → ℕ → DraftFields
 headed stage count version delay looks =
     record {
@@ -210,6 +211,7 @@ pub record IsNextClass (plan : PlanFields) (table : List (List ℕ)) (classes : 
   few : length table < 200
   own : class_of c.name (length table + 1) ≡ c
 
+-- a class of a plan behind its first four may be read next, with its code, where all before it are read
 pub next_class : (plan : PlanFields) (table others : List (List ℕ)) (classes rest : List Class) (c : Class)
     (code : List ℕ) → IsPlan plan → plan.codes ≡ table ++ code ∷ others → plan.classes ≡ classes ++ c ∷ rest
     → length table ≡ length classes + 6 → 4 ≤ length classes → IsNextClass plan table classes c code
@@ -296,6 +298,7 @@ classes_are_read plan more is go table (code ∷ others) classes (c ∷ rest) st
 
 -- ---- the opening classes
 
+-- there are ten opening codes
 pub ten : length opening_codes ≡ 10
 unfolding opening_codes
 ten = refl
@@ -330,6 +333,7 @@ opening_are (a ∷ b ∷ c ∷ d ∷ rest) few e h =
 
 -- ---- the whole
 
+-- five parts in a row may be grouped from the right
 pub regrouped : {W : Type 0} (h c b t e : List W) → h ++ c ++ b ++ t ++ e ≡ h ++ (c ++ (b ++ (t ++ e)))
 regrouped h c b t e = simp append_assoc
 

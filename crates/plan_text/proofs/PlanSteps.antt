@@ -77,6 +77,7 @@ name_is names text = weak (new_name names text) (new_name_is names text) where
   weak (Ok name) h = h.0
   weak (Err e) h = tt
 
+-- where a line `class` is taken, the lines of the draft that it makes are those before and this one
 pub class_grows : (d : DraftFields) (texts : List (List (List ℕ))) (words : List (List ℕ)) → rank d.stage ≤ 5
     → keyword words ≡ codes "class" → Body d texts → OfOk (BodyBy texts words) (class_onto d words)
 unfolding class_onto with_class
@@ -189,6 +190,7 @@ new_box name words text = record {
   rows = λ _. refl;
 }
 
+-- where a line `box` is taken, the lines of the draft that it makes are those before and this one
 pub box_grows : (d : DraftFields) (texts : List (List (List ℕ))) (words : List (List ℕ)) → rank d.stage ≤ 15
     → keyword words ≡ codes "box" → Body d texts → OfOk (BodyBy texts words) (box_onto d words)
 unfolding box_onto
@@ -291,6 +293,7 @@ train_more d texts words t few h text =
           (ap end_lines (not_seventeen (rank d.stage) few)) refl;
     }
 
+-- where a line `train` is taken, the lines of the draft that it makes are those before and this one
 pub train_grows : (d : DraftFields) (texts : List (List (List ℕ))) (words : List (List ℕ)) → rank d.stage ≤ 16
     → keyword words ≡ codes "train" → Body d texts → OfOk (BodyBy texts words) (train_onto d words)
 unfolding train_onto train_in with_train
@@ -353,6 +356,7 @@ end_more d texts words few h text all =
           ++ (boxes_lines_by c.all (all_boxes d) ++ (map (train_line plan) d.plan.trains ++ w ∷ [])))) text;
     }
 
+-- where the line `end` is taken, the lines of the draft that it makes are those before and this one
 pub end_grows : (d : DraftFields) (texts : List (List (List ℕ))) (words : List (List ℕ)) → rank d.stage ≤ 16
     → keyword words ≡ codes "end" → Body d texts → OfOk (BodyBy texts words) (end_onto d words)
 unfolding end_onto

@@ -24,10 +24,12 @@ use Rattle.plan_text.proofs.WordReads.{joined_same}
 abbrev pub size : List (List (List ℕ)) → ℕ
 size lines = length (printed lines)
 
+-- lines behind others have as many bytes as both together
 pub size-append : (one other : List (List (List ℕ))) → size (one ++ other) ≡ size one + size other
 size-append one other =
     ap length (flat_map-append printed_words one other) ∙ length-append (printed one) (printed other)
 
+-- a line before others has as many bytes as it and they together
 pub size-cons : (words : List (List ℕ)) (lines : List (List (List ℕ)))
     → size (words ∷ lines) ≡ length (printed_words words) + size lines
 size-cons words lines = length-append (printed_words words) (printed lines)

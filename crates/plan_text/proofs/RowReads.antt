@@ -203,6 +203,7 @@ few_both n m (x ∷ xs) ys f g =
     let r = few_both (room 10 xs) m xs ys (record { each = b.1; most = omega arith }) g in
     record { each = rw (b.0, r.each) refl; most = omega (arith, r.most, f.most) }
 
+-- a row's words may stand in a text as a line
 pub row_is_line : (row : Row) → IsRow row → IsLine (row_line row)
 row_is_line row is =
     let r = few_both 44 66 (kind_words row.kind row.object) (when_words row.when)
@@ -239,6 +240,7 @@ lines_of_box first b more =
     ++ (both_ways first.permissives (λ way. permissive_lines way (berth_of b way))
     ++ (map (track_line b.places) b.tracks ++ (map row_line b.rows ++ more)))))))
 
+-- the printed lines of a box, from its places to its rows, make the whole box
 pub box_is_read : (d : DraftFields) (b : BoxFields) (first : FirstWays) (more : List (List (List ℕ)))
     (last : DraftFields) → IsBox d.count (length d.plan.boxes) b
     → GoesOn d 15 b more last → GoesOn d 7 (with_places b []) (lines_of_box first b more) last

@@ -61,6 +61,7 @@ all_line_words (text ∷ texts) h = (line_words text h.0, all_line_words texts h
 
 -- ---- what is spelled is read
 
+-- a text that spells a plan is read as that plan
 pub spelled_is_read : (bytes : List ℕ) (plan : PlanFields) → IsPlan plan → Spells bytes plan → plan_of bytes ≡ Ok plan
 unfolding plan_of text_onto
 spelled_is_read bytes plan is s =
@@ -88,6 +89,7 @@ boxes_same : (boxes : List BoxFields) → flat_map box_lines boxes ≡ boxes_lin
 boxes_same [] = refl
 boxes_same (b ∷ boxes) = rw (box_same b, boxes_same boxes) refl
 
+-- the printed lines of a plan are its lines with the up way first in every box
 pub lines_same : (plan : PlanFields) → plan_lines plan ≡ plan_lines_by [] plan
 unfolding plan_lines plan_lines_by
 lines_same plan = rw (boxes_same plan.boxes) refl
@@ -171,6 +173,7 @@ refused_unspelled : (bytes : List ℕ) (e : ReadError) (plan : PlanFields)
 refused_unspelled bytes errors.NoMemory plan gives is = refl
 refused_unspelled bytes (errors.Refused line cause) plan gives is = absurd cc
 
+-- a reader of plans either reads a text as the plan that it spells or has no memory
 pub reader_reads : (bytes : List ℕ) (r : Result PlanFields ReadError) → GivesText (λ plan. plan) r (plan_of bytes)
     → (plan : PlanFields) → IsPlan plan → Spells bytes plan
     → MatchResult r (λ read. read ≡ plan) (λ error. error ≡ errors.NoMemory)

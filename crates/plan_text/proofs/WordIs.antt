@@ -36,6 +36,7 @@ is_same a b e = (bytes_eq-Decides a b).0 e
 
 -- ---- names and places
 
+-- a word that is read as the number of a name is that name
 pub name_word_is : (names : List (List ℕ)) (text : List ℕ)
     → OfOk (λ n. text ≡ name_word names n) (number_in_names names text)
 unfolding number_in_names
@@ -45,6 +46,7 @@ name_word_is names text =
     (λ n e. sym (get_or_from_slice_get names n text [] (position-found names n text e))))
     (λ _. tt)
 
+-- words that are read as places are the names of those places
 pub places_are : (names : List (List ℕ)) (front : List ℕ) (texts : List (List ℕ))
     → OfOk (λ ps. place_words names ps ≡ place_words names front ++ texts) (places_onto names front texts)
 unfolding places_onto
@@ -65,6 +67,7 @@ places_are names front (text ∷ texts) =
 
 -- ---- ways, kinds, ends, codes
 
+-- a word that is read as a way is the word of that way
 pub way_is : (text : List ℕ) → OfOk (λ way. text ≡ way_word way) (way_in text)
 unfolding way_in
 way_is text =
@@ -72,6 +75,7 @@ way_is text =
     (λ _. if_keeps (λ way. text ≡ way_word way) (bytes_eq text (codes "down")) _ _ (is_same text (codes "down"))
     (λ _. tt))
 
+-- a word that is read as a lever's kind is the word of that kind
 pub kind_is : (text : List ℕ) → OfOk (λ kind. text ≡ kind_word kind) (kind_in text)
 unfolding kind_in
 kind_is text =
@@ -95,6 +99,7 @@ is_end (ends.Place place) = true
 is_end ends.Away = true
 is_end (ends.Section way) = false
 
+-- a word that is read as where a signal leads is the word of that place, or `away`
 pub end_is : (names : List (List ℕ)) (text : List ℕ)
     → OfOk (λ to. (text ≡ end_word names to) × (is_end to ≡ true)) (end_in names text)
 unfolding end_in
@@ -104,6 +109,7 @@ end_is names text =
     bind_keeps (λ n. text ≡ name_word names n) (λ to. (text ≡ end_word names to) × (is_end to ≡ true))
     (number_in_names names text) _ (name_word_is names text) (λ place e. (e, refl)))
 
+-- a word that is read as a bell code is the text of that code
 pub code_is : (text : List ℕ) → OfOk (λ code. text ≡ code_text code) (code_in text)
 code_is text =
     known_keeps (λ code. text ≡ code_text code) causes.BadCode (code_of text) (λ code e. (read_spelled text code e).1)
@@ -128,6 +134,7 @@ lever_is b text =
     known_keeps (λ lever. text ≡ decimal lever.number) causes.UnknownLever (lever_of b n) (λ lever e.
     r.0 ∙ ap decimal (sym (eqb_is lever.number n (find_passes (λ l. eqb l.number n) b.levers lever e)))))
 
+-- a word that is read as a signal's lever is the decimal number of that lever
 pub arm_is : (b : BoxFields) (text : List ℕ) → OfOk (λ n. text ≡ decimal n) (arm_in b text)
 unfolding arm_in
 arm_is b text =
@@ -136,6 +143,7 @@ arm_is b text =
     if_keeps (λ n. text ≡ decimal n) (not (is_signal_kind lever.kind)) _ _ (λ _. tt) (λ _.
     if_keeps (λ n. text ≡ decimal n) (is_some (signal_of b lever.number)) _ _ (λ _. tt) (λ _. e)))
 
+-- a word that is read as a lever that is no spare one is the decimal number of that lever
 pub working_is : (b : BoxFields) (text : List ℕ) → OfOk (λ n. text ≡ decimal n) (working_in b text)
 unfolding working_in
 working_is b text =
@@ -143,6 +151,7 @@ working_is b text =
     (λ lever e.
     if_keeps (λ n. text ≡ decimal n) (is_working (Some lever.kind)) _ _ (λ _. e) (λ _. tt))
 
+-- a word that is read as the way of a starter is the word of that way
 pub leaving_is : (boxes n : ℕ) (b : BoxFields) (text : List ℕ)
     → OfOk (λ way. text ≡ way_word way) (leaving_in boxes n b text)
 unfolding leaving_in
@@ -153,12 +162,14 @@ leaving_is boxes n b text =
 
 -- ---- the words of a line
 
+-- a line of two words is its keyword and its second word
 pub two_words : (words : List (List ℕ)) → length words ≡ 2 → words ≡ keyword words ∷ word 1 words ∷ []
 two_words [] e = absurd (omega (arith, e))
 two_words (a ∷ []) e = absurd (omega (arith, e))
 two_words (a ∷ b ∷ []) e = refl
 two_words (a ∷ b ∷ c ∷ words) e = absurd (omega (arith, e))
 
+-- a line of three words is its keyword, its second word and its third
 pub three_words : (words : List (List ℕ)) → length words ≡ 3 → words ≡ keyword words ∷ word 1 words ∷ word 2 words ∷ []
 three_words [] e = absurd (omega (arith, e))
 three_words (a ∷ []) e = absurd (omega (arith, e))
@@ -166,11 +177,13 @@ three_words (a ∷ b ∷ []) e = absurd (omega (arith, e))
 three_words (a ∷ b ∷ c ∷ []) e = refl
 three_words (a ∷ b ∷ c ∷ d ∷ words) e = absurd (omega (arith, e))
 
+-- a line of three words or more is its keyword, its second word and all behind
 pub many_words : (words : List (List ℕ)) → 3 ≤ length words → words ≡ keyword words ∷ word 1 words ∷ drop 2 words
 many_words [] e = absurd (omega (arith, e))
 many_words (a ∷ []) e = absurd (omega (arith, e))
 many_words (a ∷ b ∷ words) e = refl
 
+-- a line of five words is its keyword and the four words behind it
 pub five_words : (words : List (List ℕ)) → length words ≡ 5
     → words ≡ keyword words ∷ word 1 words ∷ word 2 words ∷ word 3 words ∷ word 4 words ∷ []
 five_words [] e = absurd (omega (arith, e))
@@ -181,6 +194,7 @@ five_words (a ∷ b ∷ c ∷ d ∷ []) e = absurd (omega (arith, e))
 five_words (a ∷ b ∷ c ∷ d ∷ f ∷ []) e = refl
 five_words (a ∷ b ∷ c ∷ d ∷ f ∷ g ∷ words) e = absurd (omega (arith, e))
 
+-- where exactly so many words are asked for and a line is taken, it has so many
 pub exactly : (n : ℕ) (words : List (List ℕ)) → OfOk (λ _. length words ≡ n) (counted n n words)
 exactly n words = weak (counted n n words) (counted_is n n words) where
   weak : (r : Result (Unit {0}) Cause) → OfOk (λ _. (n ≤ length words) × (length words ≤ n)) r
@@ -231,6 +245,7 @@ over_is b (a ∷ c ∷ d ∷ e ∷ f ∷ g ∷ words) four other =
 
 -- ---- keywords
 
+-- the word with which a line of each kind begins
 abbrev pub keyword_of : Stage → List ℕ
 keyword_of stages.Start = []
 keyword_of stages.Plan = codes "plan"
@@ -261,6 +276,7 @@ key text kind rest h = go (bytes_eq text (keyword_of kind)) refl where
   go true e = is_same text (keyword_of kind) e
   go false e = h
 
+-- a word that is read as a kind of line is the keyword of that kind
 pub line_kind_is : (text : List ℕ) → IfSome (line_kind text) (λ kind. text ≡ keyword_of kind)
 unfolding line_kind
 line_kind_is text =

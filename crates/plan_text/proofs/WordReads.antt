@@ -74,17 +74,21 @@ pub fitting_line : (most : ℕ) (texts : List (List ℕ)) → list_all (fits mos
 fitting_line most texts h r s =
     record { each = all_words most texts h; short = omega (arith, joined_room most texts h, r); begins = s }
 
+-- a number below 10 ^ 10 is a word of at most ten bytes
 pub number_fits : (most n : ℕ) → 10 ≤ most → n < 10 ^ 10 → fits most (decimal n) ≡ true
 number_fits most n m h =
     rw (decimal_is_word n h, is_most (length (decimal n)) most (omega (arith, m, length-decimal_word n h))) refl
 
+-- a name is a word of at most 16 bytes
 pub name_fits : (name : List ℕ) → is_name name ≡ true → fits 16 name ≡ true
 name_fits name h = rw (name_is_word name h, is_most (length name) 16 (length-name name h)) refl
 
+-- the word of a way is a word of at most 16 bytes
 pub way_fits : (way : Way) → fits 16 (way_word way) ≡ true
 way_fits Up = refl
 way_fits Down = refl
 
+-- the word of a lever's kind is a word of at most 16 bytes
 pub kind_fits : (kind : Kind) → fits 16 (kind_word kind) ≡ true
 kind_fits kinds.Signal = refl
 kind_fits kinds.Points = refl
@@ -108,10 +112,12 @@ all_get p (x ∷ names) (suc i) h l = all_get p names i (both (p x) (list_all p 
 pub name_is : (names : List (List ℕ)) (i : ℕ) → AreNames names → i < length names → is_name (name_word names i) ≡ true
 name_is names i are l = all_get is_name names i are.each l
 
+-- the name with a number is a word of at most 16 bytes
 pub name_word_fits : (names : List (List ℕ)) (i : ℕ) → AreNames names → i < length names
     → fits 16 (name_word names i) ≡ true
 name_word_fits names i are l = name_fits (name_word names i) (name_is names i are l)
 
+-- where names differ, the name with a number is read as that number
 pub name_reads : (names : List (List ℕ)) (i : ℕ) → AreNames names → i < length names
     → number_in_names names (name_word names i) ≡ Ok i
 unfolding number_in_names
@@ -119,6 +125,7 @@ name_reads names i are l =
     let at = position-distinct names i (name_word names i) are.differ (slice_get-get_or names i [] l) in
     rw (name_is names i are l, at) refl
 
+-- a name that none of the others has is read as a new name
 pub new_reads : (names : List (List ℕ)) (name : List ℕ) → is_name name ≡ true → list_any (bytes_eq name) names ≡ false
     → new_name names name ≡ Ok name
 unfolding new_name
@@ -126,9 +133,11 @@ new_reads names name good new = rw (good, new) refl
 
 -- ---- places
 
+-- a number of one of these names
 abbrev pub Within : List (List ℕ) → ℕ → Type 0
 Within names i = i < length names
 
+-- the names of places are read as those places
 pub places_read : (names : List (List ℕ)) (front places : List ℕ) → AreNames names → All (Within names) places
     → places_onto names front (place_words names places) ≡ Ok (front ++ places)
 unfolding places_onto
@@ -139,6 +148,7 @@ places_read names front (p ∷ places) are h =
     (places_read names (front ++ p ∷ []) places are (All-tail (Within names) p places h)
     ∙ ap Ok (append_assoc front (p ∷ []) places))
 
+-- each name of a place is a word of at most 16 bytes
 pub places_fit : (names : List (List ℕ)) (places : List ℕ) → AreNames names → All (Within names) places
     → list_all (fits 16) (place_words names places) ≡ true
 places_fit names [] are h = refl
@@ -148,17 +158,20 @@ places_fit names (p ∷ places) are h =
       places_fit names places are (All-tail (Within names) p places h),
     ) refl
 
+-- the names of places take at most 17 bytes each, with the spaces
 pub places_room : (names : List (List ℕ)) (places : List ℕ) → room 16 (place_words names places) ≡ 17 * length places
 places_room names [] = omega arith
 places_room names (p ∷ places) = omega (arith, places_room names places)
 
 -- ---- what stands over places
 
+-- `over` and the names of the places behind it are words of at most 16 bytes
 pub over_fits : (names : List (List ℕ)) (over : List ℕ) → AreNames names → All (Within names) over
     → list_all (fits 16) (over_words names over) ≡ true
 over_fits names [] are h = refl
 over_fits names (p ∷ places) are h = places_fit names (p ∷ places) are h
 
+-- `over` and the places behind it take at most 17 bytes each, with the spaces
 pub over_room : (names : List (List ℕ)) (over : List ℕ) → room 16 (over_words names over) ≤ 17 + 17 * length over
 over_room names [] = omega arith
 over_room names (p ∷ places) = omega (arith, places_room names (p ∷ places))
@@ -169,10 +182,12 @@ more_than_four n h = grind (arith, nat_tests)
 within : (low high n : ℕ) → low ≤ n → n ≤ high → leb low n && leb n high ≡ true
 within low high n a b = grind (arith, nat_tests)
 
+-- a line with as many words as are asked for is taken
 pub counted_reads : (low high : ℕ) (words : List (List ℕ)) → low ≤ length words → length words ≤ high
     → counted low high words ≡ Ok tt
 counted_reads low high words a b = rw (within low high (length words) a b) refl
 
+-- a line of four words with at most four places behind `over` has a number of words that is taken
 pub counted_over_reads : (front : List (List ℕ)) (names : List (List ℕ)) (over : List ℕ) → length front ≡ 4
     → length over ≤ 4 → counted_over (front ++ over_words names over) ≡ Ok tt
 counted_over_reads front names [] four few = rw (append-nil front, four) refl
@@ -187,6 +202,7 @@ counted_over_reads front names (p ∷ over) four few =
     rw (more_than_four (length (front ++ over_words names (p ∷ over))) (omega (arith, n)))
     (counted_reads 6 9 (front ++ over_words names (p ∷ over)) (omega (arith, n)) (omega (arith, n, few)))
 
+-- the places printed behind `over` in a line of a signal are read as those places
 pub over_reads : (b : BoxFields) (w x y z : List ℕ) (over : List ℕ) → AreNames b.places → All (Within b.places) over
     → over_in b (w ∷ x ∷ y ∷ z ∷ over_words b.places over) ≡ Ok over
 unfolding over_in
@@ -198,11 +214,13 @@ over_reads b w x y z (p ∷ over) are h =
 
 -- ---- ways, kinds, ends
 
+-- the word of a way is read as that way
 pub way_reads : (way : Way) → way_in (way_word way) ≡ Ok way
 unfolding way_in
 way_reads Up = refl
 way_reads Down = refl
 
+-- the word of a lever's kind is read as that kind
 pub kind_reads : (kind : Kind) → kind_in (kind_word kind) ≡ Ok kind
 unfolding kind_in
 kind_reads kinds.Signal = refl
@@ -211,6 +229,7 @@ kind_reads kinds.Lock = refl
 kind_reads kinds.Distant = refl
 kind_reads kinds.Spare = refl
 
+-- where a text isn't another, the other isn't the one
 pub swapped : (a b : List ℕ) → bytes_eq a b ≡ false → bytes_eq b a ≡ false
 swapped a b e = go (bytes_eq b a) refl where
   go : (t : Bool) → bytes_eq b a ≡ t → t ≡ false
@@ -229,10 +248,12 @@ none_get p (x ∷ names) (suc i) h l = none_get p names i (second (p x) (list_an
   second true b e = absurd cc
   second false b e = e
 
+-- `away` is read as the end of a signal that leads off the line
 pub away_reads : (names : List (List ℕ)) → end_in names (codes "away") ≡ Ok ends.Away
 unfolding end_in
 away_reads names = refl
 
+-- where no place is called `away`, a place's name is read as the end of a signal that leads there
 pub end_reads : (names : List (List ℕ)) (i : ℕ) → AreNames names → list_any (bytes_eq (codes "away")) names ≡ false
     → i < length names → end_in names (name_word names i) ≡ Ok (ends.Place i)
 unfolding end_in
@@ -243,6 +264,7 @@ end_reads names i are away l =
 
 -- ---- levers
 
+-- levers whose numbers rise, in a frame of at most 120
 pub record IsFrame (levers : List Lever) : Type 0 where
   pub rising : are_rising 0 levers ≡ true
   pub most : frame_size levers ≤ 120
@@ -256,6 +278,7 @@ pub record HasLever (b : BoxFields) (n : ℕ) (kind : Kind) : Type 0 where
   pub low : 1 ≤ n
   pub high : n ≤ 120
 
+-- where a number has a kind in a frame, the box has a lever of that kind there
 pub has_lever : (b : BoxFields) (n : ℕ) (kind : Kind) → IsFrame b.levers → kind_of b n ≡ Some kind → HasLever b n kind
 has_lever b n kind frame e = go (lever_of b n) refl e where
   go : (o : Option Lever) → lever_of b n ≡ o → option_map (λ (l : Lever). l.kind) o ≡ Some kind → HasLever b n kind
@@ -276,11 +299,13 @@ pub lever_reads : (b : BoxFields) (n : ℕ) (kind : Kind) (h : HasLever b n kind
 unfolding lever_in
 lever_reads b n kind h = rw (number_in-decimal 1 120 n h.low h.high (omega (arith, h.high)), h.found) refl
 
+-- the number of a signal lever that no signal has so far is read as that lever
 pub arm_reads : (b : BoxFields) (n : ℕ) → HasLever b n kinds.Signal → is_some (signal_of b n) ≡ false
     → arm_in b (decimal n) ≡ Ok n
 unfolding arm_in
 arm_reads b n h free = rw (lever_reads b n kinds.Signal h, h.is, h.number, free) refl
 
+-- the number of a lever that is no spare one is read as that lever
 pub working_reads : (b : BoxFields) (n : ℕ) (kind : Kind) → HasLever b n kind → is_working (Some kind) ≡ true
     → working_in b (decimal n) ≡ Ok n
 unfolding working_in
@@ -288,6 +313,7 @@ working_reads b n kind h works = rw (lever_reads b n kind h, h.is, works, h.numb
 
 -- ---- rows
 
+-- words joined into a line are those words with a space between each two
 pub joined_same : (words : List (List ℕ)) → joined words ≡ join_with_byte 32 words
 joined_same [] = refl
 joined_same (x ∷ []) = append-nil x

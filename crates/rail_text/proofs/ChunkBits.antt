@@ -93,6 +93,7 @@ printable_or_odd v = go (leb_tells 32 v) (leb_tells v 126) where
 abbrev pub odd_chunk : List ℕ → ℕ
 odd_chunk bytes = bit_or (compared ltb bytes (replicate 16 32)) (compared ltb (replicate 16 126) bytes)
 
+-- of 16 bytes, exactly those have their bits set that may not stand in a line
 pub odd_bits : (bytes : List ℕ) (k v : ℕ) → length bytes ≡ 16 → (k < 16 → get_or bytes k 0 ≡ v)
     → (bit_at (odd_chunk bytes) k ≡ 1) ↔ ((k < 16) × (is_printable v ≡ false))
 odd_bits bytes k v long at = (there, back) where

@@ -92,6 +92,7 @@ space_kept text ends at spaces start empty lt is room h = record {
   gaps = gap_space text at start empty lt is ∙ h.gaps;
 }
 
+-- behind a space whose place isn't kept, as 16 are, the text is cut with one space more
 pub space_only : (text ends : List ℕ) (at spaces start : ℕ) (empty : Bool) → at < length text
     → get_or text at 0 ≡ 32 → 16 ≤ spaces → IsCutUpTo text ends at spaces start empty
     → IsCutUpTo text ends (at + 1) (spaces + 1) (at + 1) (empty || eqb at start)
@@ -117,6 +118,7 @@ ends_kept text ends len spaces start kept empty is h few short all =
           (omega (arith, is, short)) i (omega (arith, lt, all)) (omega (arith, lt, all));
     }
 
+-- where a text of less than 256 bytes has 16 spaces or more, the ends that are kept are those of its first 16 words
 pub ends_full : (text ends : List ℕ) (len spaces start kept : ℕ) (empty : Bool) → length text ≡ len
     → IsCutUpTo text ends len spaces start empty → 16 ≤ spaces → len < 256 → kept ≡ min (spaces + 1) 16
     → AreEnds text ends kept
@@ -126,6 +128,7 @@ ends_full text ends len spaces start kept empty is h full short all = record {
   each = λ i lt. h.each (omega (arith, is, short)) i (omega (arith, lt, all, full)) (omega (arith, lt, all));
 }
 
+-- a list with room for 16 ends, of which none is kept, keeps the ends of no words
 pub ends_none : (text ends : List ℕ) (kept : ℕ) → length ends ≡ 16 → kept ≡ 0 → AreEnds text ends kept
 ends_none text ends kept room none = record {
   room = room;
@@ -146,6 +149,7 @@ pub record AreBits (text : List ℕ) (from at bits : ℕ) : Type 0 where
   pub set : (k : ℕ) → bit_at bits k ≡ 1 → (k < 16) × (at ≤ from + k) × (get_or text (from + k) 0 ≡ 32)
   pub each : (k : ℕ) → k < 16 → at ≤ from + k → get_or text (from + k) 0 ≡ 32 → bit_at bits k ≡ 1
 
+-- bits that are set exactly for the spaces of a chunk tell which of its bytes, from its first on, are spaces
 pub all_bits : (text : List ℕ) (from bits : ℕ)
     → ((k : ℕ) → (bit_at bits k ≡ 1) ↔ ((k < 16) × (get_or text (from + k) 0 ≡ 32))) → AreBits text from from bits
 all_bits text from bits tells = record {

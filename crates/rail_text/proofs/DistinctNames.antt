@@ -37,10 +37,12 @@ are_new-append front (first ∷ names) name =
     ∙ ap (λ (all : List (List ℕ)). (not (list_any (bytes_eq first) front) && are_new (front ++ first ∷ []) names)
     && not (list_any (bytes_eq name) all)) (append_assoc front (first ∷ []) names)
 
+-- where no name stands twice, none does once a name is added that is not there
 pub distinct-append : (names : List (List ℕ)) (name : List ℕ) → are_new [] names ≡ true
     → list_any (bytes_eq name) names ≡ false → are_new [] (names ++ name ∷ []) ≡ true
 distinct-append names name distinct absent = are_new-append [] names name ∙ rw (distinct, absent) refl
 
+-- a list of fewer than 2^32 names of which none stands twice stays one when a name is added that is not there
 pub numbered-append : (names : List (List ℕ)) (name : List ℕ) → AreNumbered names
     → list_any (bytes_eq name) names ≡ false → length names < 2 ^ 32 → AreNumbered (names ++ name ∷ [])
 numbered-append names name old absent few = record {
@@ -85,6 +87,7 @@ first_at front (first ∷ names) (suc i) name new e =
     let there : position_or_len (bytes_eq name) names ≡ i = first_at (front ++ first ∷ []) names i name later e in
     rw (other, there) (omega arith)
 
+-- where no name stands twice, each is found at its own place
 pub position-distinct : (names : List (List ℕ)) (i : ℕ) (name : List ℕ) → are_new [] names ≡ true
     → slice_get names i ≡ Some name → position (bytes_eq name) names ≡ Some i
 position-distinct names i name distinct e =

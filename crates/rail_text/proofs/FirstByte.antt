@@ -30,6 +30,7 @@ cut_first at (b ∷ bs) (suc k) within before here =
 pub first_none : (at : ℕ) (bytes : List ℕ) → IsFirstByte (is_byte at) bytes None → cut_of at bytes ≡ (bytes, None)
 first_none at bytes none = cut_none at bytes none
 
+-- where the byte first stands at k, the text is cut into what is before k and what is behind it
 pub first_some : (at : ℕ) (bytes : List ℕ) (k : ℕ) → IsFirstByte (is_byte at) bytes (Some k)
     → cut_of at bytes ≡ (take k bytes, Some (drop (k + 1) bytes))
 first_some at bytes k some =

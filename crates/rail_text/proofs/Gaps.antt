@@ -40,5 +40,6 @@ gap_is true [] = refl
 gap_is false [] = refl
 gap_is empty (b ∷ bs) = gap_step (eqb b 32) empty b bs (gap_is true bs) (gap_is false bs)
 
+-- looked through byte by byte, a text is found to have an empty word exactly where one of its words is empty
 pub gap_any : (text : List ℕ) → gap true text ≡ list_any is_empty_word (words_of text)
 gap_any text = gap_is true text ∙ sym (any_is (words_of text))

@@ -125,6 +125,7 @@ lines_are {D} read ended n draft (line ∷ lines) =
 abbrev pub IsWords : List ℕ → Type 0
 IsWords text = form_of true (ended_line text) ≡ Ok forms.Words
 
+-- each of the texts stands as a line of words
 abbrev pub AllWords : List (List ℕ) → Type 0
 AllWords [] = Unit {0}
 AllWords (text ∷ texts) = IsWords text × AllWords texts

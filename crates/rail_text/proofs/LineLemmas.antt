@@ -17,6 +17,7 @@ cut-fewer-step : (at : ℕ) (t : Bool) (b : ℕ) (bs rest : List ℕ)
 cut-fewer-step at true b bs rest ih e = let p : bs ≡ rest = cc in omega (arith, ap length p)
 cut-fewer-step at false b bs rest ih e = omega (arith, ih e)
 
+-- what stands behind the first such byte is shorter than the text
 pub cut-fewer : (at : ℕ) (bytes rest : List ℕ) → (cut_of at bytes).1 ≡ Some rest → length rest < length bytes
 cut-fewer at [] rest e = absurd cc
 cut-fewer at (b ∷ bs) rest e = cut-fewer-step at (eqb b at) b bs rest (cut-fewer at bs rest) e
@@ -30,6 +31,7 @@ lines-cut-step : (t : Bool) (b : ℕ) (bs rest : List ℕ)
 lines-cut-step true b bs rest ih e = let p : bs ≡ rest = cc in ap (λ (r : List ℕ). line [] true ∷ lines_of r) p
 lines-cut-step false b bs rest ih e = ap (onto_line b) (ih e)
 
+-- where a text has a line end, its lines are what stands before the first one, and then the lines of the rest
 pub lines-cut : (bytes rest : List ℕ) → (cut_of 10 bytes).1 ≡ Some rest
     → lines_of bytes ≡ line (cut_of 10 bytes).0 true ∷ lines_of rest
 lines-cut [] rest e = absurd cc
@@ -47,6 +49,7 @@ onto-last : (b : ℕ) (bytes : List ℕ) → (cut_of 10 bytes).1 ≡ None
 onto-last b [] e = refl
 onto-last b (a ∷ bs) e = ap (onto_line b) (lines-last-step (eqb a 10) a bs (onto-last a bs) e)
 
+-- a text that has bytes and no line end is one line, without an end
 pub lines-last : (bytes : List ℕ) → 0 < length bytes → (cut_of 10 bytes).1 ≡ None
     → lines_of bytes ≡ line (cut_of 10 bytes).0 false ∷ []
 lines-last [] some e = absurd (omega arith)
@@ -62,6 +65,7 @@ words-cut-step : (t : Bool) (b : ℕ) (bs : List ℕ) → words_of bs ≡ (cut_o
 words-cut-step true b bs ih = refl
 words-cut-step false b bs ih = ap (onto_word b) ih
 
+-- the words of a line are what stands before its first space, and then the words of the rest
 pub words-cut : (bytes : List ℕ) → words_of bytes ≡ (cut_of 32 bytes).0 ∷ words_after (cut_of 32 bytes).1
 words-cut [] = refl
 words-cut (b ∷ bs) = words-cut-step (eqb b 32) b bs (words-cut bs)

@@ -9,6 +9,7 @@ use Rattle.std.proofs.lemmas.List.Quantifiers.{position-Some}
 use Rattle.std.proofs.lemmas.Slice.Eq.{bytes_eq-Decides}
 use Rattle.std.proofs.lemmas.Str.{IsUtf8-nil, IsUtf8-string_bytes}
 
+-- one of the lists of bytes passes a test exactly where one of the texts passes it by its bytes
 pub list_any-names : (p : List ℕ → Bool) (ks : List (String Global))
     → list_any p (map (λ k. string_bytes k) ks) ≡ list_any (λ k. p (string_bytes k)) ks
 list_any-names p [] = refl
@@ -20,6 +21,7 @@ position_or_len-names p [] = refl
 position_or_len-names p (k ∷ ks) =
     ap (λ (n : ℕ). cond (not (p (string_bytes k))) (1 + n) 0) (position_or_len-names p ks)
 
+-- a test first holds among the bytes of the texts at the place where it first holds among the texts
 pub position-names : (p : List ℕ → Bool) (ks : List (String Global))
     → position p (map (λ k. string_bytes k) ks) ≡ position (λ k. p (string_bytes k)) ks
 position-names p ks = rw (position_or_len-names p ks, length-map) refl

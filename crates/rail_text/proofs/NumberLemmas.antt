@@ -9,6 +9,7 @@ use Rattle.std.proofs.lemmas.Bool.Decides.{nat_tests}
 use Rattle.std.proofs.lemmas.Bool.{cases_lt}
 use Rattle.rail_text.specs.Number.{read_on, is_number, number_of, IsPrinted}
 
+-- digits that are read on from 0 make the number that they spell in decimal
 pub own : IsNumeralModel (λ ds. all_ascii_digits ds ≡ true) (read_on 0)
 own = numerals_by_fold _ (search rules) read_on (search rules)
 
@@ -24,6 +25,7 @@ is_number-decimal n small =
           decimal_digit n (omega arith) in let len : length (decimal n) ≡ 1 = ap length one in grind (arith, nat_tests)
     ]
 
+-- a number below 10^10, as it is printed, is read as itself
 pub number_of-decimal : (n : ℕ) → n < 10 ^ 10 → number_of (decimal n) ≡ Some n
 number_of-decimal n small = rw (is_number-decimal n small, digits_value-decimal own n (omega arith)) refl
 
@@ -35,6 +37,7 @@ number_parts : (word : List ℕ) → is_number word ≡ true
     → (0 < length word) × (length word ≤ 10) × (get_or word 0 0 ≡ 48 → length word ≡ 1) × (all_ascii_digits word ≡ true)
 number_parts word e = grind (arith, nat_tests)
 
+-- a word that is read as a number is how that number is printed, and the number is below 10^10
 pub number_of-spelled : (word : List ℕ) (n : ℕ) → number_of word ≡ Some n → (word ≡ decimal n) × (n < 10 ^ 10)
 number_of-spelled word n e =
     let c = chosen_some (is_number word) (read_on 0 word) n e in

@@ -7,10 +7,12 @@ use Rattle.std.proofs.lemmas.List.{append-nil}
 use Rattle.rail_text.specs.Lines.{Line, lines_of, onto_line, words_of, onto_word, lacks, ended_line, printed_line}
 use Rattle.rail_text.specs.Lines.{line_bytes, is_empty_word, are_ended, AreLinesOf, AreWordsOf}
 
+-- a test whose opposite holds doesn't hold
 pub not_true : (b : Bool) → not b ≡ true → b ≡ false
 not_true true e = absurd cc
 not_true false e = refl
 
+-- of two tests that hold together each holds
 pub both : (a b : Bool) → a && b ≡ true → (a ≡ true) × (b ≡ true)
 both true b e = (refl, e)
 both false b e = absurd cc
@@ -25,6 +27,7 @@ lines_of-line (b ∷ bs) rest h =
     let p = both _ _ h in let other : eqb b 10 ≡ false = not_true _ p.0 in
     rw (other, lines_of-line bs rest p.1) refl
 
+-- a text without a line end, as a line is printed, is the first line of what it begins
 pub lines_of-printed_line : (text rest : List ℕ) → lacks 10 text ≡ true
     → lines_of (printed_line text ++ rest) ≡ ended_line text ∷ lines_of rest
 lines_of-printed_line text rest h = ap lines_of (append_assoc text (10 ∷ []) rest) ∙ lines_of-line text rest h
@@ -142,6 +145,7 @@ words_of-word (b ∷ bs) h =
     let p = both _ _ h in let other : eqb b 32 ≡ false = not_true _ p.0 in
     rw (other, words_of-word bs p.1) refl
 
+-- a text without a space, with a space behind it, is the first word of what it begins
 pub words_of-next : (word rest : List ℕ) → lacks 32 word ≡ true → words_of (word ++ 32 ∷ rest) ≡ word ∷ words_of rest
 words_of-next [] rest h = refl
 words_of-next (b ∷ bs) rest h =
@@ -208,6 +212,7 @@ words_single : (text : List ℕ) → list_all (lacks 32) (words_of text) ≡ tru
 words_single [] = refl
 words_single (b ∷ bs) = words_single-step (eqb b 32) b bs refl (words_single bs)
 
+-- the words of a line, with one space between each two, are its text; there is one at least, and none has a space
 pub words_are : (text : List ℕ) → AreWordsOf text (words_of text)
 words_are text = record { whole = joined-words_of text; some = some_words text; single = words_single text }
 

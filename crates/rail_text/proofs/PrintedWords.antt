@@ -14,12 +14,14 @@ use Rattle.rail_text.specs.declared.forms.LineForm.TheVariants as forms
 use Rattle.rail_text.proofs.NumberLemmas.{own, number_of-decimal}
 use Rattle.rail_text.proofs.PrintedLines.{both, not_true, words_of-joined}
 
+-- where each byte of a text passes a test, it passes any weaker one
 pub list_all-weaker : (p q : ℕ → Bool) → ((b : ℕ) → p b ≡ true → q b ≡ true) → (xs : List ℕ) → list_all p xs ≡ true
     → list_all q xs ≡ true
 list_all-weaker p q w [] h = refl
 list_all-weaker p q w (x ∷ xs) h = let e =
     both (p x) (list_all p xs) h in rw (w x e.0, list_all-weaker p q w xs e.1) refl
 
+-- where all bytes of two texts pass a test, so do those of the two in a row
 pub list_all-both : (p : ℕ → Bool) (xs ys : List ℕ) → list_all p xs ≡ true → list_all p ys ≡ true
     → list_all p (xs ++ ys) ≡ true
 list_all-both p [] ys h k = k
@@ -48,9 +50,11 @@ no_line_end b h = grind (arith, nat_tests)
 printable_byte : (b : ℕ) → is_word_byte b ≡ true → is_printable b ≡ true
 printable_byte b h = grind (arith, nat_tests)
 
+-- a word has no space in it
 pub word_lacks_space : (word : List ℕ) → is_word word ≡ true → lacks 32 word ≡ true
 word_lacks_space word h = list_all-weaker is_word_byte (λ b. not (eqb b 32)) no_space word (word_bytes word h)
 
+-- a word has no line end in it
 pub word_lacks_line_end : (word : List ℕ) → is_word word ≡ true → lacks 10 word ≡ true
 word_lacks_line_end word h = list_all-weaker is_word_byte (λ b. not (eqb b 10)) no_line_end word (word_bytes word h)
 
@@ -77,6 +81,7 @@ decimal_is_word n small =
     digits_all (decimal n) (digits_decimal own n (omega arith)) in
     rw (some, bytes) refl
 
+-- a number below 10^10 is printed in at most ten bytes
 pub length-decimal_word : (n : ℕ) → n < 10 ^ 10 → length (decimal n) ≤ 10
 length-decimal_word n small = length-decimal-le 10 n (omega arith) small (omega arith)
 
@@ -94,6 +99,7 @@ name_is_word name h =
     list_all-weaker is_name_byte is_word_byte name_byte_is name (both _ _ h).1 in
     rw (name_some name h, bytes) refl
 
+-- a name has at most 16 bytes
 pub length-name : (name : List ℕ) → is_name name ≡ true → length name ≤ 16
 length-name name h = let few = (both (leb (length name) 16) _ (both _ _ h).0).0 in grind (arith, nat_tests)
 
@@ -108,6 +114,7 @@ printable_joined (word ∷ next ∷ words) h =
     list_all-both is_printable word (32 ∷ join_with_byte 32 (next ∷ words)) (word_printable word p.0)
     (printable_joined (next ∷ words) p.1)
 
+-- words with single spaces between them have no line end in them
 pub joined_lacks_line_end : (words : List (List ℕ)) → list_all is_word words ≡ true
     → lacks 10 (join_with_byte 32 words) ≡ true
 joined_lacks_line_end [] h = refl
@@ -158,6 +165,7 @@ form_of-words skips word words h s few =
 
 -- ---- numbers in a range
 
+-- a number below 10^10 that lies in a range, as it is printed, is read in that range as itself
 pub number_in-decimal : (low high n : ℕ) → low ≤ n → n ≤ high → n < 10 ^ 10 → number_in low high (decimal n) ≡ Ok n
 number_in-decimal low high n l h small =
     let test : leb low n && leb n high ≡ true = grind (arith, nat_tests) in

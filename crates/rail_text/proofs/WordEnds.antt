@@ -131,6 +131,7 @@ pub ruleset span_rules = (span_order, span_words, end_within)
 
 -- ---- byte by byte
 
+-- up to the start of a text stands no space
 pub cut_start : (text : List ℕ) → IsCutTo text 0 0
 cut_start text = record {
   low = omega arith;
@@ -141,6 +142,7 @@ cut_start text = record {
   words = omega arith;
 }
 
+-- up to behind a space stands one space more than before it
 pub cut_space : (text : List ℕ) (at spaces : ℕ) → at < length text → get_or text at 0 ≡ 32 → IsCutTo text at spaces
     → IsCutTo text (at + 1) (spaces + 1)
 cut_space text at spaces lt is h =
@@ -159,6 +161,7 @@ cut_space text at spaces lt is h =
           omega (arith, f, h.words);
     }
 
+-- up to behind a byte that is no space stand as many spaces as before it
 pub cut_other : (text : List ℕ) (at spaces : ℕ) → at < length text → (get_or text at 0 ≡ 32 → ⊥)
     → IsCutTo text at spaces → IsCutTo text (at + 1) spaces
 cut_other text at spaces lt other h =
@@ -180,6 +183,7 @@ cut_other text at spaces lt other h =
           omega (arith, n, h.words);
     }
 
+-- a space that stands behind so many others ends the word of that number
 pub ends_here : (text : List ℕ) (at spaces : ℕ) → at < length text → get_or text at 0 ≡ 32 → IsCutTo text at spaces
     → word_end text spaces ≡ at
 ends_here text at spaces lt is h =
@@ -190,6 +194,7 @@ ends_here text at spaces lt is h =
     ap (word_end text) (sym n) ∙ h.ends 0 ∙ ap (λ (bs : List ℕ). word_end bs 0 + at) e in
     omega (arith, f)
 
+-- at the end of a text, behind so many spaces, ends the word of that number
 pub ends_last : (text : List ℕ) (at spaces : ℕ) → length text ≤ at → at ≤ length text → IsCutTo text at spaces
     → word_end text spaces ≡ length text
 ends_last text at spaces ge le h =
@@ -226,6 +231,7 @@ either_space false e r = refl
 eqb-itself : (n : ℕ) → eqb n n ≡ true
 eqb-itself n = eq-eqb n n refl
 
+-- at a space, it stays the same whether some word is empty: the word that ends there is counted with those before
 pub gap_space : (text : List ℕ) (at start : ℕ) (g : Bool) → at < length text → get_or text at 0 ≡ 32
     → (g || eqb at start) || gap (eqb (at + 1) (at + 1)) (drop (at + 1) text) ≡ g || gap (eqb at start) (drop at text)
 gap_space text at start g lt is =
@@ -235,6 +241,7 @@ gap_space text at start g lt is =
     ∙ either_space g (eqb at start) (gap true (drop (at + 1) text))
     ∙ ap (λ (bs : List ℕ). g || gap (eqb at start) bs) (sym more)
 
+-- at a byte that is no space, it stays the same whether some word is empty, of those before or of what is left
 pub gap_other : (text : List ℕ) (at start : ℕ) (g : Bool) → at < length text → (get_or text at 0 ≡ 32 → ⊥)
     → start ≤ at → g || gap (eqb (at + 1) start) (drop (at + 1) text) ≡ g || gap (eqb at start) (drop at text)
 gap_other text at start g lt other low =
@@ -372,6 +379,7 @@ pub ruleset all_rules = (all_row)
 abbrev pub IsSought : (List ℕ → Bool) → List (List ℕ) → ℕ → Type 0
 IsSought is words i = prefix_len (λ word. not (is word)) words ≡ i + prefix_len (λ word. not (is word)) (drop i words)
 
+-- before the first word, none is sought
 pub sought_start : (is : List ℕ → Bool) (words : List (List ℕ)) → IsSought is words 0
 sought_start is words = omega arith
 
@@ -379,6 +387,7 @@ position_at : (is : List ℕ → Bool) (words : List (List ℕ)) (i : ℕ) → i
     → prefix_len (λ word. not (is word)) words ≡ i → Some i ≡ position is words
 position_at is words i lt e = let there : ltb i (length words) ≡ true = lt-ltb i (length words) lt in rw (e, there) refl
 
+-- where no word before this one is sought and this one is, it is the first that is sought
 pub sought_here : (is : List ℕ → Bool) (words : List (List ℕ)) (i : ℕ) (found : List ℕ) → Some found ≡ slice_get words i
     → true ≡ is found → IsSought is words i → Some i ≡ position is words
 sought_here is words i found at same h =
@@ -389,6 +398,7 @@ sought_here is words i found at same h =
     prefix_len-drop_no (λ word. not (is word)) words i found lt stops in
     position_at is words i lt (omega (arith, h, none))
 
+-- where neither this word nor one before it is sought, none is before the next
 pub sought_on : (is : List ℕ → Bool) (words : List (List ℕ)) (i : ℕ) (found : List ℕ) → Some found ≡ slice_get words i
     → false ≡ is found → IsSought is words i → IsSought is words (i + 1)
 sought_on is words i found at other h =
@@ -400,16 +410,19 @@ sought_on is words i found at other h =
     prefix_len-drop_yes (λ word. not (is word)) words i found lt goes in
     omega (arith, h, one)
 
+-- no place below the number of the words is without a word
 pub not_there : {X : Type 0} (words : List (List ℕ)) (i : ℕ) → None ≡ slice_get words i → i < length words → X
 not_there words i none lt =
     let there : slice_get words i ≡ Some (get_or words i []) = slice_get-get_or words i [] lt in
     absurd cc
 
+-- so many words in a row are so many, where the line has them all
 pub length_of_row : (self words : List (List ℕ)) (from count : ℕ) → self ≡ take count (drop from words)
     → from + count ≤ length words → count ≡ length self
 length_of_row self words from count is there =
     row_count words from count there ∙ ap (λ (ws : List (List ℕ)). length ws) (sym is)
 
+-- where none of the words is sought, none is found
 pub sought_never : (is : List ℕ → Bool) (words : List (List ℕ)) (i : ℕ) → length words ≤ i → i ≤ length words
     → IsSought is words i → None ≡ position is words
 sought_never is words i ge le h =

@@ -58,6 +58,7 @@ side_first plan es b side within = record {
   shown = opening_shows plan b (opposite side) within;
 }
 
+-- before the first entry the marks of a box are the opening ones
 pub box_first : (plan : PlanFields) (es : List Entry) (b : ℕ) → b < length plan.boxes
     → HasMarks plan es b 0 opening_marks
 box_first plan es b within Up = side_first plan es b Up within
@@ -99,6 +100,7 @@ shows_then plan es i e way before h shown =
     ∙ sym (step_shows way plan state e.box_no e.call within)
     ∙ ap (λ (s : LineState). shown_in way (box_at s e.box_no)) (sym h.state)
 
+-- behind an entry of a box its marks are those before, moved on by what was done
 pub marks_of_box : (plan : PlanFields) (es : List Entry) (i : ℕ) (e : Entry) (marks : ByWay SideMarks)
     → IsEntryAt plan es i e → HasMarks plan es e.box_no i marks
     → HasMarks plan es e.box_no (i + 1) (marks_after plan (deed_of plan e) marks)
@@ -108,6 +110,7 @@ marks_of_box plan es i e marks h has Down =
     marks_here plan es Down i e marks.down h.at (shows_then plan es i e Up marks.down.shown h (has Down).shown)
     (has Down)
 
+-- an entry of another box leaves the marks of a box as they are
 pub marks_of_other : (plan : PlanFields) (es : List Entry) (i : ℕ) (e : Entry) (b : ℕ) (marks : ByWay SideMarks)
     → IsEntryAt plan es i e → e.box_no ≢ b → HasMarks plan es b i marks → HasMarks plan es b (i + 1) marks
 marks_of_other plan es i e b marks h other has side =

@@ -23,6 +23,7 @@ pub record IsAudited (plan : PlanFields) (es : List Entry) (judge : JudgeFields)
     pub legal : IsLegal plan es
     pub has : HasAudited plan es auditor
 
+-- the auditor has audited these entries, as long as the judge has found them legal
 abbrev pub IsAuditing : PlanFields → List Entry → JudgeFields → AuditorFields → Type 0
 IsAuditing plan es judge auditor = judge.verdict ≡ Legal → IsAudited plan es judge auditor
 

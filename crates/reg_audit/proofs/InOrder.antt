@@ -87,6 +87,7 @@ rules_rise i j d less lt =
 
 -- ---- the breaches by one entry
 
+-- the breach of a rule by entry k
 abbrev pub breach_by : ℕ → Rule → Breach
 breach_by k rule = record { entry = k; rule = rule }
 

@@ -15,6 +15,7 @@ pub scripts_there : (plan : PlanFields) (scripts : List Script) (texts : List Na
     → IsAccount plan scripts texts rehearsal → length scripts ≡ length plan.boxes
 scripts_there plan scripts texts rehearsal h = sym (roster-length scripts rehearsal.made.items) ∙ h.way.left.each
 
+-- there is a text for each box of the plan
 pub texts_there : (plan : PlanFields) (scripts : List Script) (texts : List NamedText) (rehearsal : Rehearsal)
     → IsAccount plan scripts texts rehearsal → length texts ≡ length plan.boxes
 texts_there plan scripts texts rehearsal h = h.each ∙ scripts_there plan scripts texts rehearsal h

@@ -21,6 +21,7 @@ pub record AreCounted (boxes : ℕ) (es : List Entry) (i : ℕ) (counts numbers 
   pub each : length numbers ≡ i
   pub at : (k : ℕ) (e : Entry) → k < i → slice_get es k ≡ Some e → get_or numbers k 0 ≡ number_at es e.box_no k
 
+-- before the first entry, no box has a call and no entry a number
 pub counting_begins : (boxes : ℕ) (es : List Entry) (counts numbers : List ℕ) → counts ≡ replicate boxes 0
     → numbers ≡ [] → AreCounted boxes es 0 counts numbers
 counting_begins boxes es counts numbers none new =
@@ -107,6 +108,7 @@ count_fits boxes es i d counts numbers n lt all h read =
     let few = counted_few boxes es i e.box_no counts numbers h small (omega arith) in
     omega (arith, few, get_or_read counts e.box_no n (omega (arith, small, h.room)) read 0)
 
+-- when all entries are counted, their numbers tell which call of its script each of them is
 pub counted_all : (boxes : ℕ) (es : List Entry) (i : ℕ) (counts numbers : List ℕ)
     → AreCounted boxes es i counts numbers → i ≡ length es → AreNumbers es numbers
 counted_all boxes es i counts numbers h all =

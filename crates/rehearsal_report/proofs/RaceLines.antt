@@ -47,6 +47,7 @@ begins_so plan texts journal es race d first_number second_number is within h k 
     ) refl)
     first_number second_number h k
 
+-- the line of a race names the call of its second entry, then that of its first, and ends with a sentence
 pub race_put : (plan : PlanFields) (texts : List NamedText) (journal es : List Entry) (race : Race) (d : Entry)
     (first_number second_number : ℕ) (sentence old middle new : List ℕ) → es ≡ journal
     → IsWithin (length journal) race

@@ -39,6 +39,7 @@ next_spelled plan es b call is few legal may =
     let all = legal_spelled plan (es ++ e ∷ []) is (omega (arith, longer)) (history_grows plan es b call legal may) in
     (All-pop (IsSpelled plan) (es ++ e ∷ []) es (Some e) refl all).1
 
+-- of a rehearsal of a plan's line, with a text for each script, all can be told
 pub account_made : (plan : PlanFields) (scripts : List Script) (texts given : List NamedText) (rehearsal : Rehearsal)
     → IsPlan plan → AreScriptsOf plan scripts
     → IsUnderWay plan scripts rehearsal.made.items rehearsal.line

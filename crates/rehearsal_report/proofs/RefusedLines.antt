@@ -58,6 +58,7 @@ refused_here plan texts journal es at d numbers is lt h this =
 
 -- ---- how many there are
 
+-- with one line told, one more is told and one fewer is still to come
 pub counted_here : (many : ℕ) (row : Told) (rows rest : List Told) (whole : ℕ) → rows ≡ row ∷ rest
     → many + length rows ≡ whole → (many + 1) + length rest ≡ whole
 counted_here many row rows rest whole is so = omega (arith, ap (λ (xs : List Told). length xs) is, so)
@@ -71,6 +72,7 @@ counted_all plan texts journal at many whole le so =
 
 -- ---- they are put one after another
 
+-- a line told, and those behind it told there, are the lines told in turn
 pub reports_here : (row : Told) (rows rest : List Told) (old middle new : List ℕ) → rows ≡ row ∷ rest
     → Tells row old middle → Reports rest middle new → Reports rows old new
 reports_here row rows rest old middle new is tells more =

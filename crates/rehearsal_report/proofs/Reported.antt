@@ -6,6 +6,7 @@ use Rattle.rehearsal_report.specs.Reports.{IsSentence, PutsBlanks, PutsPair, Rep
 use Rattle.rehearsal_report.specs.Reports.{Tells, Told}
 use Rattle.rehearsal_report.specs.Reports.Told.{Because, Row, Said, Whole}
 
+-- a line that is told is a report of that line alone
 pub reports_one : (told : Told) (old new : List ℕ) → Tells told old new → Reports (told ∷ []) old new
 reports_one told old new h = (new, h, refl)
 

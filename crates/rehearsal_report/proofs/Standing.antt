@@ -77,6 +77,7 @@ stands_done plan state b made calls e head =
 
 -- ---- the first that is free
 
+-- a box that may not go on is passed over in the search for the lowest that may
 pub not_free : (plan : PlanFields) (scripts : List Script) (rehearsal : Rehearsal) (i : ℕ) → i < length scripts
     → is_free (standing_at plan scripts rehearsal i) ≡ false
     → free_from plan rehearsal.line.line (left_in scripts rehearsal) i
@@ -98,6 +99,7 @@ is_one plan scripts rehearsal i lt e same =
     (sym (free_is plan rehearsal.line.line i _ (calls_left left i)) ∙ e) in
     ap (λ (o : Option ℕ). is_some o) (sym found ∙ same)
 
+-- where the search has come behind the last box, no box may go on
 pub is_none_free : (plan : PlanFields) (scripts : List Script) (rehearsal : Rehearsal) (i : ℕ) → length scripts ≤ i
     → free_from plan rehearsal.line.line (left_in scripts rehearsal) i
     ≡ free_from plan rehearsal.line.line (left_in scripts rehearsal) 0
@@ -110,6 +112,7 @@ is_none_free plan scripts rehearsal i le same =
 
 -- ---- the lines of all boxes
 
+-- the line of the next box stands behind those told, and those of the boxes behind it are still to come
 pub rows_more : (plan : PlanFields) (scripts : List Script) (texts : List NamedText) (rehearsal : Rehearsal) (i : ℕ)
     (row : Told) (rows more whole : List Told) → i < length scripts
     → rows ++ standing_rows plan texts rehearsal i (drop i (left_in scripts rehearsal)) ≡ whole
@@ -123,6 +126,7 @@ rows_more plan scripts texts rehearsal i row rows more whole lt so is push =
     ∙ ap (λ (r : Told). rows ++ r ∷ rest) is
     ∙ ap (λ (xs : List (List Call)). rows ++ standing_rows plan texts rehearsal i xs) (sym here) ∙ so
 
+-- behind the last box, the lines told are all
 pub rows_all : (plan : PlanFields) (scripts : List Script) (texts : List NamedText) (rehearsal : Rehearsal) (i : ℕ)
     (rows whole : List Told) → length scripts ≤ i
     → rows ++ standing_rows plan texts rehearsal i (drop i (left_in scripts rehearsal)) ≡ whole → rows ≡ whole

@@ -39,17 +39,21 @@ use Rattle.instrument_rule.proofs.Doing.{caller_held}
 use Rattle.instrument_rule.proofs.Parts.{eqb_no, eqb_yes, own_box, part_grows}
 use Rattle.rule_tests.specs.Hands.{Knows, rung_after}
 
+-- a call at 00:00 that rings a code towards the down side
 abbrev pub ring_call : ℕ → Call
 ring_call code = record { moment = 0; act = acts.Ring Down code }
 
+-- a call at 00:00 that hears the bell of a side
 abbrev pub hear_call : Way → Call
 hear_call side = record { moment = 0; act = acts.Hear side }
 
+-- a call at 00:00 that awaits a code on the bell of a side
 abbrev pub await_call : Way → ℕ → Call
 await_call side code = record { moment = 0; act = acts.AwaitBell side code }
 
 -- ---- what a call needs
 
+-- a seat that holds a box and has fewer than 10000 entries, all at 00:00, may make each call that the plan knows
 pub may_step : (plan : PlanFields) (v : View) (r n b : ℕ) (call : Call) → Knows plan v r n → caller_of v.posts ≡ b
     → n < 10000 → KnowsCall plan b call → MayStep plan call v
 may_step plan v r n b call k whose few known = record {
@@ -159,6 +163,7 @@ module _ (plan : PlanFields) (is : IsPlan plan) (v : View) (r n : ℕ) (k : Know
 
 -- ---- by the bell
 
+-- numbers that are tested equal are equal
 pub same_number : (m n : ℕ) → (m == n) ≡ true → m ≡ n
 same_number m n h = elim (eqb_tells m n) [ inl t ↦ t.1 | inr t ↦ (let e = t.0 in absurd cc) ]
 
@@ -273,6 +278,7 @@ module _ (plan : PlanFields) (is : IsPlan plan) (v : View) (r n : ℕ) (k : Know
 
 -- ---- a box that was drawn and has done nothing
 
+-- a seat that had seen nothing and has drawn a box knows that it has rung no code and has no entry
 pub fresh : (plan : PlanFields) (v : View) (b : ℕ) → Sits plan v → v.posts ≡ [] → v.seen ≡ [] → b < length plan.boxes
     → Knows plan (with_post v b) 0 0
 fresh plan v b sits free seen within = record {

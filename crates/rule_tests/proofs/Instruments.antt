@@ -47,9 +47,11 @@ use Rattle.instrument_rule.specs.Views.{caller_of, with_post}
 use Rattle.rule_tests.specs.Instruments.{Fresh, Given, IsAbsolute, IsFreeStarter}
 use Rattle.rule_tests.proofs.Hands.{fresh, made, same_own}
 
+-- a call at 00:00 that turns the down instrument to a position
 abbrev pub turn_call : Position → Call
 turn_call position = record { moment = 0; act = acts.Turn Down position }
 
+-- a call at 00:00 that pulls a lever
 abbrev pub pull_call : ℕ → Call
 pull_call lever = record { moment = 0; act = acts.Pull lever }
 
@@ -67,6 +69,7 @@ none_standing n (place ∷ places) =
     ap (λ (t : Option ℕ). standing_at t place (first_standing (replicate n None) places)) (all_one n place None)
     ∙ none_standing n places
 
+-- where a seat that had seen nothing has drawn a box, that box has done nothing
 pub drawn : (plan : PlanFields) (v : View) (b : ℕ) → Sits plan v → v.posts ≡ [] → v.seen ≡ []
     → b < length plan.boxes → Fresh plan (with_post v b)
 drawn plan v b sits free seen within = record {
@@ -209,6 +212,7 @@ pull_decided plan bp trains here lever rows kind leads opens =
     (subst (λ (h : BoxState). pull_refusal bp h lever ≡ None) (sym opens) (pull_free trains bp lever rows kind))
     ∙ ap (pull_at here (pulled here lever (signal_of bp lever))) leads
 
+-- in a box that has done nothing, a pull of a free starter first pulls under the down instrument
 pub fits_pull : (plan : PlanFields) (v : View) (lever : ℕ) → Fresh plan v → IsFreeStarter plan (caller_of v.posts) lever
     → OpFits plan (caller_of v.posts) (pull_call lever) (ops.Pull Down) v
 fits_pull plan v lever f s = inl

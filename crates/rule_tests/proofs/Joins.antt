@@ -35,6 +35,8 @@ still_fresh plan is v u f sits holds caller seen legal = record {
 legal_for : (plan : PlanFields) (u : View) → u.plan ≡ Some plan → LegalFor u.plan u.seen → IsLegal plan u.seen
 legal_for plan u its legal = subst (λ (o : Option PlanFields). LegalFor o u.seen) its legal
 
+-- where a post that holds no box takes in one whose box has done nothing, that box calls from it, and has done
+-- nothing still
 pub over : (plan : PlanFields) → IsPlan plan → (v w u : View) → Sits plan v → v.posts ≡ [] → Fresh plan w
     → u ≡ settled (both_views v w) → Seen u.seen w.posts w.seen → LegalFor u.plan u.seen
     → Fresh plan u × (caller_of u.posts ≡ caller_of w.posts)
@@ -55,6 +57,7 @@ some_stays : (bs cs : List ℕ) → bs ≢ [] → bs ++ cs ≢ []
 some_stays [] cs some e = absurd (some refl)
 some_stays (b ∷ bs) cs some e = absurd cc
 
+-- where a post whose box has done nothing takes in another, its box calls from it still, and has done nothing still
 pub beside : (plan : PlanFields) → IsPlan plan → (v w u : View) → Fresh plan v
     → u ≡ settled (both_views v w) → Seen u.seen v.posts v.seen → LegalFor u.plan u.seen
     → Fresh plan u × (caller_of u.posts ≡ caller_of v.posts)

@@ -49,12 +49,15 @@ use Rattle.rule_tests.specs.Instruments.{Fresh, IsAbsolute}
 use Rattle.rule_tests.specs.Sections.{IsStanding, IsStarter, IsWaiting, Stands, Waits}
 use Rattle.rule_tests.proofs.Hands.{made, may_step, same_own, saw}
 
+-- a call at 00:00 that brings a train to the box
 abbrev pub bring_call : ℕ → Call
 bring_call train = record { moment = 0; act = acts.Bring train }
 
+-- a call at 00:00 by which a train passes the signal of a lever at danger
 abbrev pub overrun_call : ℕ → Call
 overrun_call lever = record { moment = 0; act = acts.Overrun lever }
 
+-- a call at 00:00 by which a train of the down line comes into its berth
 abbrev pub berth_call : Call
 berth_call = record { moment = 0; act = acts.Berth Down }
 
@@ -79,6 +82,7 @@ kind_unless : (refusal : Option Reply) (here after : BoxState) (reply : Reply)
 kind_unless None here after reply = refl
 kind_unless (Some r) here after reply = refl
 
+-- the operation of a call that brings a train is on the box's own tally
 pub fits_bring : (plan : PlanFields) (v : View) (train : ℕ)
     → OpFits plan (caller_of v.posts) (bring_call train) ops.Local v
 fits_bring plan v train = inl (ap (λ (k : WordKind). first_on k ops.Local) (kind_unless _ _ _ Brought))

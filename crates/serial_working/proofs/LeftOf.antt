@@ -27,6 +27,7 @@ left-set (calls ∷ scripts) (count ∷ made) zero n e lt = refl
 left-set (calls ∷ scripts) (count ∷ made) (suc b) n e lt =
     ap (λ (rest : List (List Call)). drop count calls ∷ rest) (left-set scripts made b n (omega arith) (omega arith))
 
+-- the calls at a box's number are those of its script
 pub calls-at : (scripts : List Script) (b : ℕ) (d : Script) → b < length scripts
     → get_or (calls_of_scripts scripts) b [] ≡ (get_or scripts b d).calls
 calls-at [] b d lt = absurd (omega arith)
@@ -61,10 +62,12 @@ left_first (calls ∷ scripts) (suc n) = ap (λ (rest : List (List Call)). calls
 
 -- ---- of the scripts of a line
 
+-- there are as many lists of what is left as scripts
 pub roster-length : (scripts : List Script) (made : List ℕ)
     → length (left_of (calls_of_scripts scripts) made) ≡ length scripts
 roster-length scripts made = length-left (calls_of_scripts scripts) made ∙ length-map scripts (λ script. script.calls)
 
+-- what is left of a box's script are its calls behind those made
 pub roster-at : (scripts : List Script) (made : List ℕ) (b : ℕ) (d : Script) → length made ≡ length scripts
     → b < length scripts
     → calls_left (left_of (calls_of_scripts scripts) made) b ≡ drop (get_or made b 0) (get_or scripts b d).calls
@@ -73,6 +76,7 @@ roster-at scripts made b d e lt =
     left-at (calls_of_scripts scripts) made b (omega arith) (omega arith)
     ∙ ap (drop (get_or made b 0)) (calls-at scripts b d lt)
 
+-- where a box's count of calls made is set, the calls behind that many are left of its script
 pub roster-set : (scripts : List Script) (made : List ℕ) (b n : ℕ) (d : Script) → length made ≡ length scripts
     → b < length scripts
     → left_of (calls_of_scripts scripts) (set made b n)
@@ -83,6 +87,7 @@ roster-set scripts made b n d e lt =
     ∙ ap (λ (calls : List Call). set (left_of (calls_of_scripts scripts) made) b (drop n calls))
     (calls-at scripts b d lt)
 
+-- where no call is made, the whole scripts are left
 pub roster-first : (scripts : List Script) (n : ℕ)
     → left_of (calls_of_scripts scripts) (replicate n 0) ≡ calls_of_scripts scripts
 roster-first scripts n = left_first (calls_of_scripts scripts) n

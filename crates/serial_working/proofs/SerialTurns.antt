@@ -21,10 +21,12 @@ use Rattle.serial_working.specs.Rosters.{AreFewCalls, TakesCall, calls_of_script
 use Rattle.text_fetch.specs.Runs.{AreScriptsOf}
 use Rattle.serial_working.specs.Serial.{Turns, rest_of}
 
+-- the box that calls next has a script
 pub box_there : (plan : PlanFields) (state : LineState) (left : List (List Call)) (b : ℕ)
     → next_box plan state left ≡ Some b → b < length left
 box_there plan state left b e = let has = next_has plan state left b e in has_box left b has.call has.rest has.is
 
+-- the box that calls next has a call left
 pub call_there : (plan : PlanFields) (state : LineState) (left : List (List Call)) (b : ℕ)
     → next_box plan state left ≡ Some b → 0 < length (calls_left left b)
 call_there plan state left b e = let has = next_has plan state left b e in rw has.is (omega arith)
@@ -47,6 +49,7 @@ rest_goes_on : (plan : PlanFields) (state : LineState) (left : List (List Call))
 unfolding serial_from
 rest_goes_on plan state left n b call calls next is = rw (next, is) refl
 
+-- the answered call of the box that calls next is the next entry of the serial order
 pub turns : (plan : PlanFields) (old new : LineState) (left after : List (List Call)) (b : ℕ) (call : Call)
     (reply : Reply) → next_box plan old left ≡ Some b → TakesCall left after b call
     → step plan old b call ≡ record { reply = reply; after = new }
@@ -64,6 +67,7 @@ turns plan old new left after b call reply next takes told =
       fewer = fewer;
     }
 
+-- a box's next call leaves the boxes with calls that they may make in turn
 pub left_after : (plan : PlanFields) (plain : PlainState) (new : LineState) (left after : List (List Call)) (b : ℕ)
     (call : Call) (reply : Reply) → IsLineOf plan plain → AreLeft plan plain.line left → TakesCall left after b call
     → step plan plain.line b call ≡ record { reply = reply; after = new } → AreLeft plan new after
@@ -89,6 +93,7 @@ script_at plan scripts b h = go scripts b (h.own b) where
   go (script ∷ xs) zero own = (own script refl).calls
   go (script ∷ xs) (suc i) own = go xs i own
 
+-- the scripts of a line are calls that each of its boxes may make in turn from the start of the day
 pub scripts_are : (plan : PlanFields) (scripts : List Script) → AreScriptsOf plan scripts
     → AreScripts plan (calls_of_scripts scripts)
 scripts_are plan scripts h =
@@ -97,6 +102,7 @@ scripts_are plan scripts h =
 no_script : Script
 no_script = record { box_no = 0; calls = [] }
 
+-- no script of a line has more calls than a script may have
 pub scripts_few : (plan : PlanFields) (scripts : List Script) → AreScriptsOf plan scripts → AreFewCalls scripts
 scripts_few plan scripts h =
     All-from_get_or (λ (script : Script). length script.calls ≤ most_calls) scripts no_script
@@ -106,6 +112,7 @@ scripts_few plan scripts h =
       there (x ∷ xs) zero lt = refl
       there (x ∷ xs) (suc b) lt = there xs b (omega arith)
 
+-- a plan has at most 64 boxes
 pub boxes_few : (plan : PlanFields) → IsPlan plan → length plan.boxes ≤ 64
 boxes_few plan h = go (eqb plan.version 1) h.most where
   go : (b : Bool) → length plan.boxes ≤ cond b 32 64 → length plan.boxes ≤ 64

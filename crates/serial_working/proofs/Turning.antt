@@ -22,11 +22,13 @@ pub left_here : (scripts : List Script) (made : List ℕ) (b : ℕ) (script : Sc
 left_here scripts made b script lent h =
     roster-at scripts made b script h.counts h.within ∙ ap (drop (get_or made b 0)) (sym h.calls)
 
+-- the call found behind those that a box has made is the next that it has left
 pub next_is : (scripts : List Script) (made : List ℕ) (b : ℕ) (script : Script) (lent : List Call) (found : Option Call)
     → IsScriptAt scripts made b script lent → found ≡ head_of (drop (get_or made b 0) lent)
     → found ≡ head_of (calls_left (left_of (calls_of_scripts scripts) made) b)
 next_is scripts made b script lent found h e = e ∙ ap head_of (sym (left_here scripts made b script lent h))
 
+-- a box that has a call left has made fewer calls than its script has
 pub more_left : (scripts : List Script) (made : List ℕ) (b : ℕ) (script : Script) (lent : List Call)
     → IsScriptAt scripts made b script lent → 0 < length (calls_left (left_of (calls_of_scripts scripts) made) b)
     → get_or made b 0 < length lent
@@ -35,6 +37,7 @@ more_left scripts made b script lent h some =
     let same = ap length (left_here scripts made b script lent h) in
     omega arith
 
+-- a box's script has no more calls than a script may have
 pub few_lent : (scripts : List Script) (made : List ℕ) (b : ℕ) (script : Script) (lent : List Call)
     → IsScriptAt scripts made b script lent → AreFewCalls scripts → length lent ≤ most_calls
 few_lent scripts made b script lent h few =
@@ -42,6 +45,7 @@ few_lent scripts made b script lent h few =
     let same : length lent ≡ length (get_or scripts b script).calls = ap length h.calls in
     omega arith
 
+-- where a box makes the call behind those that it has made, it has taken that call of what is left
 pub takes : (scripts : List Script) (made : List ℕ) (b : ℕ) (script : Script) (lent : List Call) (call : Call)
     → IsScriptAt scripts made b script lent → drop (get_or made b 0) lent ≡ call ∷ drop (get_or made b 0 + 1) lent
     → TakesCall (left_of (calls_of_scripts scripts) made)

@@ -47,6 +47,7 @@ asks_none texts other none asks = go (takes program texts) none asks where
 
 -- ---- what is told
 
+-- where the fault of a command is told, it is told of the words that are this command
 pub fault_asked : (held : Held) (counts : FaultCounts) (texts : List Text) (command : Command)
     (old new : Option (List ℕ)) (before now : ℕ)
     → command_of texts ≡ Some command → FaultIsTold held counts (Some command) old new before now
@@ -56,6 +57,7 @@ fault_asked held counts texts command old new before now is told = go (takes pro
   go true = rw is told
   go false = tt
 
+-- of words that clap doesn't take, or that are no command, no fault is to be told
 pub fault_of_none : (held : Held) (counts : FaultCounts) (texts : List Text) (old new : Option (List ℕ))
     (before now : ℕ) → ¬ (takes program texts ≡ true) ⊎ (command_of texts ≡ None)
     → FaultIsTold held counts (asked texts) old new before now

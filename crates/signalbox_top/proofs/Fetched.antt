@@ -8,6 +8,7 @@ whole all bytes is few =
     let count : length bytes ≡ min (4294967294 + 1) (length all) = ap length is ∙ length-take (4294967294 + 1) all in
     is ∙ take_all (4294967294 + 1) all (omega arith)
 
+-- a text of which no more bytes come than the limit is given whole
 pub whole_held : (held : Option (List ℕ)) (bytes : List ℕ)
     → IfSome held (λ all. bytes ≡ take (4294967294 + 1) all) → length bytes ≤ 4294967294
     → IfSome held (λ all. bytes ≡ all)

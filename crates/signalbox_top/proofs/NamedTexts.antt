@@ -21,6 +21,7 @@ next_text (name ∷ names) (text ∷ texts) d (suc i) lt le =
     ap (λ (xs : List NamedText). text_of name text ∷ xs)
     (next_text names texts d i (omega (arith, lt)) (omega (arith, le)))
 
+-- the first texts under their names, and the next, are those of one name more
 pub text_pushed : (names : List (Bor (List ℕ))) (texts : List (Vec ℕ)) (done : List NamedText) (i : ℕ)
     (none : Bor (List ℕ)) (d : Vec ℕ) (bytes : List ℕ)
     → done ≡ take i (named_texts (map (λ name. name.now) names) texts) → bytes ≡ (get_or texts i d).items
@@ -41,6 +42,7 @@ few_named [] texts = omega arith
 few_named (name ∷ names) [] = omega arith
 few_named (name ∷ names) (text ∷ texts) = omega (arith, few_named names texts)
 
+-- where no name is left, all texts stand under their names
 pub all_named : (names : List (List ℕ)) (texts : List (Vec ℕ)) (done : List NamedText) (i : ℕ)
     → done ≡ take i (named_texts names texts) → length names ≤ i → done ≡ named_texts names texts
 all_named names texts done i so_far le =

@@ -29,6 +29,8 @@ short_beginning : (es all : List Entry) → IsPrefix es all → length es ≤ le
 short_beginning es all h =
     let whole = ap (λ (xs : List Entry). length xs) h.1 in omega (arith, whole, length-append es h.0)
 
+-- each entry of a legal history that begins the journal of a line's scripts, made one call at a time, can be
+-- spelled
 pub journal_spelled : (plan : PlanFields) (scripts : List Script) (es : List Entry) → IsPlan plan
     → AreScriptsOf plan scripts → IsLegal plan es → IsPrefix es (serial_journal plan (calls_of_scripts scripts))
     → All (IsSpelled plan) es
@@ -36,6 +38,7 @@ journal_spelled plan scripts es is own legal begins =
     let short = short_beginning es (serial_journal plan (calls_of_scripts scripts)) begins in
     legal_spelled plan es is (omega (arith, short, entries_few plan scripts is own)) legal
 
+-- each entry that can be spelled is of a box of the line
 pub entries_there : (plan : PlanFields) (es : List Entry) → All (IsSpelled plan) es
     → All (λ e. e.box_no < length plan.boxes) es
 entries_there plan es h = All-weaker (IsSpelled plan) (λ (e : Entry). e.box_no < length plan.boxes) (λ e k. k.box) es h
@@ -51,6 +54,7 @@ race_within plan es race (inr seen) =
     let second = slice_get_within es race.second seen.turned.second seen.turned.second_at in
     record { first = omega (arith, second, seen.turned.earlier); second = second }
 
+-- both entries of each race of a journal are among its entries
 pub races_within : (plan : PlanFields) (es : List Entry) (races : List Race) → AreRaces plan es races
     → All (IsWithin (length es)) races
 races_within plan es races are =
@@ -59,6 +63,7 @@ races_within plan es races are =
 
 -- ---- texts
 
+-- where there are as many texts as names, as many texts stand under their names
 pub named_length : (names : List (List ℕ)) (texts : List (Vec ℕ)) → length names ≡ length texts
     → length (named_texts names texts) ≡ length texts
 named_length [] [] e = refl
@@ -66,6 +71,7 @@ named_length [] (text ∷ texts) e = absurd (omega (arith, e))
 named_length (name ∷ names) [] e = absurd (omega (arith, e))
 named_length (name ∷ names) (text ∷ texts) e = omega (arith, named_length names texts (omega (arith, e)))
 
+-- scripts of few enough bytes to be fetched have fewer than 2^32 bytes under their names too
 pub texts_short : (names : List (List ℕ)) (texts : List (Vec ℕ))
     → All (λ text. length text.items ≤ most_script_bytes + 1) texts
     → All (λ text. length text.bytes < 2 ^ 32) (named_texts names texts)

@@ -69,6 +69,7 @@ unbroken false all broken object conds o c = rw (o, c) (of_morgan all broken)
     of_morgan false true = refl
     of_morgan false false = refl
 
+-- a row's bridle is seated exactly where the row holds
 pub seated_bridle : (places : LeverPlace) (row : Row) (number : ℕ)
     → seated places (bridle_of row number) ≡ row_holds places row
 seated_bridle places row number =
@@ -76,6 +77,7 @@ seated_bridle places row number =
     (has_notch (object_notches row.kind) (places row.object)) (list_any (lies_in places) (map cond_dog row.when))
     (object_lies row.kind (places row.object)) (conds_lie places row.when)
 
+-- the bridles of a table are seated exactly where their rows hold
 pub seated_rows : (places : LeverPlace) (from : ℕ) (rows : List Row)
     → map (seated places) (compiled from rows) ≡ map (row_holds places) rows
 seated_rows places from [] = refl
@@ -107,6 +109,8 @@ allowed : (a b : Bool) → (IsTrue a → IsTrue b) → (a && b) ≡ a
 allowed true b h = h refl
 allowed false b h = refl
 
+-- where it is enough that bridles are seated with a lever at mid, a row lets the lever move exactly where it holds
+-- with the lever at mid
 pub allows_mid : MidIsEnough → (ends : List End) (lever : ℕ) (row : Row)
     → row_allows ends lever row ≡ row_holds (stand_of ends lever AtMid) row
 allows_mid enough ends lever row =
@@ -120,6 +124,7 @@ same_test : MidIsEnough → (ends : List End) (lever from : ℕ) (row : Row)
 same_test enough ends lever from row =
     seated_bridle (stand_of ends lever AtMid) row from ∙ sym (allows_mid enough ends lever row)
 
+-- by the bridles of a table, the same holds a lever as by its rows
 pub holder_compiled : MidIsEnough → (ends : List End) (lever from : ℕ) (rows : List Row)
     → first_holder (stand_of ends lever AtMid) lever (compiled from rows) ≡ table.first_holder ends lever from rows
 holder_compiled enough ends lever from [] = refl
@@ -148,6 +153,7 @@ unseated_compiled enough ends lever from (row ∷ rows) =
     ∙ row_of_step (row_allows ends lever row) (table.first_holder ends lever (from + 1) rows) (holding_lever row lever)
     from)
 
+-- a lever is held by the bridle of the row that holds it, and shifted where no row does
 pub shift_compiled : MidIsEnough → (ends : List End) (lever : ℕ) (rows : List Row)
     → shift_of ends lever (compiled 1 rows) ≡ reply_of (option_map (λ h. h.row) (holder_of ends lever rows))
 shift_compiled enough ends lever rows = ap reply_of (unseated_compiled enough ends lever 1 rows)
@@ -160,6 +166,7 @@ abbrev HolderIsNone : Type 0
 HolderIsNone =
     (ends : List End) (lever : ℕ) (rows : List Row) → (holder_of ends lever rows ≡ None) ↔ MayMove ends lever rows
 
+-- by the bridles of a table, a lever is shifted exactly where it may move by its rows
 pub moves_compiled : MidIsEnough → HolderIsNone → (ends : List End) (lever : ℕ) (rows : List Row)
     → (shift_of ends lever (compiled 1 rows) ≡ Shifted) ↔ MayMove ends lever rows
 moves_compiled enough free ends lever rows =
@@ -171,6 +178,7 @@ moves_compiled enough free ends lever rows =
 
 -- ---- a frame can be made of the bridles
 
+-- a table has a bridle for each row
 pub length-compiled : (from : ℕ) (rows : List Row) → length (compiled from rows) ≡ length rows
 length-compiled from [] = refl
 length-compiled from (row ∷ rows) = ap (λ (n : ℕ). suc n) (length-compiled (from + 1) rows)
@@ -205,6 +213,7 @@ bridle_fits levers number row spelled fits =
           spelled.differ;
     }
 
+-- the bridles of rows that fit a frame fit it
 pub compiled_fits : (levers from : ℕ) (rows : List Row) → All IsRow rows → All (RowFits levers) rows
     → All (BridleFits levers) (compiled from rows)
 compiled_fits levers from [] spelled fits = All-nil (BridleFits levers)
@@ -227,6 +236,7 @@ bridle_seated levers number row fits =
     (record { lever = row.object; notches = object_notches row.kind } ∷ map cond_dog row.when))
     (ap (λ (e : End). is_normal (stand_at e)) (all_normal levers row.subject fits.subject))
 
+-- the bridles of rows that fit a frame are seated where all its levers stand at normal
 pub compiled_seated : (levers from : ℕ) (rows : List Row) → All (RowFits levers) rows
     → All (IsSeated (at_ends (replicate levers NormalEnd))) (compiled from rows)
 compiled_seated levers from [] fits = All-nil (IsSeated (at_ends (replicate levers NormalEnd)))

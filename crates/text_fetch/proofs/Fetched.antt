@@ -13,6 +13,7 @@ use Rattle.text_fetch.specs.Fetches.{IsStopOf}
 abbrev pub LooksAt : {A : Type 0} → ℕ → (List ℕ → Result A Fault) → Type 0
 LooksAt most read = (bytes : List ℕ) → read (take (most + 1) bytes) ≡ read bytes
 
+-- what is read of as much as is fetched, where reading looks at no more, is what the whole text gives
 pub fetched_given : {A : Type 0} (n most : ℕ) (read : List ℕ → Result A Fault) (o : Option (List ℕ)) (items : List ℕ)
     (x : A) → LooksAt most read → IfSome o (λ all. items ≡ take (most + 1) all) → read items ≡ Ok x
     → IsGiven x (text_told n read o)
@@ -20,6 +21,7 @@ fetched_given n most read None items x looks told e = tt
 fetched_given n most read (Some all) items x looks told e = let same : read all ≡ Ok x =
     sym (looks all) ∙ ap read (sym told) ∙ e in rw same refl
 
+-- where as much is fetched as reading looks at, what refuses it refuses the whole text
 pub fetched_refused : {A : Type 0} (n most : ℕ) (read : List ℕ → Result A Fault) (o : Option (List ℕ)) (items : List ℕ)
     (fault : Fault) → LooksAt most read → IfSome o (λ all. items ≡ take (most + 1) all) → read items ≡ Err fault
     → IsRefused n fault (text_told n read o)
@@ -27,6 +29,7 @@ fetched_refused n most read None items fault looks told e = tt
 fetched_refused n most read (Some all) items fault looks told e = let same : read all ≡ Err fault =
     sym (looks all) ∙ ap read (sym told) ∙ e in rw same (refl, refl)
 
+-- where as much is fetched as reading looks at, what stops its reader stops the step, for that text
 pub fetched_stops : {A : Type 0} (n most : ℕ) (read : List ℕ → Result A Fault) (o : Option (List ℕ)) (items : List ℕ)
     (error : ReadError) (stop : Stop) → LooksAt most read → IfSome o (λ all. items ≡ take (most + 1) all)
     → FailsText error (read items) → IsStopOf n error stop → StopsAt stop (text_told n read o)

@@ -39,6 +39,7 @@ scripts_told-append held plan done (name ∷ xs) ys =
     ∙ sym (then_then (text_told (length done + 2) (script_of plan (length done)) (held name))
     (λ script. scripts_told held plan (done ++ script ∷ []) xs) (λ more. scripts_told held plan more ys))
 
+-- where one thing is given and another comes of it, the other is given
 pub given_then : {A B : Type 0} (x : A) (y : B) (t : FromTexts A) (f : A → FromTexts B) → IsGiven x t → IsGiven y (f x)
     → IsGiven y (told_then t f)
 given_then x y Untold f h k = tt
@@ -72,11 +73,13 @@ stops_first (stops.Refused text line cause) t f h = refused_first text (record {
 stops_first stops.ShelfFault t f h = tt
 stops_first stops.NoMemory t f h = tt
 
+-- where something is given, nothing is refused
 pub given_free : {A : Type 0} (x : A) (t : FromTexts A) → IsGiven x t → IsNotRefused t
 given_free x Untold h = tt
 given_free x (Gives y) h = tt
 given_free x (Refuses n fault) h = h
 
+-- where something is given and nothing that comes of it is refused, nothing is
 pub free_then : {A B : Type 0} (x : A) (t : FromTexts A) (f : A → FromTexts B) → IsGiven x t → IsNotRefused (f x)
     → IsNotRefused (told_then t f)
 free_then x Untold f h k = tt
@@ -97,6 +100,7 @@ one_script held plan done i name script count h =
     given_then script (done ++ script ∷ []) (text_told (length done + 2) (script_of plan (length done)) (held name))
     (λ s. Gives (done ++ s ∷ [])) (rw count h) refl
 
+-- a script more is read behind those that are read so far
 pub read_more : (held : Held) (plan : PlanFields) (names : List (List ℕ)) (i : ℕ) (done : List Script) (name : List ℕ)
     (script : Script) → i < length names → name ≡ get_or names i [] → AreRead held plan names i done
     → IsGiven script (text_told (i + 2) (script_of plan i) (held name))
@@ -112,6 +116,7 @@ read_more held plan names i done name script lt e h more = record {
       (one_script held plan done i name script h.count more));
 }
 
+-- where the scripts before it are read, what stops at the next script's text stops at the scripts
 pub stops_here : (held : Held) (plan : PlanFields) (names : List (List ℕ)) (i : ℕ) (done : List Script) (name : List ℕ)
     (stop : Stop) → i < length names → name ≡ get_or names i [] → AreRead held plan names i done
     → StopsAt stop (text_told (i + 2) (script_of plan i) (held name)) → StopsAt stop (scripts_told held plan [] names)
@@ -127,11 +132,13 @@ stops_here held plan names i done name stop lt e h stopped =
     (stops_first stop (text_told (length done + 2) (script_of plan (length done)) (held name))
     (λ script. scripts_told held plan (done ++ script ∷ []) (drop (i + 1) names)) (rw h.count stopped))))
 
+-- where so many scripts are read as there are names, these are the scripts
 pub all_read : (held : Held) (plan : PlanFields) (names : List (List ℕ)) (i : ℕ) (done : List Script) → length names ≤ i
     → AreRead held plan names i done → IsGiven done (scripts_told held plan [] names)
 all_read held plan names i done le h =
     subst (λ (all : List (List ℕ)). IsGiven done (scripts_told held plan [] all)) (take_all i names le) h.given
 
+-- before the first name, no script is read
 pub none_read : (held : Held) (plan : PlanFields) (names : List (List ℕ)) → AreRead held plan names 0 []
 none_read held plan names = record { count = refl; given = refl }
 
@@ -157,6 +164,7 @@ pub record IsNextRead (plan : PlanFields) (texts : List (Vec ℕ)) (i : ℕ) (re
   pub text : Vec ℕ
   pub is : IsScriptRead plan i (slice_index_or texts i text).items read
 
+-- where each text is read as its box's script, the next that is read is that of the next text
 pub next_read : (plan : PlanFields) (texts : List (Vec ℕ)) (before rest behind : List (Result Script Stop))
     (next read : Result Script Stop) → AreEachRead plan texts (before ++ rest) → length (before ++ rest) ≡ length texts
     → rest ≡ next ∷ behind → next ≡ read → IsNextRead plan texts (length before) read
@@ -211,6 +219,7 @@ own_behind plan k (x ∷ xs) script own last (suc b) s e =
     omega arith in subst (λ (n : ℕ). IsScriptOf plan n t) shifted (own (suc c) t f))
     (subst (λ (n : ℕ). IsScriptOf plan n script) ended last) b s e)
 
+-- scripts that are each its box's are so with the script of the next box behind them
 pub own_more : (plan : PlanFields) (done : List Script) (script : Script)
     → ((b : ℕ) (s : Script) → slice_get done b ≡ Some s → IsScriptOf plan b s) → IsScriptOf plan (length done) script
     → (b : ℕ) (s : Script) → slice_get (done ++ script ∷ []) b ≡ Some s → IsScriptOf plan b s

@@ -29,6 +29,7 @@ counted_wrong plan n e = elim (eqb_tells n (length plan.boxes)) [
 
 -- ---- what is told of the inputs
 
+-- where the plan is given and a script for each box, both are what a run's texts give
 pub inputs_given : (held other : Held) (plan_name : List ℕ) (names : List (List ℕ)) (plan : PlanFields)
     (scripts : List Script) → other ≡ held → IsGiven plan (text_told 1 plan_of (held plan_name))
     → length names ≡ length plan.boxes
@@ -41,6 +42,7 @@ inputs_given held other plan_name names plan scripts same h count k =
     (given_then tt run (count_told plan (length names)) _ (counted_right plan (length names) count)
     (given_then scripts run (scripts_told held plan [] names) _ read refl))
 
+-- where the plan is given and there is a script for each box, what stops at the scripts stops the run
 pub inputs_stop : (held other : Held) (plan_name : List ℕ) (names : List (List ℕ)) (plan : PlanFields) (stop : Stop)
     → other ≡ held → IsGiven plan (text_told 1 plan_of (held plan_name)) → length names ≡ length plan.boxes
     → StopsAt stop (scripts_told other plan [] names) → StopsAt stop (run_told held plan_name names)
@@ -58,9 +60,12 @@ free_end Untold h = tt
 free_end (Gives y) h = tt
 free_end (Refuses n fault) h = absurd h
 
+-- a count that rose from a later value rose from an earlier one too
 pub rose_before : (a b n : ℕ) → a ≤ b → Rose b n → Rose a n
 rose_before a b n le h = omega arith
 
+-- where the plan is given and the shelf fails at a script, with no script before it refused, that is the run's
+-- fault of the shelf
 pub inputs_fault : (held other : Held) (before mid now : List ℕ → ℕ) (plan_name : List ℕ) (names : List (List ℕ))
     (plan : PlanFields) → other ≡ held → ((n : List ℕ) → before n ≤ mid n)
     → IsGiven plan (text_told 1 plan_of (held plan_name)) → length names ≡ length plan.boxes

@@ -6,6 +6,7 @@ use Rattle.rail_text.specs.Lines.{lacks}
 use Rattle.tidy_text.specs.Tidy.{blank_words, is_blank, is_comment, spaced, tidy_line, without_return}
 use Rattle.tidy_text.proofs.Words.{put_from, puts_words}
 
+-- two tests that hold hold together
 pub pair : (a b : Bool) → a ≡ true → b ≡ true → a && b ≡ true
 pair true b e f = f
 pair false b e f = absurd cc
@@ -86,6 +87,7 @@ no_tab text = line_all (λ b. not (eqb b 9)) text refl (each_of _ text all) wher
     go false false true = refl
     go false false false = refl
 
+-- there is no carriage return in a mended line
 pub no_return : (text : List ℕ) → lacks 13 (tidy_line text) ≡ true
 no_return text = line_all (λ b. not (eqb b 13)) text refl (each_of _ text all) where
   all : (b : ℕ) → is_blank b || not (eqb b 13) ≡ true
@@ -96,5 +98,6 @@ no_return text = line_all (λ b. not (eqb b 13)) text refl (each_of _ text all) 
     go false false true = refl
     go false false false = refl
 
+-- there is no line end in a mended line, where there was none in the line
 pub no_end : (text : List ℕ) → lacks 10 text ≡ true → lacks 10 (tidy_line text) ≡ true
 no_end text each = line_all (λ b. not (eqb b 10)) text refl (or_else is_blank (λ b. not (eqb b 10)) text each)

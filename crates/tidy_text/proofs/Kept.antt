@@ -85,6 +85,7 @@ unmarked (a ∷ []) e = refl
 unmarked (a ∷ b ∷ []) e = refl
 unmarked (a ∷ b ∷ c ∷ bs) e = rw e refl
 
+-- a tidy text stays as it is
 pub tidy_stays : (bytes : List ℕ) → is_tidy bytes ≡ true → tidy_text bytes ≡ bytes
 tidy_stays bytes tidy =
     let t = both _ _ tidy in

@@ -81,6 +81,7 @@ texts_of : (texts : List (List ℕ)) → map (λ line. line.text) (map ended_lin
 texts_of [] = refl
 texts_of (text ∷ texts) = ap (λ (ts : List (List ℕ)). text ∷ ts) (texts_of texts)
 
+-- the lines of a mended text are those of the text without marks in front, each mended
 pub mended_texts : (bytes : List ℕ) → map (λ line. line.text) (lines_of (tidy_text bytes))
     ≡ map (λ line. tidy_line line.text) (lines_of (without_marks bytes))
 mended_texts bytes = rw (mended_lines bytes) (texts_of _)
@@ -91,6 +92,7 @@ all_tidy : (lines : List Line)
 all_tidy [] = refl
 all_tidy (line ∷ lines) = pair _ _ (tidy_is_tidy line.text) (all_tidy lines)
 
+-- each line of a mended text is tidy and has its end
 pub mended_tidy : (bytes : List ℕ)
     → list_all (λ line. line.ended && is_tidy_line line.text) (lines_of (tidy_text bytes)) ≡ true
 mended_tidy bytes = rw (mended_lines bytes) (all_tidy (lines_of (without_marks bytes)))

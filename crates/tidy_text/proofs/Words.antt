@@ -7,6 +7,7 @@ use Rattle.std.proofs.lemmas.List.{append-nil, drop_all}
 use Rattle.rail_text.specs.Lines.{is_empty_word, onto_word, words_of}
 use Rattle.tidy_text.specs.Tidy.{blank_words, is_blank, spaced}
 
+-- where it isn't so that one of two tests holds, neither does
 pub neither : (a b : Bool) → a || b ≡ false → (a ≡ false) × (b ≡ false)
 neither true b e = absurd cc
 neither false b e = (refl, e)
@@ -76,6 +77,7 @@ puts : (bs : List ℕ) → Puts bs
 puts [] = record { none = λ has_blank. refl; behind_blank = refl; within = refl }
 puts (b ∷ bs) = puts_step (is_blank b) b bs refl (puts bs)
 
+-- put one after another, blank by blank, the words of a line have single spaces between them
 pub puts_words : (text : List ℕ) → put_from false false text ≡ join_with_byte 32 (blank_words text)
 puts_words text = (puts text).none false
 

@@ -254,10 +254,12 @@ last_call tokens es e legal = (token_entry_determined tokens.at_0 tokens.at_1 es
 before_last : (tokens : Tokens) (es : Es) (e : TokenEntry) → IsHistoryOf tokens (es ++ e ∷ []) → IsHistoryOf tokens es
 before_last tokens es e legal = token_prefix_legal tokens.at_0 tokens.at_1 es (e ∷ []) legal
 
+-- a history that grows by an entry leads one step of the law further
 pub state_grows : (tokens : Tokens) (es : Es) (e : TokenEntry)
     → state_after tokens (es ++ e ∷ []) ≡ (token_step (state_after tokens es) e.call.box_no e.call.act).after
 state_grows tokens es e = token_state_grows tokens.at_0 tokens.at_1 es e
 
+-- a call of another box leaves box p the token that is held there, or none
 pub hand_kept : (tokens : Tokens) (p : ℕ) (x : Option ℕ)
     → OthersKeep tokens p (λ es. held_at p (shown_after tokens es) ≡ x)
 hand_kept tokens p x es e legal other h =
@@ -267,6 +269,7 @@ hand_kept tokens p x es e legal other h =
     (keeps_hand (state_after tokens es) b p (λ same. other (sym same)) e.call.act
     (token_step (state_after tokens es) b e.call.act) out ∙ h)
 
+-- a call of another box leaves a train's token on the line to box p
 pub coming_kept : (tokens : Tokens) (p train : ℕ) → OthersKeep tokens p (λ es. shown_after tokens es ≡ OnLine p train)
 coming_kept tokens p train es e legal other h =
     let b = e.call.box_no in

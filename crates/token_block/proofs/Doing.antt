@@ -210,6 +210,7 @@ no_step = step 0 0 0 0 none
 pub counted : (n : ℕ) → n ≤ 4000000000 → n + 1 ≡ (n + 1) % 2 ^ 64
 counted n h = sym (mod-eq_of_lt (omega (arith, h)))
 
+-- a change that hangs on a test leaves the new word where the test holds, and else the old one
 pub by_either : (t : Bool) (new n : ℕ) → cond t new n ≡ either t new n
 by_either true new n = refl
 by_either false new n = refl

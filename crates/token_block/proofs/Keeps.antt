@@ -30,14 +30,17 @@ use Rattle.token_block.proofs.Parts.{Es, eqb_no, eqb_yes, longer_prefix, part_gr
 use Rattle.token_block.proofs.Views.{at_here, held_is, held_no, held_yes, holders_none, holders_set, holders_two}
 use Rattle.token_block.proofs.Views.{set_same, whole_set}
 
+-- the words of a line, and the views of the seats at them
 abbrev pub St : Type 0
 St = State (Unit {0}) TokenView
 
+-- a seat at the words of a line, by its view
 abbrev pub M : Type 0
 M = Me (Unit {0}) TokenView
 
 -- ---- places
 
+-- each word of the line stands behind the number of posts, among the first four
 pub place_within : (w : LineWord) → IsLineWord w → (0 < place_of w) × (place_of w < 4)
 place_within (TallyOf b) is = (omega (arith, is), omega (arith, is))
 place_within TokenShown is = (omega arith, omega arith)

@@ -73,6 +73,7 @@ by_test P false one other h k = k refl
 
 -- ---- the token word under a change
 
+-- a change from what the token word shows leaves it showing what it is changed to
 pub changes : (from to : Shown) (n : ℕ) → n ≡ token_word from → word_after (ops.Change from to) n ≡ token_word to
 changes from to n e = if_yes (n == token_word from) (token_word to) n (eqb_yes n (token_word from) e)
 

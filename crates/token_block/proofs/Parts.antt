@@ -13,32 +13,39 @@ use Rattle.token_block.specs.Rule.{IsHistoryOf}
 
 -- ---- tests
 
+-- numbers that are equal are tested equal
 pub eqb_yes : (a b : ℕ) → a ≡ b → (a == b) ≡ true
 eqb_yes a b e = ⊎_elim (λ (t : ((a == b) ≡ true) × (a ≡ b)). t.0) (λ (t : ((a == b) ≡ false) × (a ≢ b)). absurd (t.1 e))
     (eqb_tells a b)
 
+-- numbers that differ are tested unequal
 pub eqb_no : (a b : ℕ) → a ≢ b → (a == b) ≡ false
 eqb_no a b ne = ⊎_elim (λ (t : ((a == b) ≡ true) × (a ≡ b)). absurd (ne t.1))
     (λ (t : ((a == b) ≡ false) × (a ≢ b)). t.0) (eqb_tells a b)
 
+-- numbers that are tested equal are equal
 pub eqb_same : (a b : ℕ) → (a == b) ≡ true → a ≡ b
 eqb_same a b h = ⊎_elim (λ (t : ((a == b) ≡ true) × (a ≡ b)). t.1)
     (λ (t : ((a == b) ≡ false) × (a ≢ b)). let u = t.0 in absurd cc) (eqb_tells a b)
 
+-- numbers that are tested unequal differ
 pub eqb_differ : (a b : ℕ) → (a == b) ≡ false → a ≢ b
 eqb_differ a b h = ⊎_elim (λ (t : ((a == b) ≡ true) × (a ≡ b)). let u = t.0 in absurd cc)
     (λ (t : ((a == b) ≡ false) × (a ≢ b)). t.1) (eqb_tells a b)
 
+-- where the test holds, the first of the two is chosen
 pub if_yes : {A : Type 0} (t : Bool) (x y : A) → t ≡ true → cond t x y ≡ x
 if_yes true x y h = refl
 if_yes false x y h = absurd cc
 
+-- where the test doesn't hold, the second of the two is chosen
 pub if_no : {A : Type 0} (t : Bool) (x y : A) → t ≡ false → cond t x y ≡ y
 if_no true x y h = absurd cc
 if_no false x y h = refl
 
 -- ---- parts
 
+-- the entries of a token history
 abbrev pub Es : Type 0
 Es = List TokenEntry
 
@@ -48,18 +55,22 @@ pub part_own : (b : ℕ) (e : TokenEntry) (es : Es) → e.call.box_no ≡ b
 part_own b e es is = if_yes (e.call.box_no == b) (e ∷ token_part_of b es) (token_part_of b es)
     (eqb_yes e.call.box_no b is)
 
+-- an entry of another box is none of a box's part
 pub part_other : (b : ℕ) (e : TokenEntry) (es : Es) → e.call.box_no ≢ b
     → token_part_of b (e ∷ es) ≡ token_part_of b es
 part_other b e es ne = if_no (e.call.box_no == b) (e ∷ token_part_of b es) (token_part_of b es)
     (eqb_no e.call.box_no b ne)
 
+-- the part of a box in two histories in a row is its part in the one and then its part in the other
 pub part-append : (b : ℕ) (xs ys : Es) → token_part_of b (xs ++ ys) ≡ token_part_of b xs ++ token_part_of b ys
 part-append b xs ys = filter-append (λ (e : TokenEntry). e.call.box_no == b) xs ys
 
+-- the part of a box grows by each entry of its own
 pub part_grows : (b : ℕ) (es : Es) (e : TokenEntry) → e.call.box_no ≡ b
     → token_part_of b (es ++ e ∷ []) ≡ token_part_of b es ++ e ∷ []
 part_grows b es e is = part-append b es (e ∷ []) ∙ ap (λ (l : Es). token_part_of b es ++ l) (part_own b e [] is)
 
+-- the part of a box stays the same at an entry of another box
 pub part_stays : (b : ℕ) (es : Es) (e : TokenEntry) → e.call.box_no ≢ b
     → token_part_of b (es ++ e ∷ []) ≡ token_part_of b es
 part_stays b es e ne = part-append b es (e ∷ []) ∙ ap (λ (l : Es). token_part_of b es ++ l) (part_other b e [] ne)
@@ -97,14 +108,17 @@ part_of_prefix b xs log pre nil = empty_first (token_part_of b xs) (token_part_o
     empty_first [] zs e = refl
     empty_first (y ∷ ys) zs e = cc
 
+-- what begins a legal history is legal
 pub legal_beginning : (tokens : Tokens) (xs log : Es) → IsPrefix xs log → IsHistoryOf tokens log → IsHistoryOf tokens xs
 legal_beginning tokens xs log pre legal = token_prefix_legal tokens.at_0 tokens.at_1 xs pre.0
     (subst (IsHistoryOf tokens) (sym pre.1) legal)
 
+-- what begins a history begins it still when it grows by an entry
 pub longer_prefix : (xs log : Es) (e : TokenEntry) → IsPrefix xs log → IsPrefix xs (log ++ e ∷ [])
 longer_prefix xs log e pre =
     (pre.0 ++ e ∷ [], sym (append_assoc xs pre.0 (e ∷ [])) ∙ ap (λ (l : Es). l ++ e ∷ []) pre.1)
 
+-- what begins the beginning of a history begins that history
 pub prefix_trans : (xs ys zs : Es) → IsPrefix xs ys → IsPrefix ys zs → IsPrefix xs zs
 prefix_trans xs ys zs p q =
     (p.0 ++ q.0, sym (append_assoc xs p.0 q.0) ∙ (ap (λ (l : Es). l ++ q.0) p.1 ∙ q.1))

@@ -174,6 +174,7 @@ pub told_more : (st : TokenState) (cs : List TokenCall) (i : ℕ) (d : TokenCall
     ≡ told_from st (take i cs) ++ token_entry_of (tokens_after st (told_from st (take i cs))) (get_or cs i d) ∷ []
 told_more st cs i d h = ap (told_from st) (take_more cs i d h) ∙ told_push st (take i cs) (get_or cs i d)
 
+-- each of these calls may be made
 pub call_at : (cs : List TokenCall) (i : ℕ) (d : TokenCall) → AreTokenCalls cs → i < length cs
     → IsTokenCall (get_or cs i d)
 call_at [] i d h lt = absurd (omega arith)
@@ -201,6 +202,7 @@ pub next_entry : (tokens : Tokens) (done : Es) (call : TokenCall) (reply : Token
     → done ++ record { call = call; reply = reply } ∷ [] ≡ with_call tokens done call.box_no call.act
 next_entry tokens done call reply told = ap (λ (r : TokenReply). done ++ record { call = call; reply = r } ∷ []) told
 
+-- the history of the first calls, with the next call, is the history of one call more
 pub next_told : (tokens : Tokens) (cs : List TokenCall) (i : ℕ) (d : TokenCall) (done : Es) → i < length cs
     → done ≡ told_from (opening_tokens tokens.at_0 tokens.at_1) (take i cs)
     → with_call tokens done (get_or cs i d).box_no (get_or cs i d).act
@@ -220,6 +222,7 @@ pub record Told (tokens : Tokens) (es : Es) (a b all : ℕ) : Type 0 where
   pub few : a ≤ all
   pub rest : b ≤ all - a
 
+-- once two men have worked all calls, each tells the tokens in his instrument, and the others are out
 pub tokens_told : (table_id : TableId) (tokens : Tokens) (es : Es) (one other : Man) (cs : List TokenCall)
     (a b all : ℕ) → AreTogether table_id tokens es one other
     → es ≡ told_from (opening_tokens tokens.at_0 tokens.at_1) cs → AreTokenCalls cs

@@ -10,11 +10,13 @@ use Rattle.token_block.specs.declared.view.TokenView.{TokenView}
 use Rattle.token_block.specs.Views.{held, holders, one_if}
 use Rattle.token_block.proofs.Parts.{Es, eqb_no, eqb_yes}
 
+-- a list stays the same where what stands at a place is written there again
 pub set_same : (ns : List ℕ) (i : ℕ) → set ns i (get_or ns i 0) ≡ ns
 set_same [] i = refl
 set_same (n ∷ ns) zero = refl
 set_same (n ∷ ns) (suc i) = λ j. n ∷ set_same ns i j
 
+-- a view that is written in the place of another stands there
 pub at_here : (views : List TokenView) (id : ℕ) (v w : TokenView) → get_elem? views id ≡ some v
     → get_elem? (set views id w) id ≡ some w
 at_here [] id v w at = absurd (some-ne-none v (sym at))
@@ -23,9 +25,11 @@ at_here (x ∷ xs) (suc id) v w at = at_here xs id v w at
 
 -- ---- who holds a post
 
+-- a seat that has the post of box p counts as one that holds it
 pub held_yes : (p b : ℕ) (post : Option ℕ) → post ≡ Some b → b ≡ p → held p post ≡ 1
 held_yes p b post has e = ap (held p) has ∙ ap one_if (eqb_yes b p e)
 
+-- a seat that has the post of another box counts as none that holds that of box p
 pub held_no : (p b : ℕ) (post : Option ℕ) → post ≡ Some b → b ≢ p → held p post ≡ 0
 held_no p b post has ne = ap (held p) has ∙ ap one_if (eqb_no b p ne)
 
@@ -36,6 +40,7 @@ held_is p (Some b) h = ⊎_elim (λ (t : ((b == p) ≡ true) × (b ≡ p)). ap (
     (λ (t : ((b == p) ≡ false) × (b ≢ p)).
     (let z : one_if (b == p) ≡ 0 = ap one_if t.0 in absurd (omega (arith, h, z)))) (eqb_tells b p)
 
+-- as a seat's view changes, as many hold the post of box p as before, without the old view and with the new one
 pub holders_set : (p : ℕ) (views : List TokenView) (id : ℕ) (v w : TokenView) → get_elem? views id ≡ some v
     → holders p (set views id w) + held p v.post ≡ holders p views + held p w.post
 holders_set p [] id v w at = absurd (some-ne-none v (sym at))
@@ -64,12 +69,14 @@ holders_two p (x ∷ xs) (suc j) zero u v ne at bt = let same : held p x.post �
 holders_two p (x ∷ xs) (suc j) (suc id) u v ne at bt = let r = holders_two p xs j id u v
     (λ e. ne (ap suc e)) at bt in omega (arith, r)
 
+-- where no seat holds the post of box p, the holders of it are none
 pub holders_none : (p : ℕ) (views : List TokenView)
     → ((j : ℕ) (v : TokenView) → get_elem? views j ≡ some v → held p v.post ≡ 0) → holders p views ≡ 0
 holders_none p [] h = refl
 holders_none p (x ∷ xs) h = let one = h 0 x refl in let r = holders_none p xs (λ j v at. h (suc j) v at) in
     omega (arith, one, r)
 
+-- with a seat more, as many hold the post of box p as before, and the new seat if it does
 pub holders_snoc : (p : ℕ) (views : List TokenView) (w : TokenView)
     → holders p (views ++ w ∷ []) ≡ holders p views + held p w.post
 holders_snoc p [] w = omega arith

@@ -93,8 +93,8 @@ fn seat_men(
 /// # Errors
 ///
 /// `PostTaken` where a draw of this call found another number of posts drawn than the number of its box, which is a box
-/// of the line; the line is then given up, and the seat that lost the draw comes with the two numbers. That a line which
-/// opens loses no draw is tested alone.
+/// of the line; the line is then given up, and the seat that lost the draw comes with the two numbers. That a line
+/// which opens loses no draw is tested alone.
 /// `NoMemory` where memory runs out.
 pub fn open_token(
     alloc: Global,

@@ -38,8 +38,8 @@ pub fn open_words(alloc: Global, at_0: u32, at_1: u32) -> Result<(TokenLine, Tok
 
 impl TokenPost {
     /// Draws the post of a box, by one compare and exchange of the number of posts drawn. It gives the number that it
-    /// found, which the seat then knows. Exactly where that is the box's, the seat then holds the post; else it is as it
-    /// was but for that.
+    /// found, which the seat then knows. Exactly where that is the box's, the seat then holds the post; else it is as
+    /// it was but for that.
     pub fn take(&mut self, line: &TokenLine, box_no: u32) -> u64
         requires line { self.old.seat.table_id ≡ line.now.table.shared.table_id }
         requires free { Sits line.now.table.shared.key self.old.seat.me.0 × (self.old.seat.me.0.post ≡ None) }

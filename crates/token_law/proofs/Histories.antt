@@ -56,20 +56,24 @@ same_rest state (d ∷ es) (f ∷ others) h k e =
 
 -- ---- the laws
 
+-- a legal token history grows by a call that may be made, with the law's reply, to a legal one
 pub token_history_grows : (at_0 at_1 : ℕ) (es : List TokenEntry) (call : TokenCall) → IsTokenHistory at_0 at_1 es
     → IsTokenCall call → IsTokenHistory at_0 at_1 (es ++ token_entry_of (token_state_of at_0 at_1 es) call ∷ [])
 token_history_grows at_0 at_1 es call h may = legal_both (opening_tokens at_0 at_1) es
     (token_entry_of (token_state_of at_0 at_1 es) call ∷ []) h (may, refl, tt)
 
+-- the state after one entry more is what the law's step leaves
 pub token_state_grows : (at_0 at_1 : ℕ) (es : List TokenEntry) (e : TokenEntry)
     → token_state_of at_0 at_1 (es ++ e ∷ [])
     ≡ (token_step (token_state_of at_0 at_1 es) e.call.box_no e.call.act).after
 token_state_grows at_0 at_1 es e = after_both (opening_tokens at_0 at_1) es (e ∷ [])
 
+-- what begins a legal token history is legal
 pub token_prefix_legal : (at_0 at_1 : ℕ) (es more : List TokenEntry) → IsTokenHistory at_0 at_1 (es ++ more)
     → IsTokenHistory at_0 at_1 es
 token_prefix_legal at_0 at_1 es more h = legal_first (opening_tokens at_0 at_1) es more h
 
+-- each entry of a legal token history has a call that may be made, and the law's reply after those before it
 pub token_entry_determined : (at_0 at_1 : ℕ) (es more : List TokenEntry) (e : TokenEntry)
     → IsTokenHistory at_0 at_1 (es ++ e ∷ more)
     → IsTokenCall e.call × (e ≡ token_entry_of (token_state_of at_0 at_1 es) e.call)
@@ -95,10 +99,12 @@ told_calls : (state : TokenState) (calls : List TokenCall) → token_calls (told
 told_calls state [] = refl
 told_calls state (call ∷ calls) = ap (λ (cs : List TokenCall). call ∷ cs) (told_calls (told_of state call).after calls)
 
+-- calls that may be made, each with the law's reply, are a legal token history
 pub calls_are_told : (at_0 at_1 : ℕ) (calls : List TokenCall) → AreTokenCalls calls
     → IsTokenHistory at_0 at_1 (told_from (opening_tokens at_0 at_1) calls)
 calls_are_told at_0 at_1 calls h = told_legal (opening_tokens at_0 at_1) calls h
 
+-- the history that calls make has exactly these calls
 pub told_has_calls : (at_0 at_1 : ℕ) (calls : List TokenCall)
     → token_calls (told_from (opening_tokens at_0 at_1) calls) ≡ calls
 told_has_calls at_0 at_1 calls = told_calls (opening_tokens at_0 at_1) calls

@@ -129,6 +129,7 @@ history_keeps state [] = refl
 history_keeps state (e ∷ es) = history_keeps (after_token_entry state e) es
     ∙ step_keeps_tokens state e.call.box_no e.call.act
 
+-- after each legal history there are as many tokens as the line opened with
 pub tokens_stay : (at_0 at_1 : ℕ) (es : List TokenEntry) → IsTokenHistory at_0 at_1 es
     → all_tokens (token_state_of at_0 at_1 es) ≡ at_0 + at_1
 tokens_stay at_0 at_1 es h = let same = history_keeps (opening_tokens at_0 at_1) es in omega (arith, same)
@@ -267,6 +268,7 @@ one_shown train other (OnLine to holder) h k = same (holder == train) (holder ==
   same false b e f h k = absurd (omega arith)
   same true false e f h k = absurd (omega arith)
 
+-- after a legal history no two trains carry a token
 pub one_train_carries : (at_0 at_1 : ℕ) (es : List TokenEntry) (train other : ℕ) → IsTokenHistory at_0 at_1 es
     → Carries es train → Carries es other → train ≡ other
 one_train_carries at_0 at_1 es train other h own its =

@@ -92,6 +92,7 @@ pub record IsCallOf (words : List (List ℕ)) (call : TokenCall) : Type 0 where
   pub is : IsTokenCall call
   pub may : MayName call.act
 
+-- words that are read as a call are the words of that call, which may be made
 pub call_of_is : (words : List (List ℕ)) → OfOk (IsCallOf words) (call_of words)
 unfolding call_of
 call_of_is words =
@@ -103,6 +104,7 @@ call_of_is words =
       may = a.may;
     }))
 
+-- a text that has the words of a call is the text of that call
 pub call_text-words : (text : List ℕ) (call : TokenCall) → words_of text ≡ call_words call
     → text ≡ token_call_text call
 call_text-words text call e = sym (joined-words_of text) ∙ ap (join_with_byte 32) e
@@ -128,20 +130,24 @@ act_words_are acts.Arrive h = refl
 act_words_are acts.Replace h = refl
 act_words_are acts.Look h = refl
 
+-- each of the words of a call may stand in a line as a word
 pub call_words_are : (call : TokenCall) → IsTokenCall call → MayName call.act
     → list_all is_word (call_words call) ≡ true
 call_words_are call is may =
     let box : is_word (decimal call.box_no) ≡ true = decimal_is_word call.box_no (omega (arith, is.box)) in
     rw (box, act_words_are call.act may) refl
 
+-- a line that begins with a box's number isn't skipped
 pub box_counts : (call : TokenCall) → IsTokenCall call → is_skipped (decimal call.box_no) ≡ false
 box_counts call is =
     rw (box_digit call is) (of_two (λ n. is_skipped ((48 + n) ∷ []) ≡ false) call.box_no is.box refl refl)
 
+-- the number of a box isn't `end`
 pub box_is_no_end : (call : TokenCall) → IsTokenCall call → bytes_eq (decimal call.box_no) (codes "end") ≡ false
 box_is_no_end call is =
     rw (box_digit call is) (of_two (λ n. bytes_eq ((48 + n) ∷ []) (codes "end") ≡ false) call.box_no is.box refl refl)
 
+-- the text of a call has the words of the call
 pub words_of-call : (call : TokenCall) → IsTokenCall call → MayName call.act
     → words_of (token_call_text call) ≡ call_words call
 words_of-call call is may = words_of-words (decimal call.box_no) (act_words call.act) (call_words_are call is may)
@@ -156,6 +162,7 @@ act_read box acts.Arrive n h = refl
 act_read box acts.Replace n h = refl
 act_read box acts.Look n h = refl
 
+-- the words of a call are read as that call
 pub call_read : (call : TokenCall) → IsTokenCall call → MayName call.act → call_of (call_words call) ≡ Ok call
 unfolding call_of
 call_read call is may =
@@ -183,6 +190,7 @@ joined_behind box acts.Arrive = refl
 joined_behind box acts.Replace = refl
 joined_behind box acts.Look = refl
 
+-- the text of a call has at most 20 bytes
 pub length-call : (call : TokenCall) → IsTokenCall call → MayName call.act → length (token_call_text call) ≤ 20
 length-call call is may =
     let box : length (decimal call.box_no) ≡ 1 = ap length (box_digit call is) in

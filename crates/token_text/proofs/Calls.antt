@@ -6,6 +6,7 @@ use Rattle.token_law.specs.declared.calls.TokenCall.{TokenCall}
 use Rattle.token_law.specs.History.{AreTokenCalls}
 use Rattle.token_law.specs.Law.{IsTokenCall}
 
+-- calls that may be made are so with one more that may
 pub more_calls : (calls : List TokenCall) (call : TokenCall) → AreTokenCalls calls → IsTokenCall call
     → AreTokenCalls (calls ++ call ∷ [])
 more_calls [] call are is = (is, _)

@@ -8,6 +8,7 @@ use Rattle.token_text.specs.Drafts.{TokenDraftFields, start}
 use Rattle.token_text.specs.Limits.{most_script_bytes}
 use Rattle.token_text.specs.Scripts.{has_ended, script_from, token_script_of, words_onto}
 
+-- reading a token script gives the same of its first bytes, as many as a script may have and one more
 pub token_script_of-take : (bytes : List ℕ)
     → token_script_of (take (most_script_bytes + 1) bytes) ≡ token_script_of bytes
 unfolding token_script_of text_onto

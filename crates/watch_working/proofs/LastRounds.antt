@@ -68,6 +68,7 @@ abbrev pub HaveWorked : TableId → PlanFields → List Script → ℕ → List 
 HaveWorked table_id plan scripts looks before after = (i : ℕ) (d : Man) (e : Script) → i < length before
     → DidWork table_id plan (get_or scripts i e) looks (get_or before i d) (get_or after i d)
 
+-- men who have worked their scripts have still done so once the first of them has taken back posts
 pub all_worked : (table_id : TableId) (plan : PlanFields) (scripts : List Script) (looks : ℕ)
     (before now after : List Man) → length now ≡ length before → HaveWorked table_id plan scripts looks before now
     → FirstHasTaken plan now after

@@ -20,6 +20,7 @@ taken_on plan a b c h g = record {
   kept = g.kept ∙ ap (λ (m : Man). record m { view = record m.view { seen = c.view.seen } }) h.kept;
 }
 
+-- a man who took back posts is of his line still
 pub still_of : (table_id : TableId) (plan : PlanFields) (before after : Man) → HasTaken plan before after
     → IsOf table_id plan before → IsOf table_id plan after
 still_of table_id plan before after taken is = subst (λ (m : Man). IsOf table_id plan m) (sym taken.kept) is
@@ -37,6 +38,7 @@ one_taken plan men e first some taken = record {
   others = λ b d lt within. get_or-set_other men 0 b first d (λ same. absurd (omega (arith, lt, same)));
 }
 
+-- what the first of the men takes back in two turns, one after the other, he takes back in all
 pub first_taken_on : (plan : PlanFields) (before now after : List Man) → FirstHasTaken plan before now
     → FirstHasTaken plan now after → FirstHasTaken plan before after
 first_taken_on plan before now after h g = record {
