@@ -31,8 +31,8 @@ use Rattle.due_hints.specs.declared.hint.Hint.TheVariants.{RingBack, Hear, TurnT
 use Rattle.due_hints.specs.declared.hint.Hint.TheVariants.{RingEntering}
 use Rattle.due_hints.specs.Dues.{HasAnnounced, HasLeft, HasOffer, IsDue}
 use Rattle.due_hints.specs.Hints.{back_due, bell_due, coming_due, due_with, going_due, heard_by, heard_code, hint_of}
-use Rattle.due_hints.specs.Hints.{incoming_at, is_coming, is_free_at, is_over, is_rung_back, normal_due, one_of, or_next, out_due}
-use Rattle.due_hints.specs.Hints.{shows_clear, side_due, train_due, train_dues, waits_at_starter}
+use Rattle.due_hints.specs.Hints.{incoming_at, is_coming, is_free_at, is_over, is_rung_back, normal_due, one_of}
+use Rattle.due_hints.specs.Hints.{or_next, out_due, shows_clear, side_due, train_due, train_dues, waits_at_starter}
 
 -- ---- which of several is due
 

@@ -1,5 +1,5 @@
 //! Tests of the lowest crates, where they need values made by hand: texts and words, bell codes, locking tables,
-//! frames, charts, shared words, places and controls. What maps a text to a text is a worked row.
+//! frames, their walks, charts, shared words, places and controls. What maps a text to a text is a worked row.
 #![tactic(auto)]
 
 #[cfg(test)]
@@ -20,3 +20,5 @@ mod shared_words;
 mod tables;
 #[cfg(test)]
 mod text_readers;
+#[cfg(test)]
+mod walks;
