@@ -86,6 +86,6 @@ contracts:
 # The gate: every proof, the must-fail edits, the tests, and the program as two compilers make it.
 test:
 	@echo "make test proves all crates and their tests, tries the must-fail edits, and runs the tests and the programs."
-	@echo "From nothing that took 31 to 57 minutes on four processors, and takes an hour or two on two; here: $$(nproc)."
+	@echo "From nothing that took 31 to 104 minutes on four processors, and takes longer on two; here: $$(nproc)."
 	@echo "Some kits keep what an earlier run here passed. The last line is 'N passed, M failed'. Without proofs: make quick"
 	rt ci
