@@ -26,13 +26,16 @@ use Rattle.reg_audit.specs.Bells.{heard, is_class_code, train_entering_section}
 use Rattle.reg_audit.proofs.HandKept.{in_hand_is}
 use Rattle.reg_audit.proofs.SideKept.{both_true}
 use Rattle.box_view.specs.Look.{first_coming, unheard_from}
+use Rattle.due_hints.specs.declared.hint.Due.{Due}
+use Rattle.due_hints.specs.declared.hint.Due.TheVariants.{Nothing, One, Several}
 use Rattle.due_hints.specs.declared.hint.Hint.{Hint}
 use Rattle.due_hints.specs.declared.hint.Hint.TheVariants.{RingBack, Hear, TurnTrainOnLine, RingOut, TurnNormal}
 use Rattle.due_hints.specs.declared.hint.Hint.TheVariants.{RingEntering}
 use Rattle.due_hints.specs.Dues.{HasAnnounced, HasLeft, HasOffer, IsDue}
-use Rattle.due_hints.specs.Hints.{back_due, bell_due, coming_due, due_with, going_due, heard_by, heard_code, hint_of}
-use Rattle.due_hints.specs.Hints.{incoming_at, is_coming, is_free_at, is_over, is_rung_back, normal_due, one_of}
-use Rattle.due_hints.specs.Hints.{or_next, out_due, shows_clear, side_due, train_due, train_dues, waits_at_starter}
+use Rattle.due_hints.specs.Hints.{back_due, bell_due, coming_due, due_of, due_with, going_due, heard_by, heard_code}
+use Rattle.due_hints.specs.Hints.{hint_of, incoming_at, is_coming, is_free_at, is_over, is_rung_back, normal_due, only}
+use Rattle.due_hints.specs.Hints.{or_next, out_due, ring_due, shows_clear, side_due, together, train_due, train_dues}
+use Rattle.due_hints.specs.Hints.{waits_at_starter}
 
 -- ---- which of several is due
 
@@ -41,11 +44,22 @@ or_is : (due next : Option Hint) (hint : Hint) → or_next due next ≡ Some hin
 or_is None next hint e = inr e
 or_is (Some one) next hint e = inl e
 
-one_is : (one other : Option Hint) (hint : Hint) → one_of one other ≡ Some hint
-    → (one ≡ Some hint) ⊎ (other ≡ Some hint)
-one_is None other hint e = inr e
-one_is (Some one) None hint e = inl e
-one_is (Some one) (Some other) hint e = absurd cc
+of_is : (due : Option Hint) (hint : Hint) → due_of due ≡ One hint → due ≡ Some hint
+of_is None hint e = absurd cc
+of_is (Some one) hint e = cc
+
+-- what alone is due in two parts is what alone is due in one of them
+both_is : (one other : Due) (hint : Hint) → together one other ≡ One hint → (one ≡ One hint) ⊎ (other ≡ One hint)
+both_is Nothing other hint e = inr e
+both_is (One one) Nothing hint e = inl e
+both_is (One one) (One other) hint e = absurd cc
+both_is (One one) Several hint e = absurd cc
+both_is Several other hint e = absurd cc
+
+only_is : (due : Due) (hint : Hint) → only due ≡ Some hint → due ≡ One hint
+only_is Nothing hint e = absurd cc
+only_is (One one) hint e = cc
+only_is Several hint e = absurd cc
 
 -- what is due where a test holds
 if_is : (test : Bool) (told hint : Hint) → cond test (Some told) None ≡ Some hint → (test ≡ true) × (told ≡ hint)
@@ -184,23 +198,29 @@ going_is plan es b side marks asked hint has e =
 
 -- ---- a box
 
+ring_is : (plan : PlanFields) (es : List Entry) (b : ℕ) (side : Way) (marks : SideMarks) (asked : Option BellEntry)
+    (hint : Hint) → IsInHand plan es b side marks asked
+    → ring_due plan (state_of plan es) b side marks asked ≡ Some hint → IsDue plan es b hint
+ring_is plan es b side marks asked hint has e =
+    let back : Option Hint = back_due plan (state_of plan es) b side marks (heard_code asked) in
+    elim (or_is back (bell_due plan (state_of plan es) b side) hint e) [
+      | inl due ↦ back_is plan es b side marks asked hint has due
+      | inr due ↦ bell_is plan es b side hint due
+    ]
+
 side_is : (plan : PlanFields) (es : List Entry) (b : ℕ) (side : Way) (marks : SideMarks) (asked : Option BellEntry)
     (hint : Hint) → IsInHand plan es b side marks asked
-    → side_due plan (state_of plan es) b side marks asked ≡ Some hint → IsDue plan es b hint
+    → side_due plan (state_of plan es) b side marks asked ≡ One hint → IsDue plan es b hint
 side_is plan es b side marks asked hint has e =
     let state : LineState = state_of plan es in
-    let back : Option Hint = back_due plan state b side marks (heard_code asked) in
-    let bell : Option Hint = bell_due plan state b side in
+    let ring : Option Hint = ring_due plan state b side marks asked in
     let coming : Option Hint = coming_due plan state b side marks in
     let going : Option Hint = going_due plan state b side marks in
-    elim (or_is back (or_next bell (or_next coming going)) hint e) [
-      | inl due ↦ back_is plan es b side marks asked hint has due
-      | inr next ↦ elim (or_is bell (or_next coming going) hint next) [
-        | inl due ↦ bell_is plan es b side hint due
-        | inr later ↦ elim (or_is coming going hint later) [
-          | inl due ↦ coming_is plan es b side marks asked hint has due
-          | inr due ↦ going_is plan es b side marks asked hint has due
-        ]
+    elim (both_is (due_of ring) (together (due_of coming) (due_of going)) hint e) [
+      | inl due ↦ ring_is plan es b side marks asked hint has (of_is ring hint due)
+      | inr later ↦ elim (both_is (due_of coming) (due_of going) hint later) [
+        | inl due ↦ coming_is plan es b side marks asked hint has (of_is coming hint due)
+        | inr due ↦ going_is plan es b side marks asked hint has (of_is going hint due)
       ]
     ]
 
@@ -210,10 +230,11 @@ pub hint_is : (plan : PlanFields) (es : List Entry) (b : ℕ) (hint : Hint) → 
 unfolding due_with
 hint_is plan es b hint legal within e =
     let hand : InHand = in_hand plan b es in
-    elim (one_is (side_due plan (state_of plan es) b Up hand.marks.up hand.asked.up)
-    (side_due plan (state_of plan es) b Down hand.marks.down hand.asked.down) hint e) [
-      | inl up ↦
-          side_is plan es b Up hand.marks.up hand.asked.up hint (in_hand_is plan es b Up legal within) up
-      | inr down ↦
-          side_is plan es b Down hand.marks.down hand.asked.down hint (in_hand_is plan es b Down legal within) down
+    let up : Due = side_due plan (state_of plan es) b Up hand.marks.up hand.asked.up in
+    let down : Due = side_due plan (state_of plan es) b Down hand.marks.down hand.asked.down in
+    elim (both_is up down hint (only_is (together up down) hint e)) [
+      | inl due ↦
+          side_is plan es b Up hand.marks.up hand.asked.up hint (in_hand_is plan es b Up legal within) due
+      | inr due ↦
+          side_is plan es b Down hand.marks.down hand.asked.down hint (in_hand_is plan es b Down legal within) due
     ]

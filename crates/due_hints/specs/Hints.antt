@@ -34,6 +34,8 @@ use Rattle.reg_audit.specs.declared.marks.SideMarks.{SideMarks}
 use Rattle.reg_audit.specs.Behind.{in_hand}
 use Rattle.reg_audit.specs.Bells.{is_class_code, train_entering_section}
 use Rattle.box_view.specs.Look.{first_coming, unheard_from}
+use Rattle.due_hints.specs.declared.hint.Due.{Due}
+use Rattle.due_hints.specs.declared.hint.Due.TheVariants.{Nothing, One, Several}
 use Rattle.due_hints.specs.declared.hint.Hint.{Hint}
 use Rattle.due_hints.specs.declared.hint.Hint.TheVariants.{RingBack, Hear, TurnTrainOnLine, RingOut, TurnNormal}
 use Rattle.due_hints.specs.declared.hint.Hint.TheVariants.{RingEntering}
@@ -164,25 +166,41 @@ going_due plan state b side marks =
 
 -- ---- a box
 
--- What is due on a side of box b: a code that was heard is rung back before the next is heard; then come the trains
--- from there, and then those that go there.
-abbrev pub side_due : PlanFields → LineState → ℕ → Way → SideMarks → Option BellEntry → Option Hint
+-- What is due at the bell from a side of box b: a code that was heard is rung back before the next is heard.
+abbrev pub ring_due : PlanFields → LineState → ℕ → Way → SideMarks → Option BellEntry → Option Hint
+ring_due plan state b side marks asked =
+    or_next (back_due plan state b side marks (heard_code asked)) (bell_due plan state b side)
+
+-- how much is due, by what is
+abbrev pub due_of : Option Hint → Due
+due_of None = Nothing
+due_of (Some hint) = One hint
+
+-- how much is due in two parts together
+abbrev pub together : Due → Due → Due
+together Nothing due = due
+together (One hint) Nothing = One hint
+together (One hint) (One other) = Several
+together (One hint) Several = Several
+together Several due = Several
+
+-- how much is due on a side of box b: at its bell, for the trains that come from there, and for those that go there
+abbrev pub side_due : PlanFields → LineState → ℕ → Way → SideMarks → Option BellEntry → Due
 side_due plan state b side marks asked =
-    or_next (back_due plan state b side marks (heard_code asked))
-    (or_next (bell_due plan state b side)
-    (or_next (coming_due plan state b side marks) (going_due plan state b side marks)))
+    together (due_of (ring_due plan state b side marks asked))
+    (together (due_of (coming_due plan state b side marks)) (due_of (going_due plan state b side marks)))
 
--- what is due of two, where exactly one is
-abbrev pub one_of : Option Hint → Option Hint → Option Hint
-one_of None due = due
-one_of (Some hint) None = Some hint
-one_of (Some hint) (Some other) = None
+-- the one thing that is due, where exactly one is
+abbrev pub only : Due → Option Hint
+only Nothing = None
+only (One hint) = Some hint
+only Several = None
 
--- what is due at box b with this in hand, where something is due on exactly one side
+-- what is due at box b with this in hand, where exactly one thing is
 unfoldable pub due_with : PlanFields → LineState → ℕ → InHand → Option Hint
 due_with plan state b hand =
-    one_of (side_due plan state b Up hand.marks.up hand.asked.up)
-    (side_due plan state b Down hand.marks.down hand.asked.down)
+    only (together (side_due plan state b Up hand.marks.up hand.asked.up)
+    (side_due plan state b Down hand.marks.down hand.asked.down))
 
 -- what the man of box b has to do next behind a journal that leaves the line so
 abbrev pub hint_of : PlanFields → LineState → ℕ → List Entry → Option Hint

@@ -2,7 +2,7 @@
 
 ghost use Rattle.std.specs.Prelude.{◌≡◌, ◌<◌, length};
 ghost use Rattle.line_law.specs.Lines.{IsLineOf};
-ghost use Rattle.due_hints.specs.Hints.{due_with, hint_of, one_of, side_due};
+ghost use Rattle.due_hints.specs.Hints.{due_of, due_with, hint_of, only, ring_due, side_due, together};
 
 use crate::sides::{back_due, bell_due, coming_due, going_due, heard_code, or_next};
 use bell_codes::CodeNo;
@@ -28,8 +28,36 @@ pub enum Hint {
     RingEntering(Way),
 }
 
-// What is due on a side of a box.
-fn side_due(
+// How much is due.
+#[derive(Clone, Copy)]
+enum Due {
+    Nothing,
+    One(Hint),
+    Several,
+}
+
+// How much is due, by what is.
+fn due_of(due: Option<Hint>) -> Due
+    ensures { result ≡ due_of due }
+{
+    match due {
+        None => Due::Nothing,
+        Some(hint) => Due::One(hint),
+    }
+}
+
+// How much is due in two parts together.
+fn together(one: Due, other: Due) -> Due
+    ensures { result ≡ together one other }
+{
+    match (one, other) {
+        (Due::Nothing, due) | (due, Due::Nothing) => due,
+        _ => Due::Several,
+    }
+}
+
+// What is due at the bell from a side of a box.
+fn ring_due(
     plan: &Plan,
     line: &Plain,
     box_no: u32,
@@ -39,22 +67,38 @@ fn side_due(
 ) -> Option<Hint>
     requires line { IsLineOf plan.now line.now }
     requires at { box_no < length plan.now.boxes }
-    ensures { result ≡ side_due plan.now line.now.line box_no side marks asked }
+    ensures { result ≡ ring_due plan.now line.now.line box_no side marks asked }
 {
-    let next = going_due(plan, line, box_no, side, marks);
-    let next = or_next(coming_due(plan, line, box_no, side, marks), next);
-    let next = or_next(bell_due(plan, line, box_no, side), next);
     let back = back_due(plan, line, box_no, side, marks, heard_code(asked));
-    or_next(back, next)
+    or_next(back, bell_due(plan, line, box_no, side))
 }
 
-// What is due of two, where exactly one is.
-fn one_of(one: Option<Hint>, other: Option<Hint>) -> Option<Hint>
-    ensures { result ≡ one_of one other }
+// How much is due on a side of a box.
+fn side_due(
+    plan: &Plan,
+    line: &Plain,
+    box_no: u32,
+    side: Way,
+    marks: SideMarks,
+    asked: Option<BellEntry>,
+) -> Due
+    requires line { IsLineOf plan.now line.now }
+    requires at { box_no < length plan.now.boxes }
+    ensures { result ≡ side_due plan.now line.now.line box_no side marks asked }
 {
-    match (one, other) {
-        (None, due) | (due, None) => due,
-        (Some(_), Some(_)) => None,
+    let ring = due_of(ring_due(plan, line, box_no, side, marks, asked));
+    let coming = due_of(coming_due(plan, line, box_no, side, marks));
+    let going = due_of(going_due(plan, line, box_no, side, marks));
+    together(ring, together(coming, going))
+}
+
+// The one thing that is due, where exactly one is.
+fn only(due: Due) -> Option<Hint>
+    ensures { result ≡ only due }
+{
+    match due {
+        Due::One(hint) => Some(hint),
+        Due::Nothing | Due::Several => None,
     }
 }
 
@@ -66,15 +110,15 @@ fn due_with(plan: &Plan, line: &Plain, box_no: u32, hand: &InHand) -> Option<Hin
     ensures { result ≡ due_with plan.now line.now.line box_no hand.now }
 {
     let (marks, asked) = (&hand.marks, &hand.asked);
-    one_of(
+    only(together(
         side_due(plan, line, box_no, Way::Up, marks.up, asked.up),
         side_due(plan, line, box_no, Way::Down, marks.down, asked.down),
-    )
+    ))
 }
 
-/// What the man of a box has to do next behind a journal that leaves the line so, where something is due on exactly one
-/// side: to ring a code back, to hear one, to turn a line that comes in to Train on Line, to ring Train Out of Section
-/// and then to turn to Normal, or to ring Train Entering Section. Of what else he may do nothing is said.
+/// What the man of a box has to do next behind a journal that leaves the line so, where exactly one thing is due: to
+/// ring a code back and then to hear the next; to turn a line that comes in to Train on Line, to ring Train Out of
+/// Section and then to turn to Normal; or to ring Train Entering Section. Of what else he may do nothing is said.
 pub fn hint_of(plan: &Plan, line: &Plain, box_no: u32, journal: &[Entry]) -> Option<Hint>
     requires line { IsLineOf plan.now line.now }
     requires at { box_no < length plan.now.boxes }
