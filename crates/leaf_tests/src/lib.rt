@@ -1,5 +1,6 @@
 //! Tests of the lowest crates, where they need values made by hand: texts and words, bell codes, locking tables,
-//! frames, their walks, charts, shared words, places and controls. What maps a text to a text is a worked row.
+//! frames, their walks, what these show and the reports on it, charts, shared words, places and controls. What maps a
+//! text to a text is a worked row.
 #![tactic(auto)]
 
 #[cfg(test)]
@@ -11,11 +12,15 @@ mod controls;
 #[cfg(test)]
 mod facts;
 #[cfg(test)]
+mod findings;
+#[cfg(test)]
 mod frames;
 #[cfg(test)]
 mod places;
 #[cfg(test)]
 mod shared_words;
+#[cfg(test)]
+mod states;
 #[cfg(test)]
 mod tables;
 #[cfg(test)]

@@ -6,8 +6,8 @@ use locking_table::{End, NoMemory, Table, read_spelled};
 use std::alloc::Global;
 use std::process::Abort;
 
-// A table of the rows that these texts spell.
-fn table_of(rt: &impl Abort, alloc: Global, rows: &[&str]) -> Table {
+/// A table of the rows that these texts spell.
+pub fn table_of(rt: &impl Abort, alloc: Global, rows: &[&str]) -> Table {
     let mut table = Table::new(alloc);
     for text in rows {
         let row = read_spelled(text.as_bytes()).expect(rt, "a row");

@@ -1,0 +1,4 @@
+pub mod ListLemmas
+pub mod FrameLemmas
+pub mod ReportLemmas
+pub mod FaultLemmas

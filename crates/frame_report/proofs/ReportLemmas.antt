@@ -1,0 +1,55 @@
+-- What is found of levers and rows, one after another.
+use Rattle.std.proofs.Common.{◌≡◌, ◌≢◌, ◌↔◌, ℕ, ◌+◌, ◌<◌, ◌≤◌, Bool, true, false, List, [], ◌∷◌, ◌++◌, length}
+use Rattle.std.proofs.Common.{refl, sym, ap, subst, ◌∙◌, arith, inl, inr, get_or}
+use Rattle.std.specs.Prelude.{IsTrue}
+use Rattle.std.proofs.lemmas.Bool.{cases_lt}
+use Rattle.std.proofs.lemmas.List.{get_or_append_left, get_or_push, length_push}
+use Rattle.locking_table.specs.declared.row.Row.{Row}
+use Rattle.frame_walk.specs.Walked.{Walked}
+use Rattle.frame_findings.specs.Frozen.{HoldsAlways}
+use Rattle.row_findings.specs.Covering.{Covers}
+use Rattle.frame_report.specs.Report.{AreCoveringBefore, AreHoldingBefore, IsInPlace, row_at}
+
+-- another row that holds as much, as the rows were read
+pub in_place_is : (w : Walked) (at other : ℕ) (does : Bool) (row others : Row) → row_at w.rows at ≡ row
+    → row_at w.rows other ≡ others → other ≢ at → IsTrue does ↔ Covers w others row
+    → IsTrue does ↔ IsInPlace w at other
+in_place_is w at other does row others same there apart is =
+    let here = subst (λ (r : Row). IsTrue does ↔ Covers w (row_at w.rows other) r) (sym same)
+    (subst (λ (r : Row). IsTrue does ↔ Covers w r row) (sym there) is) in
+    (λ h. (apart, here.0 h), λ p. here.1 p.1)
+
+-- a fact of each mark, with one mark more
+module _ (P : ℕ → Type 0) (below : ℕ) (marks : List Bool) (mark : Bool) (long : length marks ≡ below)
+    (each : (at : ℕ) (d : Bool) → at < length marks → IsTrue (get_or marks at d) ↔ P at)
+    (one : IsTrue mark ↔ P below) where
+  pub mark_push : (at : ℕ) (d : Bool) → at < length (marks ++ mark ∷ [])
+      → IsTrue (get_or (marks ++ mark ∷ []) at d) ↔ P at
+  mark_push at d lt = elim (cases_lt at (length marks)) [
+    | inl less ↦
+        subst (λ (b : Bool). IsTrue b ↔ P at) (sym (get_or_append_left marks (mark ∷ []) d at less)) (each at d less)
+    | inr late ↦
+        let last : at ≡ length marks = omega (arith, lt, late, length_push marks mark) in
+        subst (λ (b : Bool). IsTrue b ↔ P at) (sym (get_or_push marks mark d at (sym last)))
+        (subst (λ (n : ℕ). IsTrue mark ↔ P n) (sym (last ∙ long)) one)
+  ]
+
+  pub mark_long : length (marks ++ mark ∷ []) ≡ below + 1
+  mark_long = length_push marks mark ∙ ap (λ (n : ℕ). n + 1) long
+
+pub holding_push : (w : Walked) (lever below : ℕ) (marks : List Bool) (mark : Bool) (row : Row)
+    → AreHoldingBefore w lever below marks → row_at w.rows below ≡ row → IsTrue mark ↔ HoldsAlways w lever row
+    → AreHoldingBefore w lever (below + 1) (marks ++ mark ∷ [])
+holding_push w lever below marks mark row are same one =
+    let here = subst (λ (r : Row). IsTrue mark ↔ HoldsAlways w lever r) (sym same) one in
+    record {
+      long = mark_long (λ (at : ℕ). HoldsAlways w lever (row_at w.rows at)) below marks mark are.long are.each here;
+      each = mark_push (λ (at : ℕ). HoldsAlways w lever (row_at w.rows at)) below marks mark are.long are.each here;
+    }
+
+pub covering_push : (w : Walked) (at below : ℕ) (marks : List Bool) (mark : Bool) → AreCoveringBefore w at below marks
+    → IsTrue mark ↔ IsInPlace w at below → AreCoveringBefore w at (below + 1) (marks ++ mark ∷ [])
+covering_push w at below marks mark are one = record {
+  long = mark_long (λ (k : ℕ). IsInPlace w at k) below marks mark are.long are.each one;
+  each = mark_push (λ (k : ℕ). IsInPlace w at k) below marks mark are.long are.each one;
+}

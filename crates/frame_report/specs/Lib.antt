@@ -1,0 +1,4 @@
+pub mod Frame
+pub mod Report
+pub mod Text
+pub mod States

@@ -1,0 +1,166 @@
+//! What is found of each lever and each row of a frame.
+
+ghost use Rattle.std.specs.Prelude.{◌≡◌, ◌↔◌, ◌-◌, ◌<◌, All, IfOk, IsTrue, length};
+ghost use Rattle.locking_table.specs.Places.{IsLever};
+ghost use Rattle.locking_table.specs.Sound.{RowFits};
+ghost use Rattle.frame_walk.specs.Walked.{IsWalked};
+ghost use Rattle.frame_findings.specs.Findings.{IsFinding};
+ghost use Rattle.row_findings.specs.Redundant.{IsUse};
+ghost use Rattle.frame_report.specs.Report.{AreCovering, AreHolding, AreInPlace, AreLeverReports, AreRowReports};
+ghost use Rattle.frame_report.specs.Report.{AreToBlame, AreTogether, IsInPlace, IsLeverReport};
+ghost use Rattle.frame_report.specs.Report.{IsRowReport};
+
+use crate::report::{LeverReport, RowReport};
+use frame_findings::{Finding, Findings, holds_always};
+use frame_walk::Walk;
+use locking_table::{NoMemory, Row};
+use row_findings::{RowUse, covers, row_uses};
+use std::alloc::Global;
+
+// Whether a lever can be reversed together with each lever before it.
+fn others_of(alloc: Global, findings: &Findings, lever: u32) -> Result<Vec<Finding>, NoMemory>
+    requires { IsLever findings.now.levers lever }
+    ensures { IfOk result (λ others. AreTogether findings.now lever (lever - 1) others.items) }
+{
+    let mut others = Vec::new(alloc);
+    for k in 1..lever {
+        others.push(findings.pair(lever, k))?;
+    }
+    Ok(others)
+}
+
+// For each row whether it holds a lever in every state.
+fn holding_of(alloc: Global, walk: &Walk, lever: u32) -> Result<Vec<bool>, NoMemory>
+    requires walked { IsWalked walk.now }
+    requires rows { All (RowFits walk.now.levers) walk.now.rows }
+    requires lever { IsLever walk.now.levers lever }
+    ensures { IfOk result (λ holding. AreHolding walk.now lever holding.items) }
+{
+    let mut holding = Vec::new(alloc);
+    for row in walk.table().rows() {
+        holding.push(holds_always(alloc, walk, row, lever)?)?;
+    }
+    Ok(holding)
+}
+
+// The rows to blame where a lever can never be reversed.
+fn to_blame(alloc: Global, walk: &Walk, lever: u32, own: Finding) -> Result<Vec<bool>, NoMemory>
+    requires walked { IsWalked walk.now }
+    requires rows { All (RowFits walk.now.levers) walk.now.rows }
+    requires lever { IsLever walk.now.levers lever }
+    ensures { IfOk result (λ holding. AreToBlame walk.now lever own holding.items) }
+{
+    match own {
+        Finding::First(_) => Ok(Vec::new(alloc)),
+        Finding::Never => holding_of(alloc, walk, lever),
+        Finding::Open => Ok(Vec::new(alloc)),
+    }
+}
+
+// What is found of a lever.
+fn lever_report(
+    alloc: Global,
+    walk: &Walk,
+    findings: &Findings,
+    numbers: &[u32],
+    lever: u32,
+) -> Result<LeverReport, NoMemory>
+    requires walked { IsWalked walk.now }
+    requires rows { All (RowFits walk.now.levers) walk.now.rows }
+    requires findings { findings.now ≡ walk.now }
+    requires numbers { length numbers.now ≡ walk.now.levers }
+    requires lever { IsLever walk.now.levers lever }
+    ensures { IfOk result (IsLeverReport walk.now numbers.now lever) }
+{
+    let own = findings.lever(lever);
+    let others = others_of(alloc, findings, lever)?;
+    let holding = to_blame(alloc, walk, lever, own)?;
+    Ok(LeverReport {
+        number: numbers[lever as usize - 1],
+        own,
+        others,
+        holding,
+    })
+}
+
+/// What is found of each lever.
+pub fn lever_reports(
+    alloc: Global,
+    walk: &Walk,
+    findings: &Findings,
+    numbers: &[u32],
+) -> Result<Vec<LeverReport>, NoMemory>
+    requires walked { IsWalked walk.now }
+    requires rows { All (RowFits walk.now.levers) walk.now.rows }
+    requires findings { findings.now ≡ walk.now }
+    requires numbers { length numbers.now ≡ walk.now.levers }
+    ensures { IfOk result (λ reports. AreLeverReports walk.now numbers.now walk.now.levers reports.items) }
+{
+    let mut reports = Vec::new(alloc);
+    for i in 0..walk.levers() {
+        reports.push(lever_report(alloc, walk, findings, numbers, i + 1)?)?;
+    }
+    Ok(reports)
+}
+
+// Whether another row holds all that the row at a place holds.
+fn is_in_place(alloc: Global, walk: &Walk, at: usize, other: usize) -> Result<bool, NoMemory>
+    requires walked { IsWalked walk.now }
+    requires rows { All (RowFits walk.now.levers) walk.now.rows }
+    requires at { at < length walk.now.rows }
+    requires other { other < length walk.now.rows }
+    ensures { IfOk result (λ does. IsTrue does ↔ IsInPlace walk.now at other) }
+{
+    if other == at {
+        return Ok(false);
+    }
+    let rows = walk.table().rows();
+    let does = covers(alloc, walk, &rows[other], &rows[at])?;
+    Ok(does)
+}
+
+// For each row whether it holds all that the row at a place holds.
+fn covering_of(alloc: Global, walk: &Walk, at: usize) -> Result<Vec<bool>, NoMemory>
+    requires walked { IsWalked walk.now }
+    requires rows { All (RowFits walk.now.levers) walk.now.rows }
+    requires at { at < length walk.now.rows }
+    ensures { IfOk result (λ covering. AreCovering walk.now at covering.items) }
+{
+    let mut covering = Vec::new(alloc);
+    for other in 0..walk.table().len() {
+        covering.push(is_in_place(alloc, walk, at, other)?)?;
+    }
+    Ok(covering)
+}
+
+// The rows that hold as much, where the row at a place is redundant.
+fn in_place(alloc: Global, walk: &Walk, at: usize, row_use: RowUse) -> Result<Vec<bool>, NoMemory>
+    requires walked { IsWalked walk.now }
+    requires rows { All (RowFits walk.now.levers) walk.now.rows }
+    requires at { at < length walk.now.rows }
+    ensures { IfOk result (λ covering. AreInPlace walk.now at row_use covering.items) }
+{
+    match row_use {
+        RowUse::Needed => Ok(Vec::new(alloc)),
+        RowUse::Redundant => covering_of(alloc, walk, at),
+        RowUse::Open => Ok(Vec::new(alloc)),
+    }
+}
+
+/// What is found of each row.
+pub fn row_reports(alloc: Global, walk: &Walk) -> Result<Vec<RowReport>, NoMemory>
+    requires walked { IsWalked walk.now }
+    requires rows { All (RowFits walk.now.levers) walk.now.rows }
+    ensures { IfOk result (λ reports. AreRowReports walk.now (length walk.now.rows) reports.items) }
+{
+    let uses = row_uses(alloc, walk)?;
+    let mut reports = Vec::new(alloc);
+    for (at, row_use) in uses.iter().enumerate() {
+        let covering = in_place(alloc, walk, at, *row_use)?;
+        reports.push(RowReport {
+            row_use: *row_use,
+            covering,
+        })?;
+    }
+    Ok(reports)
+}

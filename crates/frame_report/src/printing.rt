@@ -1,0 +1,541 @@
+//! The text of a report.
+
+ghost use Rattle.std.specs.Prelude.{◌≡◌, ◌++◌, ◌-◌, ◌<◌, IfOk, OnOk, length, nat_le, slice_index, string_bytes};
+ghost use Rattle.std.specs.List.{flat_map, list_any};
+ghost use Rattle.locking_table.specs.Places.{end_at};
+ghost use Rattle.frame_walk.specs.States.{after_move};
+ghost use Rattle.frame_report.specs.Text.{answer_text, answers_text, blame_text, caveat_text, count_text};
+ghost use Rattle.frame_report.specs.Text.{digit_text, digits_text, levers_text, no_proof_text, rows_text};
+ghost use Rattle.frame_report.specs.Text.{frozen_text, head_text, is_marked, is_redundant, lever_text, marked_text};
+ghost use Rattle.frame_report.specs.Text.{move_text, moves_text, numbers_text, padded_text, redundancy_text};
+ghost use Rattle.frame_report.specs.Text.{redundant_text, redundants_text, row_line, sequence_text, sign_text};
+ghost use Rattle.frame_report.specs.Text.{signs_text, states_text, together_text, triangle_line};
+
+use crate::asked::StatesWanted;
+use crate::report::{LeverReport, RowReport, StatesReport};
+use frame_findings::{Finding, Sequence};
+use locking_table::{End, NoMemory, Row, put_row};
+use row_findings::RowUse;
+use std::alloc::{AllocError, Global};
+use std::fmt::Write;
+
+// ---- the head
+
+#[tactic(auto, unfolding(crate::specs::Text::caveat_text))]
+fn caveat() -> &'static str
+    ensures { result.now ≡ caveat_text }
+{
+    "by the locking table alone: tracks and instruments are left out, as if clear and free\n"
+}
+
+#[tactic(auto, unfolding(crate::specs::Text::no_proof_text))]
+fn no_proof() -> &'static str
+    ensures { result.now ≡ no_proof_text }
+{
+    "this is no proof of a layout's safety\n"
+}
+
+#[tactic(auto, unfolding(crate::specs::Text::head_text))]
+fn put_head(out: &mut String, name: &str) -> Result<(), AllocError>
+    ensures { OnOk result (string_bytes out.new ≡ string_bytes out.old ++ head_text name.now) }
+{
+    out.push_str("states ")?;
+    out.push_str(name)?;
+    out.push_str("\n")?;
+    out.push_str(caveat())?;
+    out.push_str(no_proof())
+}
+
+#[tactic(auto, unfolding(crate::specs::Text::count_text))]
+fn put_count(out: &mut String, count: usize, whole: bool) -> Result<(), AllocError>
+    ensures { OnOk result (string_bytes out.new ≡ string_bytes out.old ++ count_text count whole) }
+{
+    write!(out, "states that were walked: {count}\n")?;
+    if whole {
+        out.push_str("these are all that can be reached\n")
+    } else {
+        out.push_str("not all states were walked, and of those that are left nothing is said\n")
+    }
+}
+
+// ---- rows
+
+// The line of a row that does something.
+#[tactic(auto, unfolding(crate::specs::Text::row_line))]
+fn put_row_line(out: &mut String, does: &str, number: usize, row: &Row) -> Result<(), AllocError>
+    ensures { OnOk result (string_bytes out.new ≡ string_bytes out.old ++ row_line does.now number row.now) }
+{
+    write!(out, "    row {number}{does}")?;
+    put_row(out, row)?;
+    out.push_str("\n")
+}
+
+// Whether the row at a place is marked.
+fn is_marked(marks: &[bool], at: usize) -> bool
+    ensures { result ≡ is_marked marks.now at }
+{
+    match marks.get(at) {
+        Some(mark) => *mark,
+        None => false,
+    }
+}
+
+// The lines of the rows that are marked.
+fn put_marked(out: &mut String, does: &str, marks: &[bool], rows: &[Row]) -> Result<(), AllocError>
+    ensures { OnOk result
+        (string_bytes out.new ≡ string_bytes out.old ++ marked_text does.now marks.now 0 rows.now) }
+{
+    for (i, row) in rows.iter().enumerate() {
+        if is_marked(marks, i) {
+            put_row_line(out, does, i + 1, row)?;
+        }
+    }
+    Ok(())
+}
+
+// ---- levers that can never be reversed
+
+// Whether any row is marked.
+fn any_marked(marks: &[bool]) -> bool
+    ensures { result ≡ list_any (λ mark. mark) marks.now }
+{
+    marks.iter().any(|mark| *mark)
+}
+
+// The rows that hold a lever in every state.
+#[tactic(auto, unfolding(crate::specs::Text::blame_text))]
+fn put_blame(out: &mut String, rows: &[Row], marks: &[bool]) -> Result<(), AllocError>
+    ensures { OnOk result (string_bytes out.new ≡ string_bytes out.old ++ blame_text rows.now marks.now) }
+{
+    if any_marked(marks) {
+        put_marked(out, " holds it in every state: ", marks, rows)
+    } else {
+        out.push_str("    no row alone holds it in every state\n")
+    }
+}
+
+#[tactic(auto, unfolding(crate::specs::Text::frozen_text))]
+fn put_frozen(out: &mut String, rows: &[Row], number: u32, marks: &[bool]) -> Result<(), AllocError>
+    ensures { OnOk result
+        (string_bytes out.new ≡ string_bytes out.old ++ frozen_text rows.now number marks.now) }
+{
+    write!(out, "lever {number} can never be reversed\n")?;
+    put_blame(out, rows, marks)
+}
+
+// The lines of a lever, if it can never be reversed.
+fn put_lever(out: &mut String, rows: &[Row], lever: &LeverReport) -> Result<(), AllocError>
+    ensures { OnOk result (string_bytes out.new ≡ string_bytes out.old
+        ++ lever_text rows.now lever.now.number lever.now.own lever.now.holding.items) }
+{
+    match lever.own {
+        Finding::First(_) => Ok(()),
+        Finding::Never => put_frozen(out, rows, lever.number, &lever.holding),
+        Finding::Open => Ok(()),
+    }
+}
+
+fn put_levers(out: &mut String, rows: &[Row], levers: &[LeverReport]) -> Result<(), AllocError>
+    ensures { OnOk result (string_bytes out.new ≡ string_bytes out.old
+        ++ flat_map (λ lever. lever_text rows.now lever.number lever.own lever.holding.items) levers.now) }
+{
+    for lever in levers {
+        put_lever(out, rows, lever)?;
+    }
+    Ok(())
+}
+
+// ---- levers that can be reversed together
+
+fn sign_text(finding: Finding) -> &'static str
+    ensures { result.now ≡ sign_text finding }
+{
+    match finding {
+        Finding::First(_) => " .",
+        Finding::Never => " x",
+        Finding::Open => " ?",
+    }
+}
+
+fn put_signs(out: &mut String, findings: &[Finding]) -> Result<(), AllocError>
+    ensures { OnOk result (string_bytes out.new ≡ string_bytes out.old ++ flat_map sign_text findings.now) }
+{
+    for finding in findings {
+        out.push_str(sign_text(*finding))?;
+    }
+    Ok(())
+}
+
+// A digit of a lever's number.
+#[tactic(auto, unfolding(crate::specs::Text::digit_text))]
+fn put_digit(out: &mut String, power: u32, number: u32) -> Result<(), AllocError>
+    requires { 0 < power }
+    ensures { OnOk result (string_bytes out.new ≡ string_bytes out.old ++ digit_text power number) }
+{
+    if number < power {
+        out.push_str("  ")
+    } else {
+        let digit = number / power % 10;
+        write!(out, " {digit}")
+    }
+}
+
+fn put_each_digit(out: &mut String, power: u32, numbers: &[u32]) -> Result<(), AllocError>
+    requires { 0 < power }
+    ensures { OnOk result
+        (string_bytes out.new ≡ string_bytes out.old ++ flat_map (digit_text power) numbers.now) }
+{
+    for number in numbers {
+        put_digit(out, power, *number)?;
+    }
+    Ok(())
+}
+
+// Whether any lever's number has a digit at a power of ten.
+fn any_reaches(power: u32, numbers: &[u32]) -> bool
+    ensures { result ≡ list_any (λ number. nat_le power number) numbers.now }
+{
+    numbers.iter().any(|number| power <= *number)
+}
+
+// The digits of the levers' numbers at a power of ten, if any has one.
+fn put_digits(out: &mut String, power: u32, numbers: &[u32]) -> Result<(), AllocError>
+    requires { 0 < power }
+    ensures { OnOk result (string_bytes out.new ≡ string_bytes out.old ++ digits_text power numbers.now) }
+{
+    if any_reaches(power, numbers) {
+        out.push_str("   ")?;
+        put_each_digit(out, power, numbers)?;
+        out.push_str("\n")
+    } else {
+        Ok(())
+    }
+}
+
+// A number in three columns.
+#[tactic(auto, unfolding(crate::specs::Text::padded_text))]
+fn put_padded(out: &mut String, number: u32) -> Result<(), AllocError>
+    ensures { OnOk result (string_bytes out.new ≡ string_bytes out.old ++ padded_text number) }
+{
+    if number < 10 {
+        write!(out, "  {number}")
+    } else if number < 100 {
+        write!(out, " {number}")
+    } else {
+        write!(out, "{number}")
+    }
+}
+
+// A lever's line of the triangle.
+#[tactic(auto, unfolding(crate::specs::Text::triangle_line))]
+fn put_triangle_line(out: &mut String, lever: &LeverReport) -> Result<(), AllocError>
+    ensures { OnOk result (string_bytes out.new ≡ string_bytes out.old ++ triangle_line lever.now) }
+{
+    put_padded(out, lever.number)?;
+    put_signs(out, &lever.others)?;
+    out.push_str(sign_text(lever.own))?;
+    out.push_str("\n")
+}
+
+fn put_triangle(out: &mut String, levers: &[LeverReport]) -> Result<(), AllocError>
+    ensures { OnOk result (string_bytes out.new ≡ string_bytes out.old ++ flat_map triangle_line levers.now) }
+{
+    for lever in levers {
+        put_triangle_line(out, lever)?;
+    }
+    Ok(())
+}
+
+fn signs_text(whole: bool) -> &'static str
+    ensures { result.now ≡ signs_text whole }
+{
+    if whole {
+        "reversed together: . they can be, x never\n"
+    } else {
+        "reversed together: . they can be, x never, ? not found\n"
+    }
+}
+
+#[tactic(auto, unfolding(crate::specs::Text::together_text))]
+fn put_together(
+    out: &mut String,
+    whole: bool,
+    numbers: &[u32],
+    levers: &[LeverReport],
+) -> Result<(), AllocError>
+    ensures { OnOk result
+        (string_bytes out.new ≡ string_bytes out.old ++ together_text whole numbers.now levers.now) }
+{
+    out.push_str(signs_text(whole))?;
+    put_digits(out, 100, numbers)?;
+    put_digits(out, 10, numbers)?;
+    put_digits(out, 1, numbers)?;
+    put_triangle(out, levers)
+}
+
+// ---- redundant rows
+
+fn is_redundant(row_use: RowUse) -> bool
+    ensures { result ≡ is_redundant row_use }
+{
+    match row_use {
+        RowUse::Needed => false,
+        RowUse::Redundant => true,
+        RowUse::Open => false,
+    }
+}
+
+// The lines of a redundant row.
+#[tactic(auto, unfolding(crate::specs::Text::redundant_text))]
+fn put_redundant(
+    out: &mut String,
+    rows: &[Row],
+    number: usize,
+    row: &Row,
+    marks: &[bool],
+) -> Result<(), AllocError>
+    ensures { OnOk result
+        (string_bytes out.new ≡ string_bytes out.old ++ redundant_text rows.now number row.now marks.now) }
+{
+    write!(out, "row {number} is redundant: ")?;
+    put_row(out, row)?;
+    out.push_str("\n")?;
+    put_marked(out, " holds all that it holds: ", marks, rows)
+}
+
+// The lines of the redundant rows.
+fn put_redundants(out: &mut String, rows: &[Row], reports: &[RowReport]) -> Result<(), AllocError>
+    requires { length reports.now ≡ length rows.now }
+    ensures { OnOk result (string_bytes out.new ≡ string_bytes out.old
+        ++ redundants_text rows.now 0 rows.now reports.now) }
+{
+    for (i, row) in rows.iter().enumerate() {
+        let report = &reports[i];
+        if is_redundant(report.row_use) {
+            put_redundant(out, rows, i + 1, row, &report.covering)?;
+        }
+    }
+    Ok(())
+}
+
+// Whether any row is redundant.
+fn any_redundant(reports: &[RowReport]) -> bool
+    ensures { result ≡ list_any (λ report. is_redundant report.row_use) reports.now }
+{
+    reports.iter().any(|report| is_redundant(report.row_use))
+}
+
+#[tactic(auto, unfolding(crate::specs::Text::redundancy_text))]
+fn put_redundancy(out: &mut String, whole: bool, reports: &[RowReport]) -> Result<(), AllocError>
+    ensures { OnOk result (string_bytes out.new ≡ string_bytes out.old ++ redundancy_text whole reports.now) }
+{
+    if any_redundant(reports) {
+        out.push_str("each row that is redundant is so while all others stay\n")
+    } else if whole {
+        out.push_str("no row is redundant\n")
+    } else {
+        Ok(())
+    }
+}
+
+// ---- sequences
+
+// The end at which a lever stands.
+fn end_in(ends: &[End], lever: u32) -> End
+    ensures { result ≡ end_at ends.now lever }
+{
+    match ends.get(lever.saturating_sub(1) as usize) {
+        Some(end) => *end,
+        None => End::Normal,
+    }
+}
+
+// Moves a lever to its other end.
+fn turn(ends: &mut [End], lever: u32)
+    ensures { ends.new ≡ after_move ends.old lever }
+{
+    let at = lever.saturating_sub(1) as usize;
+    if at < ends.len() {
+        ends[at] = ends[at].other();
+    }
+}
+
+// The number of the lever at a place.
+fn number_at(numbers: &[u32], lever: u32) -> u32
+    ensures { result ≡ slice_index numbers.now (lever - 1) }
+{
+    match numbers.get(lever.saturating_sub(1) as usize) {
+        Some(number) => *number,
+        None => 0,
+    }
+}
+
+// The line of a move.
+#[tactic(auto, unfolding(crate::specs::Text::move_text))]
+fn put_move(out: &mut String, end: End, number: u32) -> Result<(), AllocError>
+    ensures { OnOk result (string_bytes out.new ≡ string_bytes out.old ++ move_text end number) }
+{
+    match end {
+        End::Normal => write!(out, "    pull {number}\n"),
+        End::Reversed => write!(out, "    put {number}\n"),
+    }
+}
+
+// The lines of moves from a state on.
+fn put_moves(
+    out: &mut String,
+    numbers: &[u32],
+    ends: &mut [End],
+    path: &[u32],
+) -> Result<(), AllocError>
+    ensures { OnOk result (string_bytes out.new ≡ string_bytes out.old
+        ++ moves_text numbers.now ends.old path.now) }
+{
+    for lever in path {
+        put_move(out, end_in(ends, *lever), number_at(numbers, *lever))?;
+        turn(ends, *lever);
+    }
+    Ok(())
+}
+
+fn put_sequence(
+    out: &mut String,
+    alloc: Global,
+    numbers: &[u32],
+    sequence: &Sequence,
+) -> Result<(), AllocError>
+    ensures { OnOk result
+        (string_bytes out.new ≡ string_bytes out.old ++ sequence_text numbers.now sequence.now) }
+{
+    match sequence {
+        Sequence::Moves(path) => {
+            let mut ends = vec![in alloc; End::Normal; numbers.len()]?;
+            put_moves(out, numbers, &mut ends, path)
+        }
+        Sequence::Never => {
+            out.push_str("    no sequence of pulls and puts reverses them together\n")
+        }
+        Sequence::Open => {
+            out.push_str("    no state that was walked has them reversed together\n")
+        }
+    }
+}
+
+fn put_numbers(out: &mut String, numbers: &[u32]) -> Result<(), AllocError>
+    ensures { OnOk result (string_bytes out.new ≡ string_bytes out.old ++ numbers_text numbers.now) }
+{
+    for number in numbers {
+        write!(out, " {number}")?;
+    }
+    Ok(())
+}
+
+// What was asked of levers, if of any, and the answer.
+#[tactic(auto, unfolding(crate::specs::Text::asked_text))]
+fn put_answer(
+    out: &mut String,
+    alloc: Global,
+    asks: &str,
+    numbers: &[u32],
+    levers: &[u32],
+    sequence: &Sequence,
+) -> Result<(), AllocError>
+    ensures { OnOk result (string_bytes out.new ≡ string_bytes out.old
+        ++ answer_text asks.now numbers.now levers.now sequence.now) }
+{
+    match levers {
+        [] => Ok(()),
+        [_, ..] => {
+            out.push_str(asks)?;
+            put_numbers(out, levers)?;
+            out.push_str("\n")?;
+            put_sequence(out, alloc, numbers, sequence)
+        }
+    }
+}
+
+// ---- the whole
+
+// What is said of the levers.
+#[tactic(auto, unfolding(crate::specs::Text::levers_text))]
+fn put_levers_part(
+    out: &mut String,
+    numbers: &[u32],
+    rows: &[Row],
+    report: &StatesReport,
+) -> Result<(), AllocError>
+    ensures { OnOk result
+        (string_bytes out.new ≡ string_bytes out.old ++ levers_text numbers.now rows.now report.now) }
+{
+    let levers = report.levers.as_slice();
+    put_levers(out, rows, levers)?;
+    put_together(out, report.whole, numbers, levers)
+}
+
+// What is said of the rows.
+#[tactic(auto, unfolding(crate::specs::Text::rows_text))]
+fn put_rows_part(out: &mut String, rows: &[Row], report: &StatesReport) -> Result<(), AllocError>
+    requires { length report.now.rows.items ≡ length rows.now }
+    ensures { OnOk result (string_bytes out.new ≡ string_bytes out.old ++ rows_text rows.now report.now) }
+{
+    let reports = report.rows.as_slice();
+    put_redundancy(out, report.whole, reports)?;
+    put_redundants(out, rows, reports)
+}
+
+// The answers to what was asked.
+#[tactic(auto, unfolding(crate::specs::Text::answers_text))]
+fn put_answers(
+    out: &mut String,
+    alloc: Global,
+    numbers: &[u32],
+    wanted: &StatesWanted,
+    report: &StatesReport,
+) -> Result<(), AllocError>
+    ensures { OnOk result
+        (string_bytes out.new ≡ string_bytes out.old ++ answers_text numbers.now wanted.now report.now) }
+{
+    let reached = wanted.reach.as_slice();
+    let never = wanted.never.as_slice();
+    put_answer(out, alloc, "reach", numbers, reached, &report.reach)?;
+    put_answer(out, alloc, "never", numbers, never, &report.never)
+}
+
+#[tactic(auto, unfolding(crate::specs::Text::states_text))]
+fn put_states(
+    out: &mut String,
+    alloc: Global,
+    name: &str,
+    numbers: &[u32],
+    rows: &[Row],
+    wanted: &StatesWanted,
+    report: &StatesReport,
+) -> Result<(), AllocError>
+    requires { length report.now.rows.items ≡ length rows.now }
+    ensures { OnOk result (string_bytes out.new ≡ string_bytes out.old
+        ++ states_text name.now numbers.now rows.now wanted.now report.now) }
+{
+    put_head(out, name)?;
+    put_count(out, report.count, report.whole)?;
+    put_levers_part(out, numbers, rows, report)?;
+    put_rows_part(out, rows, report)?;
+    put_answers(out, alloc, numbers, wanted, report)
+}
+
+/// A report on the frame of a box that has these levers and rows, as it is printed.
+pub fn print_states(
+    alloc: Global,
+    name: &str,
+    numbers: &[u32],
+    rows: &[Row],
+    wanted: &StatesWanted,
+    report: &StatesReport,
+) -> Result<String, NoMemory>
+    requires { length report.now.rows.items ≡ length rows.now }
+    ensures { IfOk result (λ text.
+        string_bytes text ≡ states_text name.now numbers.now rows.now wanted.now report.now) }
+{
+    let mut out = String::new(alloc);
+    put_states(&mut out, alloc, name, numbers, rows, wanted, report)?;
+    Ok(out)
+}

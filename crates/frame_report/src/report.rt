@@ -1,0 +1,43 @@
+//! What is reported of a frame's states.
+
+use frame_findings::{Finding, Sequence};
+use row_findings::RowUse;
+
+/// What is found of a lever.
+#[derive(Drop)]
+pub struct LeverReport {
+    /// Its number in the plan.
+    pub number: u32,
+    /// Whether it can be reversed.
+    pub own: Finding,
+    /// Whether it can be reversed together with each lever before it.
+    pub others: Vec<Finding>,
+    /// Where it never can be: for each row whether this row holds it in every state.
+    pub holding: Vec<bool>,
+}
+
+/// What is found of a row.
+#[derive(Drop)]
+pub struct RowReport {
+    /// What it is good for.
+    pub row_use: RowUse,
+    /// Where it is redundant: for each row whether this row holds all that the redundant one holds.
+    pub covering: Vec<bool>,
+}
+
+/// What is found of a frame.
+#[derive(Drop)]
+pub struct StatesReport {
+    /// How many states were walked.
+    pub count: usize,
+    /// Whether these are all that can be reached.
+    pub whole: bool,
+    /// Each lever of the frame, in order.
+    pub levers: Vec<LeverReport>,
+    /// Each row, in table order.
+    pub rows: Vec<RowReport>,
+    /// How the levers that are to be reached come to be reversed together.
+    pub reach: Sequence,
+    /// How the levers that are never to be reversed together come to be so.
+    pub never: Sequence,
+}

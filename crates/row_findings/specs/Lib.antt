@@ -1,0 +1,3 @@
+pub mod Redundant
+pub mod Covering
+pub mod Marks
