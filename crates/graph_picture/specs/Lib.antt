@@ -1,0 +1,5 @@
+pub mod Places
+pub mod Boxes
+pub mod Rulings
+pub mod Trains
+pub mod Pictures

@@ -1,0 +1,9 @@
+pub mod Turning
+pub mod Dealing
+pub mod Rooms
+pub mod Days
+pub mod Legal
+pub mod Drawn
+pub mod Ordered
+pub mod Begun
+pub mod Apart
