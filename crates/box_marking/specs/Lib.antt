@@ -1,0 +1,9 @@
+pub mod Doings
+pub mod Clocks
+pub mod Bells
+pub mod Pages
+pub mod Lapses
+pub mod Behind
+pub mod Markings
+pub mod Markers
+pub mod Texts
