@@ -67,10 +67,13 @@ sizes:
 look:
 	python3 hostile/look.py crates/signalbox/out/signalbox
 
+people = crates/worked_cases/data/people
+
 # Draws the pictures of the documents anew.
 pictures:
-	crates/signalbox/out/signalbox frame crates/worked_cases/data/people/frame_of_oak/valley.plan Oak \
-		> docs/pictures/oak_frame.svg
+	crates/signalbox/out/signalbox frame $(people)/frame_of_oak/valley.plan Oak > docs/pictures/oak_frame.svg
+	crates/signalbox/out/signalbox graph $(people)/graph_guide_line/valley.plan $(people)/graph_guide_line/day.journal \
+		> docs/pictures/valley_graph.svg
 
 # Tries the wrong bodies of hostile/planted.txt, which the contracts must refuse, on a copy. It needs the libraries,
 # and some half a minute of a processor for each edit.

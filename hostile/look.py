@@ -2,10 +2,11 @@
 """Draws pictures with the proved `signalbox` and opens each as people do: look.py PROGRAM [FOLDER]
 
 PROGRAM is crates/signalbox/out/signalbox. The frames of the guide's line, of the example line of three boxes, and of a
-box with as many levers and rows as a box may have are drawn. Each file is taken by xmllint, rsvg-convert and headless
-Chromium; whichever of these is missing is installed from Debian's packages. A PNG of each, as each of the two drew it,
-is left in FOLDER (a new one where none is given) to be looked at. The pictures of docs/pictures/ have to be those that
-are drawn now. What isn't so is told, and the exit status is then 1.
+box with as many levers and rows as a box may have are drawn; and the train graphs of what comes of these lines' scripts,
+and of a line of 64 boxes. Each file is taken by xmllint, rsvg-convert and headless Chromium; whichever of these is
+missing is installed from Debian's packages. A PNG of each, as each of the two drew it, is left in FOLDER (a new one
+where none is given) to be looked at. The pictures of docs/pictures/ have to be those that are drawn now. What isn't so
+is told, and the exit status is then 1.
 """
 
 import os
@@ -22,10 +23,16 @@ import inputs  # noqa: E402
 import sizes  # noqa: E402
 
 PACKAGES = {"xmllint": "libxml2-utils", "rsvg-convert": "librsvg2-bin", "chromium": "chromium"}
-VALLEY = os.path.join(TOP, "crates", "worked_cases", "data", "people", "frame_of_oak", "valley.plan")
-EXAMPLE = os.path.join(TOP, "crates", "box_main", "data", "example.plan")
-# The pictures of the documents: file, plan, box.
-SHOWN = [("oak_frame.svg", VALLEY, "Oak")]
+PEOPLE = os.path.join(TOP, "crates", "worked_cases", "data", "people")
+VALLEY = os.path.join(PEOPLE, "frame_of_oak", "valley.plan")
+GRAPHED = os.path.join(PEOPLE, "graph_guide_line")
+LINE = os.path.join(TOP, "crates", "box_main", "data")
+EXAMPLE = os.path.join(LINE, "example.plan")
+# The pictures of the documents: file, and the words that draw it.
+SHOWN = [
+    ("oak_frame.svg", ["frame", VALLEY, "Oak"]),
+    ("valley_graph.svg", ["graph", f"{GRAPHED}/valley.plan", f"{GRAPHED}/day.journal"]),
+]
 
 
 def install():
@@ -47,6 +54,13 @@ def great_plan(folder):
     return made, lines[first].split()[1]
 
 
+def long_line(folder):
+    """The plan and the scripts of a line of 64 boxes over which a dozen trains go, down and up in turn."""
+    names = [f"B{at:02}" for at in range(64)]
+    inputs.write(folder, "long", *inputs.train_line(names, 12))
+    return f"{folder}/long/plan", [f"{folder}/long/s{at:02}" for at in range(64)]
+
+
 class Looker:
     def __init__(self, program, folder):
         self.program, self.folder, self.bad = os.path.abspath(program), folder, 0
@@ -55,11 +69,21 @@ class Looker:
         self.bad += 1
         print(f"{name}: {why}")
 
-    def draw(self, plan, box):
-        ran = subprocess.run([self.program, "frame", plan, box], capture_output=True)
+    def draw(self, words):
+        ran = subprocess.run([self.program, *words], capture_output=True)
         if ran.returncode != 0:
-            self.tell(box, f"status {ran.returncode}: {ran.stderr.decode(errors='replace').strip()}")
+            self.tell(words[-1], f"status {ran.returncode}: {ran.stderr.decode(errors='replace').strip()}")
         return ran.stdout
+
+    def journal(self, folder, name, plan, scripts):
+        """The journal of a line whose scripts are rehearsed."""
+        ran = subprocess.run([self.program, "rehearse", "--journal", plan, *scripts], capture_output=True)
+        if ran.returncode == 2:
+            self.tell(name, f"status 2: {ran.stderr.decode(errors='replace').strip()}")
+        path = os.path.join(folder, f"{name}.journal")
+        with open(path, "wb") as file:
+            file.write(ran.stdout)
+        return path
 
     def tool(self, name, words):
         ran = subprocess.run(words, capture_output=True, timeout=120)
@@ -82,9 +106,9 @@ class Looker:
                 self.tell(name, f"no {os.path.basename(drawn)}")
 
     def compare(self):
-        for file_name, plan, box in SHOWN:
+        for file_name, words in SHOWN:
             with open(os.path.join(TOP, "docs", "pictures", file_name), "rb") as file:
-                if file.read() != self.draw(plan, box):
+                if file.read() != self.draw(words):
                     self.tell(file_name, "isn't what is drawn now: make pictures")
 
 
@@ -96,9 +120,16 @@ def main(program, folder):
         great, first = great_plan(room)
         frames = [(VALLEY, "Elm"), (VALLEY, "Oak"), (EXAMPLE, "Ash"), (EXAMPLE, "Beech"), (EXAMPLE, "Cedar"), (great, first)]
         for plan, box in frames:
-            looker.look(f"frame_{box}", looker.draw(plan, box))
+            looker.look(f"frame_{box}", looker.draw(["frame", plan, box]))
+        example = [os.path.join(LINE, f"{name}.script") for name in ("ash", "beech", "cedar")]
+        graphs = [("guide", f"{GRAPHED}/valley.plan", f"{GRAPHED}/day.journal"),
+                  ("example", EXAMPLE, looker.journal(room, "example", EXAMPLE, example))]
+        long_plan, long_scripts = long_line(room)
+        graphs.append(("long", long_plan, looker.journal(room, "long", long_plan, long_scripts)))
+        for name, plan, journal in graphs:
+            looker.look(f"graph_{name}", looker.draw(["graph", plan, journal]))
     looker.compare()
-    print(f"{len(frames)} pictures in {folder}; {looker.bad} seen otherwise than they should be")
+    print(f"{len(frames) + len(graphs)} pictures in {folder}; {looker.bad} seen otherwise than they should be")
     return 1 if looker.bad else 0
 
 

@@ -1,3 +1,4 @@
 pub mod Troubles
 pub mod Gathered
 pub mod Others
+pub mod Journals

@@ -19,6 +19,16 @@ stop_shown troubles.NoMemory = stops.NoMemory
 abbrev pub IsOwnLine : List ℕ → Type 0
 IsOwnLine line = (rest : List ℕ) × (line ≡ codes "signalbox: " ++ rest)
 
+-- what is told of a file, behind its name, in a line
+abbrev pub trouble_line : List ℕ → List ℕ → List ℕ
+trouble_line file what = codes "signalbox: " ++ file ++ codes ": " ++ what ++ 10 ∷ []
+
+-- just this line is told, unless memory ran out
+abbrev pub IsToldAs : List ℕ → Trouble → Type 0
+IsToldAs line (troubles.Untaken told) = string_bytes told ≡ line
+IsToldAs line (troubles.Refused text number cause told) = ⊥
+IsToldAs line troubles.NoMemory = Unit {0}
+
 -- no text is refused; what is told is a line of the program's own
 abbrev pub IsNoRefusal : Trouble → Type 0
 IsNoRefusal (troubles.Untaken line) = IsOwnLine (string_bytes line)

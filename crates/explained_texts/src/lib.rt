@@ -3,6 +3,7 @@
 
 mod fetching;
 mod gathering;
+mod journals;
 mod others;
 mod reading;
 mod shelf;
@@ -10,6 +11,7 @@ mod trouble;
 
 pub use fetching::fetch_text;
 pub use gathering::{RunTexts, fetch_run};
-pub use others::{OthersTexts, fetch_box, fetch_others};
+pub use journals::{JournalTexts, fetch_journal};
+pub use others::{OthersTexts, fetch_box, fetch_others, named_box};
 pub use shelf::ReasonedShelf;
 pub use trouble::{Trouble, trouble_with};

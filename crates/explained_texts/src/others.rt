@@ -28,8 +28,12 @@ pub struct OthersTexts {
     pub scripts: Vec<Script>,
 }
 
-// The plan under a name, as text 1.
-fn fetch_plan<S: ReasonedShelf>(alloc: Global, shelf: &mut S, name: &str) -> Result<Plan, Trouble>
+/// The plan under a name, as text 1.
+pub(crate) fn fetch_plan<S: ReasonedShelf>(
+    alloc: Global,
+    shelf: &mut S,
+    name: &str,
+) -> Result<Plan, Trouble>
     ensures told { IfOk result (λ plan. IsGiven plan (plan_told (S.held shelf.old) name.now)) }
     ensures explained { IfErr result (IsExplainedByName (S.held shelf.old)) }
     ensures same { (n : List ℕ) → S.held shelf.new n ≡ S.held shelf.old n }
@@ -56,6 +60,18 @@ fn no_such_box(alloc: Global, name: &str) -> Trouble
     trouble_with(alloc, name, "the plan has no box of this name")
 }
 
+/// The number of a plan's box of this name.
+pub fn named_box(alloc: Global, plan: &Plan, name: &str) -> Result<u32, Trouble>
+    ensures at { IfOk result (λ box_no. box_no < length plan.now.boxes) }
+    ensures named { IfOk result (λ box_no. position (bytes_eq name.now) (names_of plan.now.boxes) ≡ Some box_no) }
+    ensures explained { (held : Held) → IfErr result (IsExplainedByName held) }
+{
+    match box_named(plan, name) {
+        Some(box_no) => Ok(box_no),
+        None => Err(no_such_box(alloc, name)),
+    }
+}
+
 /// The plan of this name, and the number of its box of that name.
 pub fn fetch_box<S: ReasonedShelf>(
     alloc: Global,
@@ -71,11 +87,11 @@ pub fn fetch_box<S: ReasonedShelf>(
     ensures same { (n : List ℕ) → S.held shelf.new n ≡ S.held shelf.old n }
 {
     let plan = fetch_plan(alloc, shelf, plan_name)?;
-    match box_named(&plan, box_name) {
-        Some(box_no) => Ok((plan, box_no)),
-        None => {
+    match named_box(alloc, &plan, box_name) {
+        Ok(box_no) => Ok((plan, box_no)),
+        Err(trouble) => {
             drop(plan);
-            Err(no_such_box(alloc, box_name))
+            Err(trouble)
         }
     }
 }

@@ -1,7 +1,7 @@
 //! Why a text was not had.
 
 ghost use Rattle.std.specs.Prelude.{◌≡◌};
-ghost use Rattle.explained_texts.specs.Troubles.{IsNoRefusal};
+ghost use Rattle.explained_texts.specs.Troubles.{IsNoRefusal, IsToldAs, trouble_line};
 ghost use Rattle.explained_texts.specs.declared.trouble.Trouble.TheVariants.{NoMemory as memory};
 
 use rail_text::{Cause, NoMemory};
@@ -50,7 +50,8 @@ impl<T: Drop> From<AllocFailed<T>> for Trouble {
 
 /// What is told of a file, behind its name, in a line.
 pub fn trouble_with(alloc: Global, file: &str, what: &str) -> Trouble
-    ensures { IsNoRefusal result }
+    ensures refusal { IsNoRefusal result }
+    ensures line { IsToldAs (trouble_line file.now what.now) result }
 {
     match format!(in alloc; "signalbox: {file}: {what}\n") {
         Ok(line) => Trouble::Untaken(line),

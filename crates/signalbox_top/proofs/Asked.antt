@@ -73,8 +73,6 @@ pub fault_without_memory : (held : Held) (counts : FaultCounts) (command : Optio
     (old new : Option (List ℕ)) (before now : ℕ) → IsTold (codes "signalbox: out of memory\n") old new before now
     → FaultIsTold held counts command old new before now
 fault_without_memory held counts None old new before now told = tt
-fault_without_memory held counts (Some (Command.Tidy file)) old new before now told = tt
-fault_without_memory held counts (Some (Command.Work wanted)) old new before now told = tt
-fault_without_memory held counts (Some (Command.Frame plan box_name)) old new before now told = tt
 fault_without_memory held counts (Some (Command.Rehearse wanted)) old new before now told =
     λ n fault refused. (codes "signalbox: out of memory\n", (inr (inr refl), told))
+fault_without_memory held counts (Some other) old new before now told = tt

@@ -4,3 +4,4 @@ pub mod Written
 mod Grown
 mod NamedTexts
 mod Reported
+mod Working

@@ -3,3 +3,9 @@ pub mod Told
 pub mod Rehearsing
 pub mod Hand
 pub mod Framing
+pub mod Graphing
+pub mod MarkedJournals
+pub mod Marks
+pub mod Statuses
+pub mod WalkedFrames
+pub mod Walks

@@ -51,9 +51,7 @@ TellsFault held counts wanted n fault old new before now =
 -- where a text of a run is refused, its fault is told
 abbrev pub FaultIsTold : Held → FaultCounts → Option Command → Option (List ℕ) → Option (List ℕ) → ℕ → ℕ → Type 0
 FaultIsTold held counts None old new before now = Unit {0}
-FaultIsTold held counts (Some (Command.Tidy file)) old new before now = Unit {0}
-FaultIsTold held counts (Some (Command.Work wanted)) old new before now = Unit {0}
-FaultIsTold held counts (Some (Command.Frame plan box_name)) old new before now = Unit {0}
 FaultIsTold held counts (Some (Command.Rehearse wanted)) old new before now =
     (n : ℕ) (fault : Fault) → run_told held wanted.plan wanted.scripts ≡ Refuses n fault
     → TellsFault held counts wanted n fault old new before now
+FaultIsTold held counts (Some other) old new before now = Unit {0}

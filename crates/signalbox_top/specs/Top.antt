@@ -23,6 +23,10 @@ use Rattle.explained_texts.specs.Gathered.{AreTextsOf}
 use Rattle.signalbox_words.specs.Commands.{Command, Rehearsing, command_of}
 use Rattle.signalbox_words.specs.Table.{program}
 use Rattle.signalbox_top.specs.Framing.{IsFrameOf}
+use Rattle.signalbox_top.specs.Graphing.{IsGraphOf}
+use Rattle.signalbox_top.specs.MarkedJournals.{IsMarkedOf}
+use Rattle.signalbox_top.specs.Statuses.{status_of}
+use Rattle.signalbox_top.specs.WalkedFrames.{IsWalkedOf}
 use Rattle.signalbox_top.specs.declared.status.Status.{Status}
 use Rattle.signalbox_top.specs.declared.status.Status.TheVariants as statuses
 use Rattle.tidy_text.specs.Tidy.{tidy_text}
@@ -43,11 +47,6 @@ code_of statuses.Failed = 2
 abbrev pub until_of : Bool → Until
 until_of true = untils.Refusal
 until_of false = untils.Stop
-
--- the status where something was found, or not
-abbrev pub status_of : Bool → Status
-status_of true = statuses.Found
-status_of false = statuses.Done
 
 -- scripts by their names, with their texts
 abbrev pub named_texts : List (List ℕ) → List (Vec ℕ) → List NamedText
@@ -87,8 +86,8 @@ pub record IsAnswered (held : Held) (wanted : Rehearsing) (text : List ℕ) (sta
 -- ---- any command
 
 -- what is taken, and the status, where a command is done: of a tidying the text under the name with its form mended;
--- of a rehearsal what comes of it; of a frame its picture; what is taken of a box worked by hand is told by
--- IsHandWorked
+-- of a rehearsal what comes of it; of a frame its picture, or the report on its states; of a journal its graph, or what
+-- an instructor marks in it; what is taken of a box worked by hand is told by IsHandWorked
 abbrev pub Headline : Held → Option Command → Status → Option (List ℕ) → Option (List ℕ) → Type 0
 Headline held None status old new = Unit {0}
 Headline held (Some (Command.Tidy file)) status old new =
@@ -98,6 +97,12 @@ Headline held (Some (Command.Rehearse wanted)) status old new =
 Headline held (Some (Command.Work wanted)) status old new = status ≡ statuses.Done
 Headline held (Some (Command.Frame plan box_name)) status old new =
     (text : List ℕ) × IsFrameOf held plan box_name text × (new ≡ appended old text) × (status ≡ statuses.Done)
+Headline held (Some (Command.Graph plan output)) status old new =
+    (text : List ℕ) × IsGraphOf held plan output text × (new ≡ appended old text) × (status ≡ statuses.Done)
+Headline held (Some (Command.States wanted)) status old new =
+    (text : List ℕ) × IsWalkedOf held wanted text × (new ≡ appended old text) × (status ≡ statuses.Done)
+Headline held (Some (Command.Mark wanted)) status old new =
+    (text : List ℕ) × IsMarkedOf held wanted text status × (new ≡ appended old text)
 
 -- nothing was taken, or the front part of a text
 abbrev pub TakesFront : Option (List ℕ) → Option (List ℕ) → Type 0

@@ -4,11 +4,14 @@
 mod answering;
 mod files;
 mod framing;
+mod graphing;
 mod hand;
+mod marking;
 mod rehearsing;
 mod status;
 mod tidying;
 mod top;
+mod walking;
 
 pub use files::ReasonedFiles;
 pub use status::Status;

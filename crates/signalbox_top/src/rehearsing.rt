@@ -14,12 +14,12 @@ ghost use Rattle.text_fetch.specs.FromTexts.{named};
 ghost use Rattle.text_fetch.specs.Runs.{AreScriptsOf};
 ghost use Rattle.signalbox_words.specs.Commands.{Command};
 ghost use Rattle.signalbox_top.specs.Rehearsing.{IsTroubleOf, wanted_shown};
-ghost use Rattle.signalbox_top.specs.Top.{Headline, IsAnswer, IsAnswered, IsText, TakesFront, named_texts, status_of};
+ghost use Rattle.signalbox_top.specs.Top.{Headline, IsAnswer, IsAnswered, IsText, TakesFront, named_texts};
 ghost use Rattle.signalbox_top.specs.Top.{until_of};
 ghost use Rattle.signalbox_top.specs.Told.{FaultIsTold, TellsWhy};
 
 use crate::answering::{put_result, tell_trouble};
-use crate::status::Status;
+use crate::status::{Status, status_of};
 use explained_texts::{ReasonedShelf, RunTexts, Trouble, fetch_run};
 use line_races::{Race, races};
 use line_rehearsal::{Rehearsal, Until, rehearse};
@@ -56,18 +56,6 @@ fn until(to_refusal: bool) -> Until
         Until::Refusal
     } else {
         Until::Stop
-    }
-}
-
-// The status where something was found, or not.
-fn status_of(has_found: bool) -> Status
-    ensures is { result ≡ status_of has_found }
-    ensures done { result ≢ Status.Failed }
-{
-    if has_found {
-        Status::Found
-    } else {
-        Status::Done
     }
 }
 

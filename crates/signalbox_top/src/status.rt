@@ -1,6 +1,7 @@
 //! How a command of `signalbox` ended.
 
-ghost use Rattle.std.specs.Prelude.{◌≡◌};
+ghost use Rattle.std.specs.Prelude.{◌≡◌, ◌≢◌};
+ghost use Rattle.signalbox_top.specs.Statuses.{status_of};
 ghost use Rattle.signalbox_top.specs.Top.{code_of};
 
 /// How a command of `signalbox` ended. Its number is the exit status of the program.
@@ -20,5 +21,17 @@ impl Status {
         ensures { result ≡ code_of self }
     {
         self as u8
+    }
+}
+
+/// The status where something was found, or not.
+pub(crate) fn status_of(has_found: bool) -> Status
+    ensures is { result ≡ status_of has_found }
+    ensures done { result ≢ Status.Failed }
+{
+    if has_found {
+        Status::Found
+    } else {
+        Status::Done
     }
 }

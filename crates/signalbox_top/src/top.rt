@@ -8,10 +8,13 @@ ghost use Rattle.signalbox_top.specs.Told.{FaultIsTold, TellsWhy};
 
 use crate::answering::{put_result, tell};
 use crate::framing::serve_frame;
+use crate::graphing::serve_graph;
 use crate::hand::{HandWanted, serve_work};
+use crate::marking::{Wanted as MarkWanted, serve_mark};
 use crate::rehearsing::{Wanted, serve_rehearse};
 use crate::status::Status;
 use crate::tidying::serve_tidy;
+use crate::walking::{Wanted as WalkWanted, serve_states};
 use explained_texts::ReasonedShelf;
 use hand_working::{LineSource, Store, Terminal};
 use rail_text::{NoMemory, Sink};
@@ -46,6 +49,42 @@ fn serve<S: ReasonedShelf, N: LineSource, W: Store, K: Sink, L: Sink>(
         SignalboxCommand::Tidy { file } => serve_tidy(alloc, file, shelf, out, told),
         SignalboxCommand::Frame { plan, box_name } => {
             serve_frame(alloc, plan, box_name, shelf, out, told)
+        }
+        SignalboxCommand::Graph { plan, output } => {
+            serve_graph(alloc, plan, output, shelf, out, told)
+        }
+        SignalboxCommand::States {
+            plan,
+            box_name,
+            limit,
+            never,
+            reach,
+        } => {
+            let wanted = WalkWanted {
+                plan,
+                box_name,
+                limit,
+                never: &never,
+                reach: &reach,
+            };
+            let status = serve_states(alloc, &wanted, shelf, out, told);
+            drop(never);
+            drop(reach);
+            status
+        }
+        SignalboxCommand::Mark {
+            plan,
+            output,
+            box_name,
+            within,
+        } => {
+            let wanted = MarkWanted {
+                plan,
+                output,
+                box_name,
+                within,
+            };
+            serve_mark(alloc, &wanted, shelf, out, told)
         }
         SignalboxCommand::Rehearse {
             to_refusal,
@@ -99,11 +138,16 @@ fn serve<S: ReasonedShelf, N: LineSource, W: Store, K: Sink, L: Sink>(
 /// they are echoed; with `--hint` it is told what is due; with `--screen` the box is drawn anew behind each line that
 /// is typed; with `--plain` a terminal's colours aren't shown; with `--journal FILE` and `--script FILE` the journal
 /// and his calls are written to `store`. His prompts go to `told`.
-/// `frame PLAN BOX` puts a picture of the lever frame of that box.
+/// `frame PLAN BOX` puts a picture of the lever frame of that box, and `graph PLAN OUTPUT` one of a legal journal: its
+/// train graph. `states PLAN BOX` puts a report on the states of the lever frame of that box: with `--limit N` at most
+/// N states are kept; with `--reach L..` and `--never L..` it is told how these levers can be reversed together.
+/// `mark PLAN OUTPUT [BOX]` puts what an instructor would mark in a legal journal, and with `--within M` late answers
+/// too.
 /// `--help`, `help COMMAND` and `--version` put what they ask for, as results.
 ///
 /// - `Done`: it is done, and nothing was found.
-/// - `Found`: it is done, and something was found: a rehearsal stopped, a call was refused, or there is a race.
+/// - `Found`: it is done, and something was found: a rehearsal stopped, a call was refused, there is a race, or there
+///   is something to mark.
 /// - `Failed`: it could not be done. Of the results nothing was taken, or a front part where the sink failed; a line
 ///   tells why, unless that sink failed too. A text that is refused is explained, with the line and the cause for which
 ///   `box_main` refuses it.

@@ -1,5 +1,5 @@
 -- What the words of a command line ask for.
-use Rattle.std.specs.Prelude.{◌≡◌, ◌≢◌, ◌⊎◌, ℕ, Bool, true, false, List, Option, Some, None, if◌then◌else◌}
+use Rattle.std.specs.Prelude.{◌≡◌, ◌≢◌, ◌⊎◌, ℕ, Bool, true, false, List, [], Option, Some, None, if◌then◌else◌}
 use Rattle.std.specs.Prelude.{String, bytes_eq, codes, map, option_and_then, option_map, string_bytes}
 use Rattle.std.specs.Global.{Global}
 use Rattle.clap.specs.Words.{Row, Text, all_of, first_of, subcommand_of, takes}
@@ -32,14 +32,35 @@ pub record Working : Type 0 where
   pub journal : Option (List ℕ)
   pub script : Option (List ℕ)
 
+-- What is wanted of marks: the names of the plan and of the journal; that of the box, if only what it did is marked;
+-- and the time within which an answer is to come, as it was written, if there is one.
+pub record MarkWanted : Type 0 where
+  pub plan : List ℕ
+  pub output : List ℕ
+  pub box_name : Option (List ℕ)
+  pub within : Option (List ℕ)
+
+-- What is wanted of a frame's states: the names of the plan and of the box; how many states may be kept, if that is
+-- given; and the levers that are never to be reversed together, and that are to be, as they were written.
+pub record WalkWanted : Type 0 where
+  pub plan : List ℕ
+  pub box_name : List ℕ
+  pub limit : Option (List ℕ)
+  pub never : List (List ℕ)
+  pub reach : List (List ℕ)
+
 -- Tidy: a text is printed with its form mended; Rehearse: a plan's line is rehearsed by the scripts of its boxes; Work:
 -- one of its boxes is worked by hand; Frame: the lever frame of one of its boxes is drawn, a plan and a box by their
--- names.
+-- names; Graph: the train graph of a journal is drawn, a plan and the journal by their names; States: the states
+-- of a lever frame are walked; Mark: a journal is marked.
 pub data Command : Type 0 where
   Tidy : List ℕ → Command
   Rehearse : Rehearsing → Command
   Work : Working → Command
   Frame : List ℕ → List ℕ → Command
+  Graph : List ℕ → List ℕ → Command
+  States : WalkWanted → Command
+  Mark : MarkWanted → Command
 
 -- the command with the names as their bytes
 abbrev pub shown : SignalboxCommand → Command
@@ -63,6 +84,22 @@ shown (commands.Work hint plain screen plan box_name scripts journal script) =
       script = option_map (λ name. name.now) script;
     })
 shown (commands.Frame plan box_name) = Command.Frame plan.now box_name.now
+shown (commands.Graph plan output) = Command.Graph plan.now output.now
+shown (commands.States plan box_name limit never reach) =
+    Command.States (record {
+      plan = plan.now;
+      box_name = box_name.now;
+      limit = option_map (λ word. word.now) limit;
+      never = map (λ word. word.now) never.items;
+      reach = map (λ word. word.now) reach.items;
+    })
+shown (commands.Mark plan output box_name within) =
+    Command.Mark (record {
+      plan = plan.now;
+      output = output.now;
+      box_name = option_map (λ name. name.now) box_name;
+      within = option_map (λ word. word.now) within;
+    })
 
 -- words as their bytes
 abbrev pub bytes_of : List (String Global) → List Text
@@ -126,15 +163,59 @@ working_with rows names =
 abbrev pub work_read : List Row → Option Command
 work_read rows = option_map (working_with rows) (line_read rows)
 
--- the frame of a box of these names
-abbrev pub frame_with : Option Text → Option Text → Option Command
-frame_with None box_name = None
-frame_with (Some plan) None = None
-frame_with (Some plan) (Some box_name) = Some (Command.Frame plan box_name)
+-- two names, where there are both
+abbrev pub two_names : Option Text → Option Text → Option (Text × Text)
+two_names None name = None
+two_names (Some plan) None = None
+two_names (Some plan) (Some name) = Some (plan, name)
 
 -- `frame PLAN BOX`
 abbrev pub frame_read : List Row → Option Command
-frame_read rows = frame_with (first_of (codes "plan") rows) (first_of (codes "box") rows)
+frame_read rows =
+    option_map (λ names. Command.Frame names.0 names.1)
+    (two_names (first_of (codes "plan") rows) (first_of (codes "box") rows))
+
+-- `graph PLAN OUTPUT`
+abbrev pub graph_read : List Row → Option Command
+graph_read rows =
+    option_map (λ names. Command.Graph names.0 names.1)
+    (two_names (first_of (codes "plan") rows) (first_of (codes "output") rows))
+
+-- the words that are listed behind an option, none where it isn't given
+abbrev pub listed : Option (List Text) → List Text
+listed None = []
+listed (Some words) = words
+
+-- the states of the frame of a box of these names, with what may be left out
+abbrev pub walk_with : List Row → Text × Text → Command
+walk_with rows names =
+    Command.States (record {
+      plan = names.0;
+      box_name = names.1;
+      limit = first_of (codes "limit") rows;
+      never = listed (all_of (codes "never") rows);
+      reach = listed (all_of (codes "reach") rows);
+    })
+
+-- `states PLAN BOX [--limit N] [--never L..] [--reach L..]`
+abbrev pub states_read : List Row → Option Command
+states_read rows =
+    option_map (walk_with rows) (two_names (first_of (codes "plan") rows) (first_of (codes "box") rows))
+
+-- marks of a plan and a journal of these names, with what may be left out
+abbrev pub marking_with : List Row → Text × Text → Command
+marking_with rows names =
+    Command.Mark (record {
+      plan = names.0;
+      output = names.1;
+      box_name = first_of (codes "box") rows;
+      within = first_of (codes "within") rows;
+    })
+
+-- `mark [--within M] PLAN OUTPUT [BOX]`
+abbrev pub mark_read : List Row → Option Command
+mark_read rows =
+    option_map (marking_with rows) (two_names (first_of (codes "plan") rows) (first_of (codes "output") rows))
 
 -- a command, by its name and the values that clap found
 abbrev pub command_read : Text → List Row → Option Command
@@ -143,6 +224,9 @@ command_read name rows =
     else if bytes_eq name (codes "rehearse") then rehearse_read rows
     else if bytes_eq name (codes "work") then work_read rows
     else if bytes_eq name (codes "frame") then frame_read rows
+    else if bytes_eq name (codes "graph") then graph_read rows
+    else if bytes_eq name (codes "states") then states_read rows
+    else if bytes_eq name (codes "mark") then mark_read rows
     else None
 
 -- the command of these words, as clap reads them by the table of commands

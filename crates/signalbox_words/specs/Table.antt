@@ -18,9 +18,13 @@ repeated_argument id = record (required_argument id) {
 abbrev pub flag : Text → Rule
 flag id = record (new_rule id) { long = Some id; action = Some SetTrue }
 
--- an option that names a file: `--`, its name, and that of the file
-abbrev pub file_option : Text → Rule
-file_option id = record (new_rule id) { long = Some id; value_names = 1 }
+-- an argument that may be left out
+abbrev pub optional_argument : Text → Rule
+optional_argument id = record (new_rule id) { value_names = 1 }
+
+-- an option with a value: `--`, its name, and what it names
+abbrev pub value_option : Text → Rule
+value_option id = record (new_rule id) { long = Some id; value_names = 1 }
 
 -- `tidy FILE`
 abbrev pub tidy_command : App
@@ -48,7 +52,7 @@ hint_form = with_rule (new_app (codes "work")) (flag (codes "hint"))
 
 -- the same with `--journal FILE`
 abbrev pub journal_form : App
-journal_form = with_rule hint_form (file_option (codes "journal"))
+journal_form = with_rule hint_form (value_option (codes "journal"))
 
 -- the same with `--plain`
 abbrev pub plain_form : App
@@ -60,7 +64,7 @@ screen_form = with_rule plain_form (flag (codes "screen"))
 
 -- the same with `--script FILE`
 abbrev pub files_form : App
-files_form = with_rule screen_form (file_option (codes "script"))
+files_form = with_rule screen_form (value_option (codes "script"))
 
 -- the same with `PLAN`
 abbrev pub line_form : App
@@ -74,13 +78,51 @@ box_form = with_rule line_form (required_argument (codes "box"))
 abbrev pub work_command : App
 work_command = with_rule box_form (repeated_argument (codes "others"))
 
--- `frame PLAN`
-abbrev pub drawn_form : App
-drawn_form = with_rule (new_app (codes "frame")) (required_argument (codes "plan"))
+-- a command with `PLAN`
+abbrev pub planned_form : Text → App
+planned_form name = with_rule (new_app name) (required_argument (codes "plan"))
+
+-- an option with one value or more: `--`, its name, and what it names
+abbrev pub list_option : Text → Rule
+list_option id = record (value_option id) {
+  range = Some (record { start_inclusive = 1; end_inclusive = usize_max });
+}
 
 -- `frame PLAN BOX`
 abbrev pub frame_command : App
-frame_command = with_rule drawn_form (required_argument (codes "box"))
+frame_command = with_rule (planned_form (codes "frame")) (required_argument (codes "box"))
+
+-- `graph PLAN OUTPUT`
+abbrev pub graph_command : App
+graph_command = with_rule (planned_form (codes "graph")) (required_argument (codes "output"))
+
+-- `states PLAN BOX`
+abbrev pub walked_form : App
+walked_form = with_rule (planned_form (codes "states")) (required_argument (codes "box"))
+
+-- the same with `--limit N`
+abbrev pub limit_form : App
+limit_form = with_rule walked_form (value_option (codes "limit"))
+
+-- the same with `--never L..`
+abbrev pub never_form : App
+never_form = with_rule limit_form (list_option (codes "never"))
+
+-- `states PLAN BOX [--limit N] [--never L..] [--reach L..]`
+abbrev pub states_command : App
+states_command = with_rule never_form (list_option (codes "reach"))
+
+-- `mark PLAN OUTPUT`
+abbrev pub marked_form : App
+marked_form = with_rule (planned_form (codes "mark")) (required_argument (codes "output"))
+
+-- `mark PLAN OUTPUT [BOX]`
+abbrev pub marked_box_form : App
+marked_box_form = with_rule marked_form (optional_argument (codes "box"))
+
+-- `mark [--within M] PLAN OUTPUT [BOX]`
+abbrev pub mark_command : App
+mark_command = with_rule marked_box_form (value_option (codes "within"))
 
 -- the program with no command; clap is given its words without its own name in front
 abbrev pub bare_program : App
@@ -97,7 +139,14 @@ bare_program = record (new_app (codes "signalbox")) {
 abbrev pub line_program : App
 line_program = with_subcommand (with_subcommand bare_program rehearse_command.top) work_command.top
 
+-- the same with those that draw
+abbrev pub picture_program : App
+picture_program = with_subcommand (with_subcommand line_program frame_command.top) graph_command.top
+
+-- the same with the one that walks a frame
+abbrev pub frame_program : App
+frame_program = with_subcommand picture_program states_command.top
+
 -- the program with all its commands
 abbrev pub program : App
-program =
-    with_subcommand (with_subcommand line_program frame_command.top) tidy_command.top
+program = with_subcommand (with_subcommand frame_program mark_command.top) tidy_command.top

@@ -2,11 +2,12 @@
 
 ghost use Rattle.std.specs.Prelude.{◌≡◌, IfOk, codes, map};
 ghost use Rattle.std.specs.Option.{option_map};
-ghost use Rattle.clap.specs.Words.{first_of, found_of, rows_of};
+ghost use Rattle.clap.specs.Words.{all_of, first_of, found_of, rows_of};
 ghost use Rattle.clap.specs.Values.{kind_of};
 ghost use Rattle.signalbox_words.specs.Commands.{AreRead, Command, TellsFault, bytes_of, command_read, frame_read};
-ghost use Rattle.signalbox_words.specs.Commands.{is_given, line_read, names_read, rehearsal_with, rehearse_read, shown};
-ghost use Rattle.signalbox_words.specs.Commands.{work_read, working_with};
+ghost use Rattle.signalbox_words.specs.Commands.{graph_read, is_given, line_read, listed, mark_read, names_read};
+ghost use Rattle.signalbox_words.specs.Commands.{rehearsal_with, rehearse_read, shown, states_read, two_names};
+ghost use Rattle.signalbox_words.specs.Commands.{walk_with, work_read, working_with};
 
 use crate::table::program;
 use clap::error::ErrorKind;
@@ -54,6 +55,34 @@ pub enum SignalboxCommand<'a> {
         plan: &'a str,
         /// The name of the box.
         box_name: &'a str,
+    },
+    /// `graph PLAN OUTPUT`: the train graph of a journal is drawn.
+    Graph {
+        plan: &'a str,
+        /// What `run` printed, or its journal.
+        output: &'a str,
+    },
+    /// `states PLAN BOX [--limit N] [--never L..] [--reach L..]`: the states of the lever frame of a box are walked.
+    States {
+        plan: &'a str,
+        /// The name of the box.
+        box_name: &'a str,
+        /// How many states may be kept, as it was written.
+        limit: Option<&'a str>,
+        /// The levers that are never to be reversed together, as they were written.
+        never: Vec<&'a str>,
+        /// The levers that are to be reversed together, as they were written.
+        reach: Vec<&'a str>,
+    },
+    /// `mark [--within M] PLAN OUTPUT [BOX]`: it is named what an instructor would mark in a journal.
+    Mark {
+        plan: &'a str,
+        /// What `run` printed, or its journal.
+        output: &'a str,
+        /// The name of the box, if only what it did is marked.
+        box_name: Option<&'a str>,
+        /// The time within which an answer is to come, as it was written.
+        within: Option<&'a str>,
     },
 }
 
@@ -196,15 +225,100 @@ fn read_work<'a>(
     }
 }
 
-// The plan and the box of `frame`.
+// The names of a plan and of something beside it.
 #[tactic(auto, using(crate::proofs::MatchRules::match_rules))]
+fn read_two<'a>(found: &ArgMatches<'a>, other: &str) -> Option<(&'a str, &'a str)>
+    ensures { option_map (λ names. (names.0.now, names.1.now)) result ≡ two_names
+        (first_of (codes "plan") (rows_of (found_of found.now))) (first_of other.now (rows_of (found_of found.now))) }
+{
+    let (Some(plan), Some(other)) = (found.get_str("plan"), found.get_str(other)) else {
+        return None;
+    };
+    Some((plan, other))
+}
+
+// The plan and the box of `frame`.
 fn read_frame<'a>(found: &ArgMatches<'a>) -> Option<SignalboxCommand<'a>>
     ensures { option_map shown result ≡ frame_read (rows_of (found_of found.now)) }
 {
-    let (Some(plan), Some(box_name)) = (found.get_str("plan"), found.get_str("box")) else {
-        return None;
-    };
+    let (plan, box_name) = read_two(found, "box")?;
     Some(SignalboxCommand::Frame { plan, box_name })
+}
+
+// The plan and the journal of `graph`.
+fn read_graph<'a>(found: &ArgMatches<'a>) -> Option<SignalboxCommand<'a>>
+    ensures { option_map shown result ≡ graph_read (rows_of (found_of found.now)) }
+{
+    let (plan, output) = read_two(found, "output")?;
+    Some(SignalboxCommand::Graph { plan, output })
+}
+
+// The words that are listed behind an option.
+#[tactic(auto, using(crate::proofs::MatchRules::match_rules))]
+fn read_list<'a>(
+    alloc: Global,
+    found: &ArgMatches<'a>,
+    option: &str,
+) -> Result<Vec<&'a str>, NoMemory>
+    ensures { IfOk result (λ list. map (λ word. word.now) list.items
+        ≡ listed (all_of option.now (rows_of (found_of found.now)))) }
+{
+    match found.get_strs(option) {
+        Some(list) => Ok(Vec::from_slice(alloc, list)?),
+        None => Ok(Vec::new(alloc)),
+    }
+}
+
+// The states of the frame of a box of these names, with what is asked of them.
+#[tactic(auto, using(crate::proofs::MatchRules::match_rules))]
+fn walk_with<'a>(
+    alloc: Global,
+    found: &ArgMatches<'a>,
+    plan: &'a str,
+    box_name: &'a str,
+) -> Result<SignalboxCommand<'a>, NoMemory>
+    ensures { IfOk result (λ command. shown command
+        ≡ walk_with (rows_of (found_of found.now)) (plan.entry.now, box_name.entry.now)) }
+{
+    let limit = found.get_str("limit");
+    let never = read_list(alloc, found, "never")?;
+    let reach = read_list(alloc, found, "reach")?;
+    Ok(SignalboxCommand::States {
+        plan,
+        box_name,
+        limit,
+        never,
+        reach,
+    })
+}
+
+// The plan, the box and what is asked of `states`.
+fn read_states<'a>(
+    alloc: Global,
+    found: &ArgMatches<'a>,
+) -> Result<Option<SignalboxCommand<'a>>, NoMemory>
+    ensures { IfOk result (λ command. option_map shown command ≡ states_read (rows_of (found_of found.now))) }
+{
+    match read_two(found, "box") {
+        Some((plan, box_name)) => Ok(Some(walk_with(alloc, found, plan, box_name)?)),
+        None => Ok(None),
+    }
+}
+
+// The plan, the journal, the box and the time of `mark`.
+#[tactic(auto, using(crate::proofs::MatchRules::match_rules))]
+fn read_mark<'a>(found: &ArgMatches<'a>) -> Option<SignalboxCommand<'a>>
+    ensures { option_map shown result ≡ mark_read (rows_of (found_of found.now)) }
+{
+    let (plan, output) = read_two(found, "output")?;
+    let box_name = found.get_str("box");
+    let within = found.get_str("within");
+    Some(SignalboxCommand::Mark {
+        plan,
+        output,
+        box_name,
+        within,
+    })
 }
 
 // A command, by its name and what clap found.
@@ -221,6 +335,9 @@ fn read_command<'a>(
         "rehearse" => read_rehearse(alloc, found),
         "work" => read_work(alloc, found),
         "frame" => Ok(read_frame(found)),
+        "graph" => Ok(read_graph(found)),
+        "states" => read_states(alloc, found),
+        "mark" => Ok(read_mark(found)),
         _ => Ok(None),
     }
 }

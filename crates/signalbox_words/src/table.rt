@@ -3,11 +3,15 @@
 ghost use Rattle.std.specs.Prelude.{◌≡◌, false, IfOk};
 ghost use Rattle.clap.specs.Words.{app_of, rule_of};
 ghost use Rattle.clap.specs.declared.builder.command.Command.TheViews.{out-Command};
-ghost use Rattle.signalbox_words.specs.Table.{bare_program, box_form, drawn_form, file_option, files_form};
-ghost use Rattle.signalbox_words.specs.Table.{flag, flags_form, frame_command, hint_form, journal_form};
-ghost use Rattle.signalbox_words.specs.Table.{line_form, line_program, plain_form, plan_form, program};
-ghost use Rattle.signalbox_words.specs.Table.{rehearse_command, repeated_argument, required_argument};
-ghost use Rattle.signalbox_words.specs.Table.{screen_form, tidy_command, to_refusal_form, work_command};
+ghost use Rattle.signalbox_words.specs.Table.{bare_program, box_form, files_form, flag, flags_form};
+ghost use Rattle.signalbox_words.specs.Table.{frame_command, frame_program, graph_command, hint_form};
+ghost use Rattle.signalbox_words.specs.Table.{journal_form, limit_form, line_form, line_program};
+ghost use Rattle.signalbox_words.specs.Table.{list_option, mark_command, marked_box_form, marked_form, never_form};
+ghost use Rattle.signalbox_words.specs.Table.{optional_argument, picture_program, plain_form, plan_form};
+ghost use Rattle.signalbox_words.specs.Table.{planned_form, program, rehearse_command, repeated_argument};
+ghost use Rattle.signalbox_words.specs.Table.{required_argument, screen_form, states_command};
+ghost use Rattle.signalbox_words.specs.Table.{tidy_command, to_refusal_form, value_option, walked_form};
+ghost use Rattle.signalbox_words.specs.Table.{work_command};
 
 use clap::{Arg, ArgAction, Command};
 use std::alloc::{AllocError, Global};
@@ -80,6 +84,44 @@ channels: tappets as columns, bridles as bars, each with its row of the locking 
 
 const DRAWN_BOX_HELP: &str = "The name of the box";
 
+const GRAPH_ABOUT: &str = "Draws the train graph of a journal as an SVG picture";
+
+const GRAPH_AFTER: &str = "\
+The boxes stand from top to bottom, the moments from left to right; each train is one line, from where it enters to
+where it is berthed. Thin bars between the boxes show Line Clear and Train on Line.
+
+    signalbox graph valley.plan day.journal > day.svg";
+
+const STATES_ABOUT: &str = "Walks the states of a lever frame, by its locking table alone";
+
+const STATES_AFTER: &str = "\
+It tells how many states can be reached from all levers normal, which levers can never be reversed and why, which
+can't be reversed together, and which rows of the table change nothing. Track circuits and instruments are left out,
+as if clear and free, so it is no proof that a layout is safe.
+
+    signalbox states valley.plan Oak --reach 1 2";
+
+const LIMIT_HELP: &str = "Keeps at most N states, 1000000 if it isn't given";
+
+const NEVER_HELP: &str = "Tells how these levers can be reversed together, which never should be";
+
+const REACH_HELP: &str = "Tells by which pulls and puts these levers are reversed together";
+
+const OUTPUT_HELP: &str = "What `box_main run` printed, or its journal alone";
+
+const MARK_ABOUT: &str =
+    "Names what an instructor would mark in a journal, beside the nine rules of the audit";
+
+const MARK_AFTER: &str = "\
+A line for each mark: the entry, the box, the rule, and what was done. The rules stand in docs/MARKING.md. The status
+is 1 where there is something to mark.
+
+    signalbox mark valley.plan day.journal Oak";
+
+const MARKED_BOX_HELP: &str = "The name of a box: only what it did is marked";
+
+const WITHIN_HELP: &str = "Marks what is answered later than M minutes, or seconds under version 2";
+
 // An argument that is required.
 fn required_argument<'a>(alloc: Global, id: &'a str, name: &'a str, help: &'a str) -> Arg<'a>
     ensures rule { rule_of result ≡ required_argument id.entry.now }
@@ -110,12 +152,20 @@ fn flag<'a>(alloc: Global, id: &'a str, help: &'a str) -> Arg<'a>
         .help(help)
 }
 
-// An option that names a file: `--`, its name, and that of the file.
-fn file_option<'a>(alloc: Global, id: &'a str, help: &'a str) -> Arg<'a>
-    ensures rule { rule_of result ≡ file_option id.entry.now }
+// An argument that may be left out.
+fn optional_argument<'a>(alloc: Global, id: &'a str, name: &'a str, help: &'a str) -> Arg<'a>
+    ensures rule { rule_of result ≡ optional_argument id.entry.now }
     ensures own { result.global ≡ false }
 {
-    Arg::new(alloc, id).long(id).value_name("FILE").help(help)
+    Arg::new(alloc, id).value_name(name).help(help)
+}
+
+// An option with a value: `--`, its name, and what it names.
+fn value_option<'a>(alloc: Global, id: &'a str, name: &'a str, help: &'a str) -> Arg<'a>
+    ensures rule { rule_of result ≡ value_option id.entry.now }
+    ensures own { result.global ≡ false }
+{
+    Arg::new(alloc, id).long(id).value_name(name).help(help)
 }
 
 // `rehearse --to-refusal`
@@ -169,7 +219,7 @@ fn journal_form<'a>(alloc: Global) -> Result<Command<'a>, AllocError>
     ensures shape { IfOk result (λ c. app_of c ≡ journal_form) }
     ensures own { IfOk result (λ c. (out-Command c).has_globals ≡ false) }
 {
-    hint_form(alloc)?.arg(file_option(alloc, "journal", SAVED_JOURNAL_HELP))
+    hint_form(alloc)?.arg(value_option(alloc, "journal", "FILE", SAVED_JOURNAL_HELP))
 }
 
 // The same with `--plain`.
@@ -193,7 +243,7 @@ fn files_form<'a>(alloc: Global) -> Result<Command<'a>, AllocError>
     ensures shape { IfOk result (λ c. app_of c ≡ files_form) }
     ensures own { IfOk result (λ c. (out-Command c).has_globals ≡ false) }
 {
-    screen_form(alloc)?.arg(file_option(alloc, "script", SAVED_SCRIPT_HELP))
+    screen_form(alloc)?.arg(value_option(alloc, "script", "FILE", SAVED_SCRIPT_HELP))
 }
 
 // The same with `PLAN`.
@@ -220,15 +270,28 @@ fn work_command<'a>(alloc: Global) -> Result<Command<'a>, AllocError>
     box_form(alloc)?.arg(repeated_argument(alloc, "others", "SCRIPT", OTHERS_HELP))
 }
 
-// `frame PLAN`
-fn drawn_form<'a>(alloc: Global) -> Result<Command<'a>, AllocError>
-    ensures shape { IfOk result (λ c. app_of c ≡ drawn_form) }
+// A command with `PLAN`.
+fn planned_form<'a>(
+    alloc: Global,
+    name: &'a str,
+    about: &'a str,
+    after: &'a str,
+) -> Result<Command<'a>, AllocError>
+    ensures shape { IfOk result (λ c. app_of c ≡ planned_form name.entry.now) }
     ensures own { IfOk result (λ c. (out-Command c).has_globals ≡ false) }
 {
-    Command::new(alloc, "frame")
-        .about(FRAME_ABOUT)
-        .after_help(FRAME_AFTER)
+    Command::new(alloc, name)
+        .about(about)
+        .after_help(after)
         .arg(required_argument(alloc, "plan", "PLAN", PLAN_HELP))
+}
+
+// An option with one value or more: `--`, its name, and what it names.
+fn list_option<'a>(alloc: Global, id: &'a str, name: &'a str, help: &'a str) -> Arg<'a>
+    ensures rule { rule_of result ≡ list_option id.entry.now }
+    ensures own { result.global ≡ false }
+{
+    value_option(alloc, id, name, help).num_args(1..)
 }
 
 // `frame PLAN BOX`
@@ -236,7 +299,91 @@ fn frame_command<'a>(alloc: Global) -> Result<Command<'a>, AllocError>
     ensures shape { IfOk result (λ c. app_of c ≡ frame_command) }
     ensures own { IfOk result (λ c. (out-Command c).has_globals ≡ false) }
 {
-    drawn_form(alloc)?.arg(required_argument(alloc, "box", "BOX", DRAWN_BOX_HELP))
+    planned_form(alloc, "frame", FRAME_ABOUT, FRAME_AFTER)?.arg(required_argument(
+        alloc,
+        "box",
+        "BOX",
+        DRAWN_BOX_HELP,
+    ))
+}
+
+// `graph PLAN OUTPUT`
+fn graph_command<'a>(alloc: Global) -> Result<Command<'a>, AllocError>
+    ensures shape { IfOk result (λ c. app_of c ≡ graph_command) }
+    ensures own { IfOk result (λ c. (out-Command c).has_globals ≡ false) }
+{
+    planned_form(alloc, "graph", GRAPH_ABOUT, GRAPH_AFTER)?.arg(required_argument(
+        alloc,
+        "output",
+        "OUTPUT",
+        OUTPUT_HELP,
+    ))
+}
+
+// `states PLAN BOX`
+fn walked_form<'a>(alloc: Global) -> Result<Command<'a>, AllocError>
+    ensures shape { IfOk result (λ c. app_of c ≡ walked_form) }
+    ensures own { IfOk result (λ c. (out-Command c).has_globals ≡ false) }
+{
+    planned_form(alloc, "states", STATES_ABOUT, STATES_AFTER)?.arg(required_argument(
+        alloc,
+        "box",
+        "BOX",
+        DRAWN_BOX_HELP,
+    ))
+}
+
+// The same with `--limit N`.
+fn limit_form<'a>(alloc: Global) -> Result<Command<'a>, AllocError>
+    ensures shape { IfOk result (λ c. app_of c ≡ limit_form) }
+    ensures own { IfOk result (λ c. (out-Command c).has_globals ≡ false) }
+{
+    walked_form(alloc)?.arg(value_option(alloc, "limit", "N", LIMIT_HELP))
+}
+
+// The same with `--never L..`.
+fn never_form<'a>(alloc: Global) -> Result<Command<'a>, AllocError>
+    ensures shape { IfOk result (λ c. app_of c ≡ never_form) }
+    ensures own { IfOk result (λ c. (out-Command c).has_globals ≡ false) }
+{
+    limit_form(alloc)?.arg(list_option(alloc, "never", "L", NEVER_HELP))
+}
+
+// `states PLAN BOX [--limit N] [--never L..] [--reach L..]`
+fn states_command<'a>(alloc: Global) -> Result<Command<'a>, AllocError>
+    ensures shape { IfOk result (λ c. app_of c ≡ states_command) }
+    ensures own { IfOk result (λ c. (out-Command c).has_globals ≡ false) }
+{
+    never_form(alloc)?.arg(list_option(alloc, "reach", "L", REACH_HELP))
+}
+
+// `mark PLAN OUTPUT`
+fn marked_form<'a>(alloc: Global) -> Result<Command<'a>, AllocError>
+    ensures shape { IfOk result (λ c. app_of c ≡ marked_form) }
+    ensures own { IfOk result (λ c. (out-Command c).has_globals ≡ false) }
+{
+    planned_form(alloc, "mark", MARK_ABOUT, MARK_AFTER)?.arg(required_argument(
+        alloc,
+        "output",
+        "OUTPUT",
+        OUTPUT_HELP,
+    ))
+}
+
+// `mark PLAN OUTPUT [BOX]`
+fn marked_box_form<'a>(alloc: Global) -> Result<Command<'a>, AllocError>
+    ensures shape { IfOk result (λ c. app_of c ≡ marked_box_form) }
+    ensures own { IfOk result (λ c. (out-Command c).has_globals ≡ false) }
+{
+    marked_form(alloc)?.arg(optional_argument(alloc, "box", "BOX", MARKED_BOX_HELP))
+}
+
+// `mark [--within M] PLAN OUTPUT [BOX]`
+fn mark_command<'a>(alloc: Global) -> Result<Command<'a>, AllocError>
+    ensures shape { IfOk result (λ c. app_of c ≡ mark_command) }
+    ensures own { IfOk result (λ c. (out-Command c).has_globals ≡ false) }
+{
+    marked_box_form(alloc)?.arg(value_option(alloc, "within", "M", WITHIN_HELP))
 }
 
 // `tidy FILE`
@@ -273,11 +420,28 @@ fn line_program<'a>(alloc: Global) -> Result<Command<'a>, AllocError>
     bare_program(alloc)?.subcommand(rehearse)?.subcommand(work)
 }
 
+// The same with those that draw.
+fn picture_program<'a>(alloc: Global) -> Result<Command<'a>, AllocError>
+    ensures { IfOk result (λ c. app_of c ≡ picture_program) }
+{
+    let frame = frame_command(alloc)?;
+    let graph = graph_command(alloc)?;
+    line_program(alloc)?.subcommand(frame)?.subcommand(graph)
+}
+
+// The same with the one that walks a frame.
+fn frame_program<'a>(alloc: Global) -> Result<Command<'a>, AllocError>
+    ensures { IfOk result (λ c. app_of c ≡ frame_program) }
+{
+    let states = states_command(alloc)?;
+    picture_program(alloc)?.subcommand(states)
+}
+
 /// The program with all its commands.
 pub(crate) fn program<'a>(alloc: Global) -> Result<Command<'a>, AllocError>
     ensures { IfOk result (λ c. app_of c ≡ program) }
 {
-    let frame = frame_command(alloc)?;
+    let mark = mark_command(alloc)?;
     let tidy = tidy_command(alloc)?;
-    line_program(alloc)?.subcommand(frame)?.subcommand(tidy)
+    frame_program(alloc)?.subcommand(mark)?.subcommand(tidy)
 }

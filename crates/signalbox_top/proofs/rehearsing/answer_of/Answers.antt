@@ -1,6 +1,6 @@
 use Rattle.std.proofs.Common.{◌∙◌, ◌<◌, List, All, length, ap, sym, subst}
 use Rattle.line_law.specs.declared.call.Entry.{Entry}
-use Rattle.signalbox_top.specs.Top.{status_of}
+use Rattle.signalbox_top.specs.Statuses.{status_of}
 use Rattle.signalbox_top.proofs.Reported.{entries_there, journal_spelled}
 use Rattle.signalbox_top.proofs.rehearsing.answer_of.Goals as goal
 
