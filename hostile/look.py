@@ -22,6 +22,8 @@ sys.path[:0] = [HERE, os.path.join(TOP, "bench")]
 import inputs  # noqa: E402
 import sizes  # noqa: E402
 
+# The tools draw no wider picture: a wider one is made smaller by one, and shown in part by the other.
+WIDEST = 16_000
 PACKAGES = {"xmllint": "libxml2-utils", "rsvg-convert": "librsvg2-bin", "chromium": "chromium"}
 PEOPLE = os.path.join(TOP, "crates", "worked_cases", "data", "people")
 VALLEY = os.path.join(PEOPLE, "frame_of_oak", "valley.plan")
@@ -55,9 +57,10 @@ def great_plan(folder):
 
 
 def long_line(folder):
-    """The plan and the scripts of a line of 64 boxes over which a dozen trains go, down and up in turn."""
-    names = [f"B{at:02}" for at in range(64)]
-    inputs.write(folder, "long", *inputs.train_line(names, 12))
+    """The plan and the scripts of a line of 64 boxes over which a dozen trains go, down and up in turn, in seconds."""
+    plan, scripts = inputs.train_line([f"B{at:02}" for at in range(64)], 12)
+    plan[:3] = ["plan 2", plan[1], "delay 120"]
+    inputs.write(folder, "long", plan, [[call.replace(" ", ":00 ", 1) for call in script] for script in scripts])
     return f"{folder}/long/plan", [f"{folder}/long/s{at:02}" for at in range(64)]
 
 
@@ -95,12 +98,12 @@ class Looker:
         path = os.path.join(self.folder, f"{name}.svg")
         with open(path, "wb") as file:
             file.write(svg)
-        width, height = re.search(rb'<svg [^>]*width="(\d+)" height="(\d+)"', svg).groups()
+        width, height = map(int, re.search(rb'<svg [^>]*width="(\d+)" height="(\d+)"', svg).groups())
+        wide = min(width, WIDEST)
         self.tool(name, ["xmllint", "--noout", path])
-        self.tool(name, ["rsvg-convert", "-o", f"{path}.rsvg.png", path])
+        self.tool(name, ["rsvg-convert", "-a", "-w", str(wide), "-o", f"{path}.rsvg.png", path])
         self.tool(name, ["chromium", "--headless", "--no-sandbox", "--disable-gpu", "--hide-scrollbars",
-                         f"--window-size={width.decode()},{height.decode()}", f"--screenshot={path}.chromium.png",
-                         f"file://{path}"])
+                         f"--window-size={wide},{height}", f"--screenshot={path}.chromium.png", f"file://{path}"])
         for drawn in (f"{path}.rsvg.png", f"{path}.chromium.png"):
             if not os.path.isfile(drawn):
                 self.tell(name, f"no {os.path.basename(drawn)}")
