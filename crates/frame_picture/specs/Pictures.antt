@@ -35,10 +35,10 @@ title_text name =
     (start_tag tags.Title [] ++ escaped name ++ end_tag tags.Title)
     ++ (start_tag tags.Style [] ++ escaped STYLE.now ++ end_tag tags.Style)
 
--- the paper, and the head
+-- the background of a picture, and its head
 unfoldable pub head_text : Layout → List ℕ → List ℕ
 head_text layout name =
-    rect_text (codes "paper") (point 0 0) (width layout) (height layout)
+    rect_text (codes "background") (point 0 0) (width layout) (height layout)
     ++ words_text (codes "head") (point 48 40) name
     ++ words_text (codes "sub") (point 48 62) (counts_text layout)
 

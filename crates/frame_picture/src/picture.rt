@@ -26,7 +26,7 @@ use std::fmt::Write;
 
 // The style of a picture: light, and dark where its reader asks for that.
 const STYLE: &str = "text{font-family:'DejaVu Sans',Verdana,sans-serif;fill:#1c1c1c}\
-.paper{fill:#ffffff}.head{font-size:20px;font-weight:bold}.sub{font-size:13px}.small{font-size:10px}\
+.background{fill:#ffffff}.head{font-size:20px;font-weight:bold}.sub{font-size:13px}.small{font-size:10px}\
 .mid{font-size:11px;font-weight:bold;text-anchor:middle}.row{font-size:11px}.tiny{font-size:7px}\
 .end{text-anchor:end}.small,.row,.tiny{font-family:'DejaVu Sans Mono','Liberation Mono','Courier New',monospace}\
 .letter{font-size:8px;font-weight:bold;text-anchor:middle;fill:#ffffff}\
@@ -35,7 +35,7 @@ const STYLE: &str = "text{font-family:'DejaVu Sans',Verdana,sans-serif;fill:#1c1
 .lock{fill:#1f5fc4}.spare{fill:#ffffff}.plate{fill:#ffffff;stroke:#6b7178}.floor{fill:#6b7178}\
 .channel{fill:#eef0f2}.tappet{fill:#cfd5db;stroke:#6b7178}.notch{fill:#ffffff;stroke:#6b7178}\
 .bridle{stroke:#8a5a12;stroke-width:4}.dog{fill:#8a5a12;stroke:#5c3b0a}.tiny{font-weight:bold}\
-@media (prefers-color-scheme:dark){text{fill:#e6e6e6}.paper{fill:#16191d}.dark{fill:#1c1c1c}\
+@media (prefers-color-scheme:dark){text{fill:#e6e6e6}.background{fill:#16191d}.dark{fill:#1c1c1c}\
 .bright,.letter{fill:#ffffff}.channel{fill:#22272d}.tappet{fill:#4a525b;stroke:#9aa2aa}\
 .notch{fill:#16191d;stroke:#9aa2aa}.points{fill:#000000}.lever,.handle,.plate{stroke:#9aa2aa}\
 .bridle{stroke:#c98d34}.dog{fill:#8a5a12;stroke:#c98d34}}";
@@ -124,7 +124,7 @@ fn counts_text(alloc: Global, layout: &Layout) -> Result<String, AllocError>
     Ok(text)
 }
 
-// The paper of a picture, and its head.
+// The background of a picture, and its head.
 #[tactic(auto, unfolding(crate::specs::Pictures::head_text))]
 fn put_head(page: &mut Page, alloc: Global, layout: &Layout, name: &str) -> Result<(), AllocError>
     ensures text { OnOk result (page.new.text ≡ page.old.text ++ head_text layout.now name.now) }
@@ -133,7 +133,7 @@ fn put_head(page: &mut Page, alloc: Global, layout: &Layout, name: &str) -> Resu
     let counts = counts_text(alloc, layout)?;
     put_rect(
         page,
-        "paper",
+        "background",
         Point::new(0, 0),
         layout.width(),
         layout.height(),

@@ -32,10 +32,10 @@ title_text name =
     (start_tag tags.Title [] ++ escaped name ++ end_tag tags.Title)
     ++ (start_tag tags.Style [] ++ escaped STYLE.now ++ end_tag tags.Style)
 
--- the paper, and the head
+-- the background of a picture, and its head
 unfoldable pub head_text : ℕ → ℕ → List ℕ → List ℕ → List ℕ
 head_text wide high name counts =
-    rect_text (codes "paper") (point 0 0) wide high ++ words_text (codes "head") (point 16 34) name
+    rect_text (codes "background") (point 0 0) wide high ++ words_text (codes "head") (point 16 34) name
     ++ words_text (codes "sub") (point 16 56) counts
 
 -- the key of the bars

@@ -24,7 +24,7 @@ use std::fmt::Write;
 
 // The style of a picture: light, and dark where its reader asks for that.
 const STYLE: &str = "text{font-family:'DejaVu Sans',Verdana,sans-serif;fill:#1c1c1c;font-size:11px}\
-.paper{fill:#ffffff}.head{font-size:18px;font-weight:bold}.sub{font-size:12px}\
+.background{fill:#ffffff}.head{font-size:18px;font-weight:bold}.sub{font-size:12px}\
 .name{font-size:13px;font-weight:bold;text-anchor:end}.place{font-size:9px;text-anchor:end;fill:#4a525b}\
 .again{font-size:8px;fill:#4a525b}.time{font-size:11px;text-anchor:middle}\
 .label,.warning,.left{font-family:'DejaVu Sans Mono','Liberation Mono','Courier New',monospace;font-size:10px;\
@@ -37,8 +37,9 @@ font-weight:bold;paint-order:stroke;stroke:#ffffff;stroke-width:2px;stroke-linej
 .danger{fill:#ffd21f;stroke:#9c0f2b;stroke-width:1.5}\
 .portion{stroke:#9c0f2b;stroke-width:2;stroke-dasharray:5 3}\
 .t1{stroke:#0b4f9e}.t2{stroke:#b34700}.t3{stroke:#00785a}.t4{stroke:#7a2d8c}.t5{stroke:#7a5c00}.t0{stroke:#1c1c1c}\
-@media (prefers-color-scheme:dark){text{fill:#e6e6e6}.paper{fill:#16191d}.place,.again{fill:#9aa2aa}.box{fill:#22272d}\
-.level{stroke:#4a525b}.minute{stroke:#2b3138}.tens{stroke:#5b636c}.hour{stroke:#b9bec4}.stop{fill:#e6e6e6}\
+@media (prefers-color-scheme:dark){text{fill:#e6e6e6}.background{fill:#16191d}.place,.again{fill:#9aa2aa}\
+.box{fill:#22272d}.level{stroke:#4a525b}.minute{stroke:#2b3138}.tens{stroke:#5b636c}\
+.hour{stroke:#b9bec4}.stop{fill:#e6e6e6}\
 .label,.warning,.left{stroke:#16191d}.warning,.left{fill:#ff8a9b}.clear{fill:#2f7d4a;stroke:#8fc9a3}\
 .occupied{fill:#ff5c73}.portion{stroke:#ff8a9b}\
 .t1{stroke:#6cb2ff}.t2{stroke:#ff9c57}.t3{stroke:#3fd0a5}.t4{stroke:#d69ae6}\
@@ -113,7 +114,7 @@ fn put_title(page: &mut Page, name: &str) -> Result<(), AllocError>
     page.put_text(Tag::Style, &[], STYLE)
 }
 
-// The paper of a picture, and its head.
+// The background of a picture, and its head.
 #[tactic(auto, unfolding(crate::specs::Pictures::head_text))]
 fn put_head(
     page: &mut Page,
@@ -125,7 +126,7 @@ fn put_head(
     ensures text { OnOk result (page.new.text ≡ page.old.text ++ head_text wide high name.now counts.now) }
     ensures tags { OnOk result (page.new.open_tags ≡ page.old.open_tags) }
 {
-    put_rect(page, "paper", Point::new(0, 0), wide, high)?;
+    put_rect(page, "background", Point::new(0, 0), wide, high)?;
     put_words(page, "head", Point::new(16, 34), name)?;
     put_words(page, "sub", Point::new(16, 56), counts)
 }

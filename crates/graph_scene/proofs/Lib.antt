@@ -7,3 +7,4 @@ pub mod Drawn
 pub mod Ordered
 pub mod Begun
 pub mod Apart
+pub mod Bringing

@@ -1,7 +1,7 @@
 -- The room that entries take of each moment, entry by entry.
 use Rattle.std.proofs.Common.{◌≡◌, ◌≢◌, ◌∙◌, ℕ, ◌+◌, ◌*◌, ◌<◌, ◌≤◌, ◌^◌, ◌==◌, Bool, true, false, List, [], ◌∷◌}
-use Rattle.std.proofs.Common.{inl, inr, Option, Some, None, All, length, min, get_or, cond, set, take, replicate, refl, ap}
-use Rattle.std.proofs.Common.{sym, arith, zero, suc}
+use Rattle.std.proofs.Common.{inl, inr, Option, Some, None, All, length, min, get_or, cond, set, take, replicate, refl}
+use Rattle.std.proofs.Common.{ap, sym, arith, zero, suc}
 use Rattle.std.proofs.lemmas.Bool.{cases_eq, eq-eqb, ne_eqb}
 use Rattle.std.proofs.lemmas.List.{get_or-replicate, get_or-set_other, get_or-set_same, length-replicate, length-set}
 use Rattle.std.proofs.lemmas.List.{length-take}

@@ -1,12 +1,12 @@
 //! What is shown of a journal, in the railway's words.
 
-ghost use Rattle.std.specs.Prelude.{◌≡◌, ℕ, ◌+◌, ◌<◌, ◌≤◌, true, All, IsTrue, List};
+ghost use Rattle.std.specs.Prelude.{◌≡◌, ℕ, ◌+◌, ◌<◌, ◌≤◌, true, All, IsTrue, List, ◌∷◌};
 ghost use Rattle.std.specs.List.{AllPairs, Contains};
 ghost use Rattle.graph_scene.specs.declared.bars.Bar.{Bar};
 ghost use Rattle.graph_scene.specs.declared.deeds.TrainDeed.{TrainDeed};
 ghost use Rattle.graph_scene.specs.declared.lines.TrainLine.{TrainLine};
 ghost use Rattle.graph_scene.specs.Deeds.{deeds_of};
-ghost use Rattle.graph_scene.specs.Lines.{line_of, lines_of};
+ghost use Rattle.graph_scene.specs.Lines.{IsBringing, line_of, lines_of};
 ghost use Rattle.graph_scene.specs.Moments.{AreOf, IsEntry, axis_of, end_of, is_shown, place_of, room_of, start_at};
 ghost use Rattle.graph_scene.specs.Turns.{bars_of};
 ghost use Rattle.line_law.specs.declared.call.Entry.{Entry};
@@ -35,6 +35,13 @@ pub fn lines_law()
         AllPairs (λ (one other : TrainDeed). one.entry < other.entry) line.deeds) (lines_of plan es) }
     ensures once { (plan : PlanFields) (es : List Entry)
         → AllPairs (λ (one other : TrainLine). one.train < other.train) (lines_of plan es) }
+{}
+
+/// A law: in a legal journal the line of each train begins with its bringing.
+#[tactic(auto, using(crate::proofs::Bringing::first_brought))]
+pub fn bringing_law()
+    ensures { (plan : PlanFields) (es : List Entry) (train : ℕ) (first : TrainDeed) (later : List TrainDeed)
+        → IsLegal plan es → (line_of (deeds_of plan es) train).deeds ≡ first ∷ later → IsBringing first }
 {}
 
 /// A law: no entry begins two bars, and the bars stand in the order of the entries that begin them.

@@ -13,7 +13,7 @@ mod words;
 pub use axis::{Axis, axis_of, ten_minutes};
 pub use bars::{Bar, Turn, bars_of, turn_of};
 pub use deeds::{Deed, TrainDeed, deed_of, deeds_of};
-pub use laws::{apart_law, bars_law, legal_law, lines_law};
+pub use laws::{apart_law, bars_law, bringing_law, legal_law, lines_law};
 pub use lines::{TrainLine, lines_of};
 pub use scene::{Scene, scene_of};
 pub use words::{letters_of, train_name};

@@ -1,0 +1,3 @@
+pub mod Named
+pub mod Front
+pub mod Rows

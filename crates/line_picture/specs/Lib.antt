@@ -1,0 +1,5 @@
+pub mod Words
+pub mod Places
+pub mod Boxes
+pub mod Sections
+pub mod Pictures

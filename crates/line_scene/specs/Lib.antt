@@ -1,0 +1,4 @@
+pub mod Diagrams
+pub mod Boxes
+pub mod Sections
+pub mod Scenes

@@ -1,0 +1,31 @@
+-- A line is drawn as it stands after an entry of a journal.
+use Rattle.std.specs.Prelude.{◌≡◌, ◌≤◌, ℕ, List, Option, Some, None, Ok, length, take}
+use Rattle.rail_text.specs.Words.{number_in}
+use Rattle.line_plan.specs.Plans.{PlanFields}
+use Rattle.line_law.specs.declared.call.Entry.{Entry}
+use Rattle.text_fetch.specs.FromTexts.{Held}
+use Rattle.mark_up.specs.Documents.{IsDocument}
+use Rattle.line_scene.specs.Scenes.{scene_after}
+use Rattle.line_picture.specs.Pictures.{picture_text}
+use Rattle.explained_texts.specs.Journals.{IsJournalOf}
+use Rattle.signalbox_words.specs.Commands.{PictureWanted}
+
+-- so many entries of a journal of so many come before what is drawn: up to the one whose number is given, else all
+abbrev pub IsCount : ℕ → Option (List ℕ) → ℕ → Type 0
+IsCount all None count = count ≡ all
+IsCount all (Some word) count = (number_in 1 4294967295 word ≡ Ok count) × (count ≤ all)
+
+-- the text is a document that draws what is seen of the line after the entry that is asked for
+pub record IsPictureIn (plan : PlanFields) (es : List Entry) (number : Option (List ℕ)) (text : List ℕ) : Type 0 where
+  pub count : ℕ
+  pub count_is : IsCount (length es) number count
+  pub document : IsDocument text
+  pub picture : text ≡ picture_text plan (scene_after plan (take count es)) count
+
+-- What comes of `picture`: a picture of the line of the plan by the legal journal, that the shelf tells under these
+-- names.
+pub record IsPictureOf (held : Held) (wanted : PictureWanted) (text : List ℕ) : Type 0 where
+  pub plan : PlanFields
+  pub entries : List Entry
+  pub journal : IsJournalOf held wanted.plan wanted.output plan entries
+  pub picture : IsPictureIn plan entries wanted.number text
