@@ -1,13 +1,13 @@
 -- The rows of a frame by the places of its levers.
-use Rattle.std.proofs.Common.{◌≡◌, ℕ, zero, suc, ◌+◌, ◌<◌, ◌≤◌, List, [], ◌∷◌, ◌++◌, All, length, map, take}
-use Rattle.std.proofs.Common.{refl, sym, ap, subst, ◌∙◌, arith, get_or, add-one}
+use Rattle.std.proofs.Common.{◌≡◌, ℕ, suc, ◌+◌, ◌<◌, ◌≤◌, List, [], ◌∷◌, ◌++◌, All, length, map, take}
+use Rattle.std.proofs.Common.{refl, sym, ap, subst, ◌∙◌, arith, get_or}
 use Rattle.std.proofs.lemmas.List.{get_or_default}
 use Rattle.std.proofs.lemmas.List.Elements.{All-weaker}
 use Rattle.locking_table.specs.declared.places.End.TheVariants.{Normal}
 use Rattle.locking_table.specs.declared.row.Cond.{Cond}
 use Rattle.locking_table.specs.declared.row.Row.{Row}
 use Rattle.locking_table.specs.Index.{no_row}
-use Rattle.locking_table.specs.Sound.{IsRow, RowFits}
+use Rattle.locking_table.specs.Sound.{RowFits}
 use Rattle.frame_report.specs.Frame.{IsFrame, IsFrameRow, row_in, rows_in}
 use Rattle.frame_report.specs.Report.{row_at}
 use Rattle.frame_report.proofs.ListLemmas.{all_mapped, map_more}

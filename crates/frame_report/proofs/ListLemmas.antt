@@ -1,6 +1,6 @@
 -- Lists that are mapped, searched and filled element by element.
-use Rattle.std.proofs.Common.{◌≡◌, ℕ, zero, suc, ◌+◌, ◌<◌, ◌≤◌, ◌||◌, Bool, true, false, not, List, [], ◌∷◌, ◌++◌, All}
-use Rattle.std.proofs.Common.{length, map, take, refl, sym, ap, subst, ◌∙◌, arith, get_or, cond}
+use Rattle.std.proofs.Common.{◌≡◌, ℕ, zero, suc, ◌<◌, ◌||◌, Bool, true, false, not, List, [], ◌∷◌, ◌++◌, All}
+use Rattle.std.proofs.Common.{length, map, take, refl, ap, ◌∙◌, arith, get_or, cond}
 use Rattle.std.specs.Prelude.{IsTrue, Option, Some, None}
 use Rattle.std.specs.List.{find}
 use Rattle.std.proofs.lemmas.List.Elements.{All-append, All-cons, All-head, All-nil, All-tail}

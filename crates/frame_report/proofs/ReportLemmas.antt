@@ -1,6 +1,6 @@
 -- What is found of levers and rows, one after another.
-use Rattle.std.proofs.Common.{◌≡◌, ◌≢◌, ◌↔◌, ℕ, ◌+◌, ◌<◌, ◌≤◌, Bool, true, false, List, [], ◌∷◌, ◌++◌, length}
-use Rattle.std.proofs.Common.{refl, sym, ap, subst, ◌∙◌, arith, inl, inr, get_or}
+use Rattle.std.proofs.Common.{◌≡◌, ◌≢◌, ◌↔◌, ℕ, ◌+◌, ◌<◌, Bool, List, [], ◌∷◌, ◌++◌, All, length}
+use Rattle.std.proofs.Common.{sym, ap, subst, ◌∙◌, arith, inl, inr, get_or}
 use Rattle.std.specs.Prelude.{IsTrue}
 use Rattle.std.proofs.lemmas.Bool.{cases_lt}
 use Rattle.std.proofs.lemmas.List.{get_or_append_left, get_or_push, length_push}
@@ -8,7 +8,11 @@ use Rattle.locking_table.specs.declared.row.Row.{Row}
 use Rattle.frame_walk.specs.Walked.{Walked}
 use Rattle.frame_findings.specs.Frozen.{HoldsAlways}
 use Rattle.row_findings.specs.Covering.{Covers}
-use Rattle.frame_report.specs.Report.{AreCoveringBefore, AreHoldingBefore, IsInPlace, row_at}
+use Rattle.locking_table.specs.Sound.{RowFits}
+use Rattle.frame_findings.specs.declared.finding.Finding.TheVariants.{Open}
+use Rattle.frame_findings.specs.Findings.{IsFinding}
+use Rattle.row_refutations.proofs.Reached.{never_so}
+use Rattle.frame_report.specs.Report.{AreCoveringBefore, AreHoldingBefore, AreReasons, IsInPlace, finding_by, row_at}
 
 -- another row that holds as much, as the rows were read
 pub in_place_is : (w : Walked) (at other : ℕ) (does : Bool) (row others : Row) → row_at w.rows at ≡ row
@@ -53,3 +57,10 @@ covering_push w at below marks mark are one = record {
   long = mark_long (λ (k : ℕ). IsInPlace w at k) below marks mark are.long are.each one;
   each = mark_push (λ (k : ℕ). IsInPlace w at k) below marks mark are.long are.each one;
 }
+
+-- where rows refute what the walk left open, it is never so
+pub open_report : (w : Walked) (levers rows : List ℕ) → All (RowFits w.levers) w.rows → IsFinding w levers Open
+    → AreReasons w levers rows → IsFinding w levers (finding_by rows)
+open_report w levers [] fits left reasons = left
+open_report w levers (at ∷ places) fits left reasons = λ can.
+    never_so w.rows w.levers levers (at ∷ places) can.state fits reasons can.reachable can.reversed

@@ -16,6 +16,7 @@ use Rattle.row_findings.specs.declared.uses.RowUse.{RowUse}
 use Rattle.row_findings.specs.declared.uses.RowUse.TheVariants as uses
 use Rattle.frame_report.specs.declared.asked.StatesWanted.{StatesWanted}
 use Rattle.frame_report.specs.declared.report.LeverReport.{LeverReport}
+use Rattle.frame_report.specs.declared.report.PairReport.{PairReport}
 use Rattle.frame_report.specs.declared.report.RowReport.{RowReport}
 use Rattle.frame_report.specs.declared.report.StatesReport.{StatesReport}
 
@@ -100,7 +101,32 @@ padded_text number =
 -- a lever's line of the triangle: each lever before it, and itself
 unfoldable pub triangle_line : LeverReport → List ℕ
 triangle_line lever =
-    padded_text lever.number ++ flat_map sign_text lever.others.items ++ sign_text lever.own ++ codes "\n"
+    padded_text lever.number ++ flat_map (λ pair. sign_text pair.finding) lever.others.items ++ sign_text lever.own
+    ++ codes "\n"
+
+-- the numbers of rows, given by their places
+abbrev pub places_text : List ℕ → List ℕ
+places_text places = flat_map (λ at. codes " " ++ decimal (at + 1)) places
+
+-- two levers that rows refute are ever reversed together
+unfoldable pub refuted_line : ℕ → ℕ → List ℕ → List ℕ
+refuted_line number other places =
+    codes "levers " ++ decimal other ++ codes " " ++ decimal number ++ codes " never, by rows" ++ places_text places
+    ++ codes "\n"
+
+abbrev pub pair_text : ℕ → ℕ → List ℕ → List ℕ
+pair_text number other [] = []
+pair_text number other (at ∷ places) = refuted_line number other (at ∷ places)
+
+-- the lines of a lever and each of the levers from a place on
+abbrev pub pairs_text : List ℕ → ℕ → ℕ → List PairReport → List ℕ
+pairs_text numbers number k [] = []
+pairs_text numbers number k (pair ∷ pairs) =
+    pair_text number (slice_index numbers k) pair.rows.items ++ pairs_text numbers number (k + 1) pairs
+
+-- the lines of all levers
+abbrev pub refuted_text : List ℕ → List LeverReport → List ℕ
+refuted_text numbers levers = flat_map (λ lever. pairs_text numbers lever.number 0 lever.others.items) levers
 
 abbrev pub signs_text : Bool → List ℕ
 signs_text whole =
@@ -111,7 +137,7 @@ signs_text whole =
 unfoldable pub together_text : Bool → List ℕ → List LeverReport → List ℕ
 together_text whole numbers levers =
     signs_text whole ++ digits_text 100 numbers ++ digits_text 10 numbers ++ digits_text 1 numbers
-    ++ flat_map triangle_line levers
+    ++ flat_map triangle_line levers ++ refuted_text numbers levers
 
 -- ---- redundant rows
 
@@ -153,22 +179,27 @@ moves_text numbers ends [] = []
 moves_text numbers ends (lever ∷ path) =
     move_text (end_at ends lever) (slice_index numbers (lever - 1)) ++ moves_text numbers (after_move ends lever) path
 
-abbrev pub sequence_text : List ℕ → Sequence → List ℕ
-sequence_text numbers (sequence.Moves path) = moves_text numbers (all_normal (length numbers)) path.items
-sequence_text numbers sequence.Never = codes "    no sequence of pulls and puts reverses them together\n"
-sequence_text numbers sequence.Open = codes "    no state that was walked has them reversed together\n"
+-- no state was found, and rows may refute that there is one
+unfoldable pub open_text : List ℕ → List ℕ
+open_text [] = codes "    no state that was walked has them reversed together\n"
+open_text (at ∷ places) = codes "    never, by rows" ++ places_text (at ∷ places) ++ codes "\n"
+
+abbrev pub sequence_text : List ℕ → Sequence → List ℕ → List ℕ
+sequence_text numbers (sequence.Moves path) places = moves_text numbers (all_normal (length numbers)) path.items
+sequence_text numbers sequence.Never places = codes "    no sequence of pulls and puts reverses them together\n"
+sequence_text numbers sequence.Open places = open_text places
 
 abbrev pub numbers_text : List ℕ → List ℕ
 numbers_text numbers = flat_map (λ number. codes " " ++ decimal number) numbers
 
 -- what was asked of levers, if of any, and the answer
-unfoldable pub asked_text : List ℕ → List ℕ → List ℕ → Sequence → List ℕ
-asked_text asks numbers levers sequence =
-    asks ++ numbers_text levers ++ codes "\n" ++ sequence_text numbers sequence
+unfoldable pub asked_text : List ℕ → List ℕ → List ℕ → Sequence → List ℕ → List ℕ
+asked_text asks numbers levers sequence places =
+    asks ++ numbers_text levers ++ codes "\n" ++ sequence_text numbers sequence places
 
-abbrev pub answer_text : List ℕ → List ℕ → List ℕ → Sequence → List ℕ
-answer_text asks numbers [] sequence = []
-answer_text asks numbers (lever ∷ levers) sequence = asked_text asks numbers (lever ∷ levers) sequence
+abbrev pub answer_text : List ℕ → List ℕ → List ℕ → Sequence → List ℕ → List ℕ
+answer_text asks numbers [] sequence places = []
+answer_text asks numbers (lever ∷ levers) sequence places = asked_text asks numbers (lever ∷ levers) sequence places
 
 -- ---- the whole
 
@@ -186,8 +217,8 @@ rows_text rows report =
 -- the answers to what was asked
 unfoldable pub answers_text : List ℕ → StatesWanted → StatesReport → List ℕ
 answers_text numbers wanted report =
-    answer_text (codes "reach") numbers wanted.reach.items report.reach
-    ++ answer_text (codes "never") numbers wanted.never.items report.never
+    answer_text (codes "reach") numbers wanted.reach.items report.reach report.reach_rows.items
+    ++ answer_text (codes "never") numbers wanted.never.items report.never report.never_rows.items
 
 -- the text of a report on the frame of a box that has these levers and rows
 unfoldable pub states_text : List ℕ → List ℕ → List Row → StatesWanted → StatesReport → List ℕ

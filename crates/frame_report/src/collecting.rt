@@ -1,30 +1,102 @@
 //! What is found of each lever and each row of a frame.
 
-ghost use Rattle.std.specs.Prelude.{◌≡◌, ◌↔◌, ◌-◌, ◌<◌, All, IfOk, IsTrue, length};
+ghost use Rattle.std.specs.Prelude.{◌≡◌, ◌↔◌, ◌-◌, ◌<◌, ◌∷◌, [], All, IfOk, IsTrue, length};
 ghost use Rattle.locking_table.specs.Places.{IsLever};
 ghost use Rattle.locking_table.specs.Sound.{RowFits};
 ghost use Rattle.frame_walk.specs.Walked.{IsWalked};
 ghost use Rattle.frame_findings.specs.Findings.{IsFinding};
 ghost use Rattle.row_findings.specs.Redundant.{IsUse};
-ghost use Rattle.frame_report.specs.Report.{AreCovering, AreHolding, AreInPlace, AreLeverReports, AreRowReports};
+ghost use Rattle.frame_findings.specs.declared.finding.Finding.TheVariants.{Open};
+ghost use Rattle.frame_report.specs.Report.{AreCovering, AreHolding, AreInPlace, AreLeverReports, AreReasons};
+ghost use Rattle.frame_report.specs.Report.{AreRowReports, IsPairReport, finding_by};
 ghost use Rattle.frame_report.specs.Report.{AreToBlame, AreTogether, IsInPlace, IsLeverReport};
 ghost use Rattle.frame_report.specs.Report.{IsRowReport};
 
-use crate::report::{LeverReport, RowReport};
+use crate::report::{LeverReport, PairReport, RowReport};
 use frame_findings::{Finding, Findings, holds_always};
 use frame_walk::Walk;
 use locking_table::{NoMemory, Row};
 use row_findings::{RowUse, covers, row_uses};
+use row_refutations::refutation;
 use std::alloc::Global;
 
-// Whether a lever can be reversed together with each lever before it.
-fn others_of(alloc: Global, findings: &Findings, lever: u32) -> Result<Vec<Finding>, NoMemory>
-    requires { IsLever findings.now.levers lever }
-    ensures { IfOk result (λ others. AreTogether findings.now lever (lever - 1) others.items) }
+/// Rows that refute that levers are ever reversed together, by their places from 0; none where none are found.
+pub fn reasons_of(alloc: Global, walk: &Walk, levers: &[u32]) -> Result<Vec<u32>, NoMemory>
+    ensures { IfOk result (λ places. AreReasons walk.now levers.now places.items) }
+{
+    match refutation(alloc, walk.table().rows(), walk.levers(), levers)? {
+        Some(places) => Ok(places),
+        None => Ok(Vec::new(alloc)),
+    }
+}
+
+// What is found where the walk left it open, by the rows that refute it.
+fn finding_by(rows: &[u32]) -> Finding
+    ensures { result ≡ finding_by rows.now }
+{
+    match rows {
+        [] => Finding::Open,
+        [_, ..] => Finding::Never,
+    }
+}
+
+// What is found of levers that are reversed together, where the walk left that open: rows may refute it.
+#[tactic(auto, using(crate::proofs::ReportLemmas::open_report))]
+fn open_pair(alloc: Global, walk: &Walk, levers: &[u32]) -> Result<PairReport, NoMemory>
+    requires walked { IsWalked walk.now }
+    requires rows { All (RowFits walk.now.levers) walk.now.rows }
+    requires open { IsFinding walk.now levers.now Open }
+    ensures { IfOk result (IsPairReport walk.now levers.now) }
+{
+    let rows = reasons_of(alloc, walk, levers)?;
+    let finding = finding_by(&rows);
+    Ok(PairReport { finding, rows })
+}
+
+// What is found of two levers.
+fn pair_report(
+    alloc: Global,
+    walk: &Walk,
+    findings: &Findings,
+    lever: u32,
+    other: u32,
+) -> Result<PairReport, NoMemory>
+    requires walked { IsWalked walk.now }
+    requires rows { All (RowFits walk.now.levers) walk.now.rows }
+    requires findings { findings.now ≡ walk.now }
+    requires lever { IsLever walk.now.levers lever }
+    requires other { IsLever walk.now.levers other }
+    ensures { IfOk result (IsPairReport walk.now (lever ∷ other ∷ [])) }
+{
+    match findings.pair(lever, other) {
+        Finding::Open => open_pair(alloc, walk, &[lever, other]),
+        Finding::First(at) => Ok(PairReport {
+            finding: Finding::First(at),
+            rows: Vec::new(alloc),
+        }),
+        Finding::Never => Ok(PairReport {
+            finding: Finding::Never,
+            rows: Vec::new(alloc),
+        }),
+    }
+}
+
+// What is found of a lever and each lever before it.
+fn others_of(
+    alloc: Global,
+    walk: &Walk,
+    findings: &Findings,
+    lever: u32,
+) -> Result<Vec<PairReport>, NoMemory>
+    requires walked { IsWalked walk.now }
+    requires rows { All (RowFits walk.now.levers) walk.now.rows }
+    requires findings { findings.now ≡ walk.now }
+    requires lever { IsLever walk.now.levers lever }
+    ensures { IfOk result (λ others. AreTogether walk.now lever (lever - 1) others.items) }
 {
     let mut others = Vec::new(alloc);
     for k in 1..lever {
-        others.push(findings.pair(lever, k))?;
+        others.push(pair_report(alloc, walk, findings, lever, k)?)?;
     }
     Ok(others)
 }
@@ -73,7 +145,7 @@ fn lever_report(
     ensures { IfOk result (IsLeverReport walk.now numbers.now lever) }
 {
     let own = findings.lever(lever);
-    let others = others_of(alloc, findings, lever)?;
+    let others = others_of(alloc, walk, findings, lever)?;
     let holding = to_blame(alloc, walk, lever, own)?;
     Ok(LeverReport {
         number: numbers[lever as usize - 1],

@@ -9,10 +9,11 @@ ghost use Rattle.frame_report.specs.Text.{digit_text, digits_text, levers_text, 
 ghost use Rattle.frame_report.specs.Text.{frozen_text, head_text, is_marked, is_redundant, lever_text, marked_text};
 ghost use Rattle.frame_report.specs.Text.{move_text, moves_text, numbers_text, padded_text, redundancy_text};
 ghost use Rattle.frame_report.specs.Text.{redundant_text, redundants_text, row_line, sequence_text, sign_text};
-ghost use Rattle.frame_report.specs.Text.{signs_text, states_text, together_text, triangle_line};
+ghost use Rattle.frame_report.specs.Text.{open_text, pair_text, pairs_text, places_text, refuted_line};
+ghost use Rattle.frame_report.specs.Text.{refuted_text, signs_text, states_text, together_text, triangle_line};
 
 use crate::asked::StatesWanted;
-use crate::report::{LeverReport, RowReport, StatesReport};
+use crate::report::{LeverReport, PairReport, RowReport, StatesReport};
 use frame_findings::{Finding, Sequence};
 use locking_table::{End, NoMemory, Row, put_row};
 use row_findings::RowUse;
@@ -157,11 +158,12 @@ fn sign_text(finding: Finding) -> &'static str
     }
 }
 
-fn put_signs(out: &mut String, findings: &[Finding]) -> Result<(), AllocError>
-    ensures { OnOk result (string_bytes out.new ≡ string_bytes out.old ++ flat_map sign_text findings.now) }
+fn put_signs(out: &mut String, pairs: &[PairReport]) -> Result<(), AllocError>
+    ensures { OnOk result (string_bytes out.new
+        ≡ string_bytes out.old ++ flat_map (λ pair. sign_text pair.finding) pairs.now) }
 {
-    for finding in findings {
-        out.push_str(sign_text(*finding))?;
+    for pair in pairs {
+        out.push_str(sign_text(pair.finding))?;
     }
     Ok(())
 }
@@ -246,6 +248,73 @@ fn put_triangle(out: &mut String, levers: &[LeverReport]) -> Result<(), AllocErr
     Ok(())
 }
 
+// The numbers of rows, given by their places.
+fn put_places(out: &mut String, places: &[u32]) -> Result<(), AllocError>
+    ensures { OnOk result (string_bytes out.new ≡ string_bytes out.old ++ places_text places.now) }
+{
+    for at in places {
+        let number = u64::from(*at) + 1;
+        write!(out, " {number}")?;
+    }
+    Ok(())
+}
+
+// The line of two levers that rows refute are ever reversed together.
+#[tactic(auto, unfolding(crate::specs::Text::refuted_line))]
+fn put_refuted(out: &mut String, number: u32, other: u32, places: &[u32]) -> Result<(), AllocError>
+    ensures { OnOk result
+        (string_bytes out.new ≡ string_bytes out.old ++ refuted_line number other places.now) }
+{
+    write!(out, "levers {other} {number} never, by rows")?;
+    put_places(out, places)?;
+    out.push_str("\n")
+}
+
+// The same where there are such rows.
+fn put_pair(out: &mut String, number: u32, other: u32, places: &[u32]) -> Result<(), AllocError>
+    ensures { OnOk result (string_bytes out.new ≡ string_bytes out.old ++ pair_text number other places.now) }
+{
+    match places {
+        [] => Ok(()),
+        [_, ..] => put_refuted(out, number, other, places),
+    }
+}
+
+// The lines of a lever and each lever before it.
+fn put_pairs(
+    out: &mut String,
+    numbers: &[u32],
+    number: u32,
+    pairs: &[PairReport],
+) -> Result<(), AllocError>
+    ensures { OnOk result (string_bytes out.new
+        ≡ string_bytes out.old ++ pairs_text numbers.now number 0 pairs.now) }
+{
+    for (k, pair) in pairs.iter().enumerate() {
+        let other = match numbers.get(k) {
+            Some(other) => *other,
+            None => 0,
+        };
+        put_pair(out, number, other, &pair.rows)?;
+    }
+    Ok(())
+}
+
+// The lines of all levers.
+fn put_all_refuted(
+    out: &mut String,
+    numbers: &[u32],
+    levers: &[LeverReport],
+) -> Result<(), AllocError>
+    ensures { OnOk result
+        (string_bytes out.new ≡ string_bytes out.old ++ refuted_text numbers.now levers.now) }
+{
+    for lever in levers {
+        put_pairs(out, numbers, lever.number, &lever.others)?;
+    }
+    Ok(())
+}
+
 fn signs_text(whole: bool) -> &'static str
     ensures { result.now ≡ signs_text whole }
 {
@@ -270,7 +339,8 @@ fn put_together(
     put_digits(out, 100, numbers)?;
     put_digits(out, 10, numbers)?;
     put_digits(out, 1, numbers)?;
-    put_triangle(out, levers)
+    put_triangle(out, levers)?;
+    put_all_refuted(out, numbers, levers)
 }
 
 // ---- redundant rows
@@ -398,14 +468,30 @@ fn put_moves(
     Ok(())
 }
 
+// That no state was found, or by which rows there is none.
+#[tactic(auto, unfolding(crate::specs::Text::open_text))]
+fn put_open(out: &mut String, places: &[u32]) -> Result<(), AllocError>
+    ensures { OnOk result (string_bytes out.new ≡ string_bytes out.old ++ open_text places.now) }
+{
+    match places {
+        [] => out.push_str("    no state that was walked has them reversed together\n"),
+        [_, ..] => {
+            out.push_str("    never, by rows")?;
+            put_places(out, places)?;
+            out.push_str("\n")
+        }
+    }
+}
+
 fn put_sequence(
     out: &mut String,
     alloc: Global,
     numbers: &[u32],
     sequence: &Sequence,
+    places: &[u32],
 ) -> Result<(), AllocError>
-    ensures { OnOk result
-        (string_bytes out.new ≡ string_bytes out.old ++ sequence_text numbers.now sequence.now) }
+    ensures { OnOk result (string_bytes out.new
+        ≡ string_bytes out.old ++ sequence_text numbers.now sequence.now places.now) }
 {
     match sequence {
         Sequence::Moves(path) => {
@@ -415,9 +501,7 @@ fn put_sequence(
         Sequence::Never => {
             out.push_str("    no sequence of pulls and puts reverses them together\n")
         }
-        Sequence::Open => {
-            out.push_str("    no state that was walked has them reversed together\n")
-        }
+        Sequence::Open => put_open(out, places),
     }
 }
 
@@ -439,9 +523,10 @@ fn put_answer(
     numbers: &[u32],
     levers: &[u32],
     sequence: &Sequence,
+    places: &[u32],
 ) -> Result<(), AllocError>
     ensures { OnOk result (string_bytes out.new ≡ string_bytes out.old
-        ++ answer_text asks.now numbers.now levers.now sequence.now) }
+        ++ answer_text asks.now numbers.now levers.now sequence.now places.now) }
 {
     match levers {
         [] => Ok(()),
@@ -449,7 +534,7 @@ fn put_answer(
             out.push_str(asks)?;
             put_numbers(out, levers)?;
             out.push_str("\n")?;
-            put_sequence(out, alloc, numbers, sequence)
+            put_sequence(out, alloc, numbers, sequence, places)
         }
     }
 }
@@ -497,8 +582,9 @@ fn put_answers(
 {
     let reached = wanted.reach.as_slice();
     let never = wanted.never.as_slice();
-    put_answer(out, alloc, "reach", numbers, reached, &report.reach)?;
-    put_answer(out, alloc, "never", numbers, never, &report.never)
+    let (by, against) = (report.reach_rows.as_slice(), report.never_rows.as_slice());
+    put_answer(out, alloc, "reach", numbers, reached, &report.reach, by)?;
+    put_answer(out, alloc, "never", numbers, never, &report.never, against)
 }
 
 #[tactic(auto, unfolding(crate::specs::Text::states_text))]

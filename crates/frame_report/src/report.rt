@@ -3,6 +3,15 @@
 use frame_findings::{Finding, Sequence};
 use row_findings::RowUse;
 
+/// What is found of two levers.
+#[derive(Drop)]
+pub struct PairReport {
+    /// Whether they can be reversed together.
+    pub finding: Finding,
+    /// Where the walk left that open and rows refute it, these, by their places from 0.
+    pub rows: Vec<u32>,
+}
+
 /// What is found of a lever.
 #[derive(Drop)]
 pub struct LeverReport {
@@ -10,8 +19,8 @@ pub struct LeverReport {
     pub number: u32,
     /// Whether it can be reversed.
     pub own: Finding,
-    /// Whether it can be reversed together with each lever before it.
-    pub others: Vec<Finding>,
+    /// What is found of it and each lever before it.
+    pub others: Vec<PairReport>,
     /// Where it never can be: for each row whether this row holds it in every state.
     pub holding: Vec<bool>,
 }
@@ -38,6 +47,10 @@ pub struct StatesReport {
     pub rows: Vec<RowReport>,
     /// How the levers that are to be reached come to be reversed together.
     pub reach: Sequence,
+    /// Where the walk left that open and rows refute it, these, by their places from 0.
+    pub reach_rows: Vec<u32>,
     /// How the levers that are never to be reversed together come to be so.
     pub never: Sequence,
+    /// Where the walk left that open and rows refute it, these, by their places from 0.
+    pub never_rows: Vec<u32>,
 }

@@ -1,4 +1,4 @@
-use Rattle.std.proofs.Common.{◌≡◌, ◌≤◌, All, length, take, None}
+use Rattle.std.proofs.Common.{◌≡◌, All, length, take, None}
 use Rattle.locking_table.specs.Places.{IsLever}
 use Rattle.frame_report.specs.States.{missing, places_of}
 use Rattle.frame_report.proofs.asked.places_of.Given as goal

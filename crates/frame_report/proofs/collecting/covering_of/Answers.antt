@@ -1,4 +1,4 @@
-use Rattle.std.proofs.Common.{◌≡◌, ◌+◌, List, Bool, sym, subst}
+use Rattle.std.proofs.Common.{◌+◌, List, Bool, sym, subst}
 use Rattle.frame_report.specs.Report.{AreCoveringBefore}
 use Rattle.frame_report.proofs.ReportLemmas.{covering_push}
 use Rattle.frame_report.proofs.collecting.covering_of.Goals as goal

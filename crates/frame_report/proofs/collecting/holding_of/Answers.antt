@@ -1,4 +1,4 @@
-use Rattle.std.proofs.Common.{◌≡◌, ℕ, ◌+◌, ◌<◌, List, Bool, length, sym, subst, ◌∙◌, arith}
+use Rattle.std.proofs.Common.{◌+◌, ◌<◌, List, Bool, length, sym, subst, ◌∙◌, arith}
 use Rattle.frame_report.specs.Report.{AreHoldingBefore}
 use Rattle.frame_report.proofs.FrameLemmas.{row_is}
 use Rattle.frame_report.proofs.ReportLemmas.{holding_push}

@@ -1,4 +1,4 @@
-use Rattle.std.proofs.Common.{◌≡◌, ℕ, ◌<◌, List, length, ap, ◌∙◌, arith}
+use Rattle.std.proofs.Common.{◌<◌, List, length, ap, ◌∙◌, arith}
 use Rattle.locking_table.specs.declared.row.Row.{Row}
 use Rattle.frame_report.proofs.FrameLemmas.{row_is}
 use Rattle.frame_report.proofs.ReportLemmas.{in_place_is}

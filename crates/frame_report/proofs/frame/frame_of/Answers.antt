@@ -1,6 +1,6 @@
-use Rattle.std.proofs.Common.{◌≡◌, ℕ, ◌+◌, ◌<◌, List, All, length, take, sym, ap, subst, ◌∙◌, arith}
+use Rattle.std.proofs.Common.{◌<◌, List, All, length, sym, subst, ◌∙◌, arith}
 use Rattle.locking_table.specs.declared.row.Row.{Row}
-use Rattle.frame_report.specs.Frame.{IsFrameRow, rows_in}
+use Rattle.frame_report.specs.Frame.{IsFrameRow}
 use Rattle.frame_report.proofs.FrameLemmas.{frame_push, frame_row}
 use Rattle.frame_report.proofs.ListLemmas.{all_push, both_true, neither}
 use Rattle.frame_report.proofs.frame.frame_of.Goals as goal

@@ -1,0 +1,5 @@
+pub mod Sheets
+pub mod Items
+pub mod Lines
+pub mod Texts
+pub mod Laws

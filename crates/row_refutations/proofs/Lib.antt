@@ -1,0 +1,2 @@
+pub mod RowsSay
+pub mod Reached
