@@ -1,0 +1,2 @@
+pub mod LinesPut
+pub mod RowsPut

@@ -1,0 +1,5 @@
+pub mod Entries
+pub mod Named
+pub mod Objects
+pub mod Rows
+pub mod Said
