@@ -2,12 +2,14 @@
 
 ghost use Rattle.std.specs.Prelude.{◌≡◌, ◌+◌, ℕ, List, IfErr, IfOk, IfSome, Option, take};
 ghost use Rattle.text_fetch.specs.FromTexts.{Held, IsGiven, text_told};
+ghost use Rattle.line_law.specs.declared.call.Reply.{Reply};
 ghost use Rattle.line_law.specs.History.{IsLegal};
 ghost use Rattle.line_report.specs.Asked.{AreAsked, AreFewEntries};
 ghost use Rattle.line_report.specs.Reading.{journal_of, most_journal_bytes};
-ghost use Rattle.explained_texts.specs.Journals.{IsJournalOf};
+ghost use Rattle.line_report.specs.Verdicts.{verdict_of};
+ghost use Rattle.explained_texts.specs.Journals.{IsJournalOf, illegal_told};
 ghost use Rattle.explained_texts.specs.Others.{IsExplainedByName};
-ghost use Rattle.explained_texts.specs.Troubles.{IsExplained, MakesOr};
+ghost use Rattle.explained_texts.specs.Troubles.{IsExplained, IsToldAs, MakesOr, trouble_line};
 
 use crate::fetching::fetch_text;
 use crate::others::fetch_plan;
@@ -76,7 +78,8 @@ fn fetch_entries<S: ReasonedShelf>(
 
 // The entry of this number, from 1, isn't the law's.
 fn illegal(alloc: Global, name: &str, number: u32) -> Trouble
-    ensures { (held : Held) → IsExplainedByName held result }
+    ensures told { IsToldAs (trouble_line name.now (illegal_told number)) result }
+    ensures explained { (held : Held) → IsExplainedByName held result }
 {
     match format!(in alloc;
         "entry {number} isn't legal; `box_main judge` tells what the law says there"
@@ -92,6 +95,8 @@ fn legal_only(alloc: Global, plan: &Plan, name: &str, journal: Journal) -> Resul
     requires few { AreFewEntries journal.entries }
     ensures same { IfOk result (λ legal. legal ≡ journal) }
     ensures legal { IfOk result (λ legal. IsLegal plan.now legal.entries) }
+    ensures illegal { (k : ℕ) (said law : Reply) → verdict_of plan.now journal.entries ≡ Verdict.WrongAt k said law
+        → IfErr result (IsToldAs (trouble_line name.now (illegal_told k))) }
     ensures explained { (held : Held) → IfErr result (IsExplainedByName held) }
 {
     let verdict = judge(alloc, plan, &journal);

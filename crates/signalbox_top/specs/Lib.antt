@@ -2,10 +2,14 @@ pub mod Top
 pub mod Told
 pub mod Rehearsing
 pub mod Hand
+pub mod Listing
 pub mod Framing
 pub mod Graphing
 pub mod MarkedJournals
-pub mod Marks
+pub mod Sheeting
+pub mod Picturing
+pub mod RowReading
 pub mod Statuses
+pub mod Tabling
 pub mod WalkedFrames
 pub mod Walks

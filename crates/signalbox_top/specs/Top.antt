@@ -24,8 +24,13 @@ use Rattle.signalbox_words.specs.Commands.{Command, Rehearsing, command_of}
 use Rattle.signalbox_words.specs.Table.{program}
 use Rattle.signalbox_top.specs.Framing.{IsFrameOf}
 use Rattle.signalbox_top.specs.Graphing.{IsGraphOf}
+use Rattle.signalbox_top.specs.Listing.{IsListOf}
 use Rattle.signalbox_top.specs.MarkedJournals.{IsMarkedOf}
+use Rattle.signalbox_top.specs.Sheeting.{AreSheetsOf}
+use Rattle.signalbox_top.specs.Picturing.{IsPictureOf}
+use Rattle.signalbox_top.specs.RowReading.{AreRowsOf}
 use Rattle.signalbox_top.specs.Statuses.{status_of}
+use Rattle.signalbox_top.specs.Tabling.{IsTableOf}
 use Rattle.signalbox_top.specs.WalkedFrames.{IsWalkedOf}
 use Rattle.signalbox_top.specs.declared.status.Status.{Status}
 use Rattle.signalbox_top.specs.declared.status.Status.TheVariants as statuses
@@ -86,8 +91,9 @@ pub record IsAnswered (held : Held) (wanted : Rehearsing) (text : List ℕ) (sta
 -- ---- any command
 
 -- what is taken, and the status, where a command is done: of a tidying the text under the name with its form mended;
--- of a rehearsal what comes of it; of a frame its picture, or the report on its states; of a journal its graph, or what
--- an instructor marks in it; what is taken of a box worked by hand is told by IsHandWorked
+-- of a rehearsal what comes of it; of a frame its picture, the report on its states, or its locking table, and of such a
+-- table its rows; of a journal its graph, the picture of the line, what an instructor marks in it, its sheets, or its
+-- records; what is taken of a box worked by hand is told by IsHandWorked
 abbrev pub Headline : Held → Option Command → Status → Option (List ℕ) → Option (List ℕ) → Type 0
 Headline held None status old new = Unit {0}
 Headline held (Some (Command.Tidy file)) status old new =
@@ -99,10 +105,21 @@ Headline held (Some (Command.Frame plan box_name)) status old new =
     (text : List ℕ) × IsFrameOf held plan box_name text × (new ≡ appended old text) × (status ≡ statuses.Done)
 Headline held (Some (Command.Graph plan output)) status old new =
     (text : List ℕ) × IsGraphOf held plan output text × (new ≡ appended old text) × (status ≡ statuses.Done)
+Headline held (Some (Command.Table plan box_name)) status old new =
+    (text : List ℕ) × IsTableOf held plan box_name text × (new ≡ appended old text) × (status ≡ statuses.Done)
+Headline held (Some (Command.Rows file)) status old new =
+    IfSome (held file) (λ all. (lines : List ℕ) × AreRowsOf all lines × (new ≡ appended old lines))
+    × (status ≡ statuses.Done)
+Headline held (Some (Command.Json csv plan output)) status old new =
+    (text : List ℕ) × IsListOf held csv plan output text × (new ≡ appended old text) × (status ≡ statuses.Done)
 Headline held (Some (Command.States wanted)) status old new =
     (text : List ℕ) × IsWalkedOf held wanted text × (new ≡ appended old text) × (status ≡ statuses.Done)
 Headline held (Some (Command.Mark wanted)) status old new =
     (text : List ℕ) × IsMarkedOf held wanted text status × (new ≡ appended old text)
+Headline held (Some (Command.Sheet wanted)) status old new =
+    (text : List ℕ) × AreSheetsOf held wanted text × (new ≡ appended old text) × (status ≡ statuses.Done)
+Headline held (Some (Command.Picture wanted)) status old new =
+    (text : List ℕ) × IsPictureOf held wanted text × (new ≡ appended old text) × (status ≡ statuses.Done)
 
 -- nothing was taken, or the front part of a text
 abbrev pub TakesFront : Option (List ℕ) → Option (List ℕ) → Type 0

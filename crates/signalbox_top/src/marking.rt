@@ -3,9 +3,8 @@
 ghost use Rattle.std.specs.Prelude.{◌≡◌, ◌≢◌, ℕ, List, IfOk, Some, option_map, string_bytes};
 ghost use Rattle.line_law.specs.History.{IsLegal};
 ghost use Rattle.line_report.specs.Asked.{AreFewEntries};
-ghost use Rattle.signalbox_words.specs.Commands.{Command};
+ghost use Rattle.signalbox_words.specs.Commands.{Command, mark_shown};
 ghost use Rattle.signalbox_top.specs.MarkedJournals.{AreMarkedAs, IsBoxOf, IsMarkedIn, IsMarkedOf, IsWithin};
-ghost use Rattle.signalbox_top.specs.Marks.{wanted_shown};
 ghost use Rattle.signalbox_top.specs.Top.{Headline, TakesFront};
 ghost use Rattle.signalbox_top.specs.Told.{TellsWhy};
 
@@ -16,17 +15,8 @@ use explained_texts::{ReasonedShelf, Trouble, fetch_journal, named_box, trouble_
 use line_law::Entry;
 use line_plan::Plan;
 use rail_text::{Sink, number_in};
+use signalbox_words::MarkWords;
 use std::alloc::Global;
-
-/// What is wanted of marks.
-#[derive(Clone, Copy)]
-pub(crate) struct Wanted<'a> {
-    pub(crate) plan: &'a str,
-    pub(crate) output: &'a str,
-    pub(crate) box_name: Option<&'a str>,
-    /// The time within which an answer is to come, as it was written.
-    pub(crate) within: Option<&'a str>,
-}
 
 // What is put of marks, and the status.
 #[derive(Drop)]
@@ -35,8 +25,12 @@ struct Marked {
     status: Status,
 }
 
-// The box that is asked for, if one is.
-fn box_asked(alloc: Global, plan: &Plan, name: Option<&str>) -> Result<Option<u32>, Trouble>
+/// The box that is asked for, if one is.
+pub(crate) fn box_asked(
+    alloc: Global,
+    plan: &Plan,
+    name: Option<&str>,
+) -> Result<Option<u32>, Trouble>
     ensures { IfOk result (λ only. IsBoxOf plan.now (option_map (λ n. n.now) name.entry) only) }
 {
     match name {
@@ -91,11 +85,11 @@ fn marked_of(
     alloc: Global,
     plan: &Plan,
     entries: &[Entry],
-    wanted: &Wanted<'_>,
+    wanted: &MarkWords<'_>,
 ) -> Result<Marked, Trouble>
     requires legal { IsLegal plan.now entries.now }
     requires few { AreFewEntries entries.now }
-    ensures marks { IfOk result (λ marked. IsMarkedIn plan.now entries.now (wanted_shown wanted.now)
+    ensures marks { IfOk result (λ marked. IsMarkedIn plan.now entries.now (mark_shown wanted.now)
         (string_bytes marked.text) marked.status) }
     ensures done { IfOk result (λ marked. marked.status ≢ Status.Failed) }
 {
@@ -107,10 +101,10 @@ fn marked_of(
 // What an instructor marks in the journal of these names.
 fn fetched_marks<S: ReasonedShelf>(
     alloc: Global,
-    wanted: &Wanted<'_>,
+    wanted: &MarkWords<'_>,
     shelf: &mut S,
 ) -> Result<Marked, Trouble>
-    ensures marks { IfOk result (λ marked. IsMarkedOf (S.held shelf.old) (wanted_shown wanted.now)
+    ensures marks { IfOk result (λ marked. IsMarkedOf (S.held shelf.old) (mark_shown wanted.now)
         (string_bytes marked.text) marked.status) }
     ensures done { IfOk result (λ marked. marked.status ≢ Status.Failed) }
     ensures same { (n : List ℕ) → S.held shelf.new n ≡ S.held shelf.old n }
@@ -125,13 +119,13 @@ fn fetched_marks<S: ReasonedShelf>(
 /// Puts what an instructor marks in a journal, and tells by the status whether there is something.
 pub(crate) fn serve_mark<S: ReasonedShelf, K: Sink, L: Sink>(
     alloc: Global,
-    wanted: &Wanted<'_>,
+    wanted: &MarkWords<'_>,
     shelf: &mut S,
     out: &mut K,
     told: &mut L,
 ) -> Status
     ensures headline { result ≢ Status.Failed → Headline (S.held shelf.old)
-        (Some (Command.Mark (wanted_shown wanted.now))) result (K.taken out.old) (K.taken out.new) }
+        (Some (Command.Mark (mark_shown wanted.now))) result (K.taken out.old) (K.taken out.new) }
     ensures part { result ≡ Status.Failed → TakesFront (K.taken out.old) (K.taken out.new) }
     ensures why { result ≡ Status.Failed
         → TellsWhy (L.taken told.old) (L.taken told.new) (L.faults told.old) (L.faults told.new) }

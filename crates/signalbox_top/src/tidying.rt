@@ -28,9 +28,13 @@ fn whole_text(alloc: Global, file: &str, bytes: Vec<u8>) -> Result<Vec<u8>, Trou
     Ok(bytes)
 }
 
-// The text under a name.
+/// The text under a name.
 #[tactic(auto, using(crate::proofs::Fetched::whole_held))]
-fn fetched<S: ReasonedShelf>(alloc: Global, file: &str, shelf: &mut S) -> Result<Vec<u8>, Trouble>
+pub(crate) fn fetched<S: ReasonedShelf>(
+    alloc: Global,
+    file: &str,
+    shelf: &mut S,
+) -> Result<Vec<u8>, Trouble>
     ensures text { IfOk result (λ text. IfSome (S.held shelf.old file.now) (λ all. text.items ≡ all)) }
     ensures few { IfOk result (λ text. length text.items ≤ 4294967294) }
     ensures same { (n : List ℕ) → S.held shelf.new n ≡ S.held shelf.old n }

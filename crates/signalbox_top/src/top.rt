@@ -10,9 +10,14 @@ use crate::answering::{put_result, tell};
 use crate::framing::serve_frame;
 use crate::graphing::serve_graph;
 use crate::hand::{HandWanted, serve_work};
-use crate::marking::{Wanted as MarkWanted, serve_mark};
+use crate::listing::serve_json;
+use crate::marking::serve_mark;
+use crate::picturing::serve_picture;
 use crate::rehearsing::{Wanted, serve_rehearse};
+use crate::row_reading::serve_rows;
+use crate::sheeting::serve_sheet;
 use crate::status::Status;
+use crate::tabling::serve_table;
 use crate::tidying::serve_tidy;
 use crate::walking::{Wanted as WalkWanted, serve_states};
 use explained_texts::ReasonedShelf;
@@ -53,6 +58,9 @@ fn serve<S: ReasonedShelf, N: LineSource, W: Store, K: Sink, L: Sink>(
         SignalboxCommand::Graph { plan, output } => {
             serve_graph(alloc, plan, output, shelf, out, told)
         }
+        SignalboxCommand::Json { csv, plan, output } => {
+            serve_json(alloc, csv, plan, output, shelf, out, told)
+        }
         SignalboxCommand::States {
             plan,
             box_name,
@@ -72,20 +80,13 @@ fn serve<S: ReasonedShelf, N: LineSource, W: Store, K: Sink, L: Sink>(
             drop(reach);
             status
         }
-        SignalboxCommand::Mark {
-            plan,
-            output,
-            box_name,
-            within,
-        } => {
-            let wanted = MarkWanted {
-                plan,
-                output,
-                box_name,
-                within,
-            };
-            serve_mark(alloc, &wanted, shelf, out, told)
+        SignalboxCommand::Mark(wanted) => serve_mark(alloc, &wanted, shelf, out, told),
+        SignalboxCommand::Sheet(wanted) => serve_sheet(alloc, &wanted, shelf, out, told),
+        SignalboxCommand::Picture(wanted) => serve_picture(alloc, &wanted, shelf, out, told),
+        SignalboxCommand::Table { plan, box_name } => {
+            serve_table(alloc, plan, box_name, shelf, out, told)
         }
+        SignalboxCommand::Rows { file } => serve_rows(alloc, file, shelf, out, told),
         SignalboxCommand::Rehearse {
             to_refusal,
             as_journal,
@@ -139,10 +140,13 @@ fn serve<S: ReasonedShelf, N: LineSource, W: Store, K: Sink, L: Sink>(
 /// is typed; with `--plain` a terminal's colours aren't shown; with `--journal FILE` and `--script FILE` the journal
 /// and his calls are written to `store`. His prompts go to `told`.
 /// `frame PLAN BOX` puts a picture of the lever frame of that box, and `graph PLAN OUTPUT` one of a legal journal: its
-/// train graph. `states PLAN BOX` puts a report on the states of the lever frame of that box: with `--limit N` at most
-/// N states are kept; with `--reach L..` and `--never L..` it is told how these levers can be reversed together.
-/// `mark PLAN OUTPUT [BOX]` puts what an instructor would mark in a legal journal, and with `--within M` late answers
-/// too.
+/// train graph. `picture PLAN OUTPUT [ENTRY]` puts a picture of the line as it stands after that entry of a legal
+/// journal. `json PLAN OUTPUT` puts a record of each entry of a legal journal for other programs: a JSON object a
+/// line, and with `--csv` rows of commas. `states PLAN BOX` puts a report on the states of the lever frame of that box:
+/// with `--limit N` at most N states are kept; with `--reach L..` and `--never L..` it is told how these levers can be
+/// reversed together. `mark PLAN OUTPUT [BOX]` puts what an instructor would mark in a legal journal, and with
+/// `--within M` late answers too. `sheet PLAN OUTPUT [BOX]` puts the train register of a legal journal as sheets.
+/// `table PLAN BOX` puts the locking table of that box, and `rows FILE` the rows of such a text, as lines of a plan.
 /// `--help`, `help COMMAND` and `--version` put what they ask for, as results.
 ///
 /// - `Done`: it is done, and nothing was found.

@@ -6,6 +6,9 @@ use Rattle.clap.specs.Words.{Row, Text, all_of, first_of, subcommand_of, takes}
 use Rattle.clap.specs.declared.error.kind.ErrorKind.{ErrorKind}
 use Rattle.clap.specs.declared.error.kind.ErrorKind.TheVariants as kinds
 use Rattle.signalbox_words.specs.Table.{program}
+use Rattle.signalbox_words.specs.declared.reading.MarkWords.{MarkWords}
+use Rattle.signalbox_words.specs.declared.reading.PictureWords.{PictureWords}
+use Rattle.signalbox_words.specs.declared.reading.SheetWords.{SheetWords}
 use Rattle.signalbox_words.specs.declared.reading.SignalboxCommand.{SignalboxCommand}
 use Rattle.signalbox_words.specs.declared.reading.SignalboxCommand.TheVariants as commands
 use Rattle.signalbox_words.specs.declared.reading.Words.{Words}
@@ -49,10 +52,27 @@ pub record WalkWanted : Type 0 where
   pub never : List (List ℕ)
   pub reach : List (List ℕ)
 
+-- What is wanted of a register sheet: the names of the plan and of the journal, and that of the box, if only its sheets
+-- are printed.
+pub record SheetWanted : Type 0 where
+  pub plan : List ℕ
+  pub output : List ℕ
+  pub box_name : Option (List ℕ)
+
+-- What is wanted of a picture of the line: the names of the plan and of the journal, and the number of the entry after
+-- which the line is drawn, as it was written, if there is one.
+pub record PictureWanted : Type 0 where
+  pub plan : List ℕ
+  pub output : List ℕ
+  pub number : Option (List ℕ)
+
 -- Tidy: a text is printed with its form mended; Rehearse: a plan's line is rehearsed by the scripts of its boxes; Work:
 -- one of its boxes is worked by hand; Frame: the lever frame of one of its boxes is drawn, a plan and a box by their
 -- names; Graph: the train graph of a journal is drawn, a plan and the journal by their names; States: the states
--- of a lever frame are walked; Mark: a journal is marked.
+-- of a lever frame are walked; Mark: a journal is marked; Sheet: the train register is printed as a sheet; Picture: the
+-- line is drawn; Table: the locking table of a box is printed, a plan and a box by their names; Rows: the rows of a
+-- locking table are printed for a plan; Json: a journal is printed for other programs, as CSV or not, a plan and the
+-- journal by their names.
 pub data Command : Type 0 where
   Tidy : List ℕ → Command
   Rehearse : Rehearsing → Command
@@ -61,6 +81,36 @@ pub data Command : Type 0 where
   Graph : List ℕ → List ℕ → Command
   States : WalkWanted → Command
   Mark : MarkWanted → Command
+  Sheet : SheetWanted → Command
+  Picture : PictureWanted → Command
+  Table : List ℕ → List ℕ → Command
+  Rows : List ℕ → Command
+  Json : Bool → List ℕ → List ℕ → Command
+
+-- the words of `mark`, as their bytes
+abbrev pub mark_shown : MarkWords → MarkWanted
+mark_shown given = record {
+  plan = given.plan.now;
+  output = given.output.now;
+  box_name = option_map (λ name. name.now) given.box_name;
+  within = option_map (λ word. word.now) given.within;
+}
+
+-- the words of `sheet`, as their bytes
+abbrev pub sheet_shown : SheetWords → SheetWanted
+sheet_shown given = record {
+  plan = given.plan.now;
+  output = given.output.now;
+  box_name = option_map (λ name. name.now) given.box_name;
+}
+
+-- the words of `picture`, as their bytes
+abbrev pub picture_shown : PictureWords → PictureWanted
+picture_shown given = record {
+  plan = given.plan.now;
+  output = given.output.now;
+  number = option_map (λ word. word.now) given.number;
+}
 
 -- the command with the names as their bytes
 abbrev pub shown : SignalboxCommand → Command
@@ -93,13 +143,12 @@ shown (commands.States plan box_name limit never reach) =
       never = map (λ word. word.now) never.items;
       reach = map (λ word. word.now) reach.items;
     })
-shown (commands.Mark plan output box_name within) =
-    Command.Mark (record {
-      plan = plan.now;
-      output = output.now;
-      box_name = option_map (λ name. name.now) box_name;
-      within = option_map (λ word. word.now) within;
-    })
+shown (commands.Mark given) = Command.Mark (mark_shown given)
+shown (commands.Sheet given) = Command.Sheet (sheet_shown given)
+shown (commands.Picture given) = Command.Picture (picture_shown given)
+shown (commands.Table plan box_name) = Command.Table plan.now box_name.now
+shown (commands.Rows file) = Command.Rows file.now
+shown (commands.Json csv plan output) = Command.Json csv plan.now output.now
 
 -- words as their bytes
 abbrev pub bytes_of : List (String Global) → List Text
@@ -217,6 +266,46 @@ abbrev pub mark_read : List Row → Option Command
 mark_read rows =
     option_map (marking_with rows) (two_names (first_of (codes "plan") rows) (first_of (codes "output") rows))
 
+-- the sheets of a plan and a journal of these names
+abbrev pub sheet_with : List Row → Text × Text → Command
+sheet_with rows names =
+    Command.Sheet (record {
+      plan = names.0;
+      output = names.1;
+      box_name = first_of (codes "box") rows;
+    })
+
+-- `sheet PLAN OUTPUT [BOX]`
+abbrev pub sheet_read : List Row → Option Command
+sheet_read rows =
+    option_map (sheet_with rows) (two_names (first_of (codes "plan") rows) (first_of (codes "output") rows))
+
+-- the picture of a line by a plan and a journal of these names
+abbrev pub picture_with : List Row → Text × Text → Command
+picture_with rows names =
+    Command.Picture (record {
+      plan = names.0;
+      output = names.1;
+      number = first_of (codes "entry") rows;
+    })
+
+-- `picture PLAN OUTPUT [ENTRY]`
+abbrev pub picture_read : List Row → Option Command
+picture_read rows =
+    option_map (picture_with rows) (two_names (first_of (codes "plan") rows) (first_of (codes "output") rows))
+
+-- `table PLAN BOX`
+abbrev pub table_read : List Row → Option Command
+table_read rows =
+    option_map (λ names. Command.Table names.0 names.1)
+    (two_names (first_of (codes "plan") rows) (first_of (codes "box") rows))
+
+-- `json [--csv] PLAN OUTPUT`
+abbrev pub json_read : List Row → Option Command
+json_read rows =
+    option_map (λ names. Command.Json (is_given (first_of (codes "csv") rows)) names.0 names.1)
+    (two_names (first_of (codes "plan") rows) (first_of (codes "output") rows))
+
 -- a command, by its name and the values that clap found
 abbrev pub command_read : Text → List Row → Option Command
 command_read name rows =
@@ -227,6 +316,11 @@ command_read name rows =
     else if bytes_eq name (codes "graph") then graph_read rows
     else if bytes_eq name (codes "states") then states_read rows
     else if bytes_eq name (codes "mark") then mark_read rows
+    else if bytes_eq name (codes "sheet") then sheet_read rows
+    else if bytes_eq name (codes "picture") then picture_read rows
+    else if bytes_eq name (codes "table") then table_read rows
+    else if bytes_eq name (codes "rows") then option_map Command.Rows (first_of (codes "file") rows)
+    else if bytes_eq name (codes "json") then json_read rows
     else None
 
 -- the command of these words, as clap reads them by the table of commands

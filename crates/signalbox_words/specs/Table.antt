@@ -124,6 +124,38 @@ marked_box_form = with_rule marked_form (optional_argument (codes "box"))
 abbrev pub mark_command : App
 mark_command = with_rule marked_box_form (value_option (codes "within"))
 
+-- `sheet PLAN OUTPUT`
+abbrev pub sheet_form : App
+sheet_form = with_rule (planned_form (codes "sheet")) (required_argument (codes "output"))
+
+-- `sheet PLAN OUTPUT [BOX]`
+abbrev pub sheet_command : App
+sheet_command = with_rule sheet_form (optional_argument (codes "box"))
+
+-- `picture PLAN OUTPUT`
+abbrev pub picture_form : App
+picture_form = with_rule (planned_form (codes "picture")) (required_argument (codes "output"))
+
+-- `picture PLAN OUTPUT [ENTRY]`
+abbrev pub picture_command : App
+picture_command = with_rule picture_form (optional_argument (codes "entry"))
+
+-- `table PLAN BOX`
+abbrev pub table_command : App
+table_command = with_rule (planned_form (codes "table")) (required_argument (codes "box"))
+
+-- `rows FILE`
+abbrev pub rows_command : App
+rows_command = with_rule (new_app (codes "rows")) (required_argument (codes "file"))
+
+-- `json PLAN OUTPUT`
+abbrev pub json_form : App
+json_form = with_rule (planned_form (codes "json")) (required_argument (codes "output"))
+
+-- `json [--csv] PLAN OUTPUT`
+abbrev pub json_command : App
+json_command = with_rule json_form (flag (codes "csv"))
+
 -- the program with no command; clap is given its words without its own name in front
 abbrev pub bare_program : App
 bare_program = record (new_app (codes "signalbox")) {
@@ -143,10 +175,22 @@ line_program = with_subcommand (with_subcommand bare_program rehearse_command.to
 abbrev pub picture_program : App
 picture_program = with_subcommand (with_subcommand line_program frame_command.top) graph_command.top
 
+-- the same with those that draw a line, and print its registers
+abbrev pub register_program : App
+register_program = with_subcommand (with_subcommand picture_program picture_command.top) sheet_command.top
+
 -- the same with the one that walks a frame
 abbrev pub frame_program : App
-frame_program = with_subcommand picture_program states_command.top
+frame_program = with_subcommand register_program states_command.top
+
+-- the same with those of locking tables
+abbrev pub table_program : App
+table_program = with_subcommand (with_subcommand frame_program table_command.top) rows_command.top
+
+-- the same with the one for other programs
+abbrev pub listed_program : App
+listed_program = with_subcommand table_program json_command.top
 
 -- the program with all its commands
 abbrev pub program : App
-program = with_subcommand (with_subcommand frame_program mark_command.top) tidy_command.top
+program = with_subcommand (with_subcommand listed_program mark_command.top) tidy_command.top

@@ -4,4 +4,4 @@
 mod reading;
 mod table;
 
-pub use reading::{SignalboxCommand, Words, read_words};
+pub use reading::{MarkWords, PictureWords, SheetWords, SignalboxCommand, Words, read_words};

@@ -4,9 +4,10 @@ ghost use Rattle.std.specs.Prelude.{◌≡◌, IfOk, codes, map};
 ghost use Rattle.std.specs.Option.{option_map};
 ghost use Rattle.clap.specs.Words.{all_of, first_of, found_of, rows_of};
 ghost use Rattle.clap.specs.Values.{kind_of};
-ghost use Rattle.signalbox_words.specs.Commands.{AreRead, Command, TellsFault, bytes_of, command_read, frame_read};
-ghost use Rattle.signalbox_words.specs.Commands.{graph_read, is_given, line_read, listed, mark_read, names_read};
-ghost use Rattle.signalbox_words.specs.Commands.{rehearsal_with, rehearse_read, shown, states_read, two_names};
+ghost use Rattle.signalbox_words.specs.Commands.{AreRead, Command, TellsFault, bytes_of, command_read};
+ghost use Rattle.signalbox_words.specs.Commands.{frame_read, graph_read, is_given, json_read, line_read};
+ghost use Rattle.signalbox_words.specs.Commands.{listed, mark_read, names_read, picture_read, rehearsal_with};
+ghost use Rattle.signalbox_words.specs.Commands.{rehearse_read, sheet_read, shown, states_read, table_read, two_names};
 ghost use Rattle.signalbox_words.specs.Commands.{walk_with, work_read, working_with};
 
 use crate::table::program;
@@ -14,6 +15,38 @@ use clap::error::ErrorKind;
 use clap::{ArgMatches, Error};
 use rail_text::NoMemory;
 use std::alloc::Global;
+
+/// The words of `mark`.
+#[derive(Clone, Copy, Debug)]
+pub struct MarkWords<'a> {
+    pub plan: &'a str,
+    /// What `run` printed, or its journal.
+    pub output: &'a str,
+    /// The name of the box, if only what it did is marked.
+    pub box_name: Option<&'a str>,
+    /// The time within which an answer is to come, as it was written.
+    pub within: Option<&'a str>,
+}
+
+/// The words of `sheet`.
+#[derive(Clone, Copy, Debug)]
+pub struct SheetWords<'a> {
+    pub plan: &'a str,
+    /// What `run` printed, or its journal.
+    pub output: &'a str,
+    /// The name of the box, if only its sheets are printed.
+    pub box_name: Option<&'a str>,
+}
+
+/// The words of `picture`.
+#[derive(Clone, Copy, Debug)]
+pub struct PictureWords<'a> {
+    pub plan: &'a str,
+    /// What `run` printed, or its journal.
+    pub output: &'a str,
+    /// The number of the entry, as it was written; the last if it isn't given.
+    pub number: Option<&'a str>,
+}
 
 /// A command of `signalbox`, with the names of its texts.
 #[derive(Debug, Drop)]
@@ -75,14 +108,28 @@ pub enum SignalboxCommand<'a> {
         reach: Vec<&'a str>,
     },
     /// `mark [--within M] PLAN OUTPUT [BOX]`: it is named what an instructor would mark in a journal.
-    Mark {
+    Mark(MarkWords<'a>),
+    /// `sheet PLAN OUTPUT [BOX]`: the train register of each box is printed as a sheet.
+    Sheet(SheetWords<'a>),
+    /// `picture PLAN OUTPUT [ENTRY]`: the line is drawn as it stands after an entry.
+    Picture(PictureWords<'a>),
+    /// `table PLAN BOX`: the locking table of a box is printed, a line for each lever.
+    Table {
+        plan: &'a str,
+        /// The name of the box.
+        box_name: &'a str,
+    },
+    /// `rows FILE`: the rows of a locking table are printed for a plan.
+    Rows {
+        file: &'a str,
+    },
+    /// `json [--csv] PLAN OUTPUT`: a journal is printed for other programs.
+    Json {
+        /// It is CSV.
+        csv: bool,
         plan: &'a str,
         /// What `run` printed, or its journal.
         output: &'a str,
-        /// The name of the box, if only what it did is marked.
-        box_name: Option<&'a str>,
-        /// The time within which an answer is to come, as it was written.
-        within: Option<&'a str>,
     },
 }
 
@@ -313,12 +360,67 @@ fn read_mark<'a>(found: &ArgMatches<'a>) -> Option<SignalboxCommand<'a>>
     let (plan, output) = read_two(found, "output")?;
     let box_name = found.get_str("box");
     let within = found.get_str("within");
-    Some(SignalboxCommand::Mark {
+    Some(SignalboxCommand::Mark(MarkWords {
         plan,
         output,
         box_name,
         within,
-    })
+    }))
+}
+
+// The plan, the journal and the box of `sheet`.
+#[tactic(auto, using(crate::proofs::MatchRules::match_rules))]
+fn read_sheet<'a>(found: &ArgMatches<'a>) -> Option<SignalboxCommand<'a>>
+    ensures { option_map shown result ≡ sheet_read (rows_of (found_of found.now)) }
+{
+    let (plan, output) = read_two(found, "output")?;
+    let box_name = found.get_str("box");
+    Some(SignalboxCommand::Sheet(SheetWords {
+        plan,
+        output,
+        box_name,
+    }))
+}
+
+// The plan, the journal and the entry of `picture`.
+#[tactic(auto, using(crate::proofs::MatchRules::match_rules))]
+fn read_picture<'a>(found: &ArgMatches<'a>) -> Option<SignalboxCommand<'a>>
+    ensures { option_map shown result ≡ picture_read (rows_of (found_of found.now)) }
+{
+    let (plan, output) = read_two(found, "output")?;
+    let number = found.get_str("entry");
+    Some(SignalboxCommand::Picture(PictureWords {
+        plan,
+        output,
+        number,
+    }))
+}
+
+// The plan and the box of `table`.
+fn read_table<'a>(found: &ArgMatches<'a>) -> Option<SignalboxCommand<'a>>
+    ensures { option_map shown result ≡ table_read (rows_of (found_of found.now)) }
+{
+    let (plan, box_name) = read_two(found, "box")?;
+    Some(SignalboxCommand::Table { plan, box_name })
+}
+
+// The file of `rows`.
+#[tactic(auto, using(crate::proofs::MatchRules::match_rules))]
+fn read_rows<'a>(found: &ArgMatches<'a>) -> Option<SignalboxCommand<'a>>
+    ensures { option_map shown result
+        ≡ option_map Command.Rows (first_of (codes "file") (rows_of (found_of found.now))) }
+{
+    let file = found.get_str("file")?;
+    Some(SignalboxCommand::Rows { file })
+}
+
+// The plan and the journal of `json`.
+fn read_json<'a>(found: &ArgMatches<'a>) -> Option<SignalboxCommand<'a>>
+    ensures { option_map shown result ≡ json_read (rows_of (found_of found.now)) }
+{
+    let (plan, output) = read_two(found, "output")?;
+    let csv = has_flag(found, "csv");
+    Some(SignalboxCommand::Json { csv, plan, output })
 }
 
 // A command, by its name and what clap found.
@@ -338,6 +440,11 @@ fn read_command<'a>(
         "graph" => Ok(read_graph(found)),
         "states" => read_states(alloc, found),
         "mark" => Ok(read_mark(found)),
+        "sheet" => Ok(read_sheet(found)),
+        "picture" => Ok(read_picture(found)),
+        "table" => Ok(read_table(found)),
+        "rows" => Ok(read_rows(found)),
+        "json" => Ok(read_json(found)),
         _ => Ok(None),
     }
 }

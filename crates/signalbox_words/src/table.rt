@@ -5,13 +5,15 @@ ghost use Rattle.clap.specs.Words.{app_of, rule_of};
 ghost use Rattle.clap.specs.declared.builder.command.Command.TheViews.{out-Command};
 ghost use Rattle.signalbox_words.specs.Table.{bare_program, box_form, files_form, flag, flags_form};
 ghost use Rattle.signalbox_words.specs.Table.{frame_command, frame_program, graph_command, hint_form};
-ghost use Rattle.signalbox_words.specs.Table.{journal_form, limit_form, line_form, line_program};
-ghost use Rattle.signalbox_words.specs.Table.{list_option, mark_command, marked_box_form, marked_form, never_form};
-ghost use Rattle.signalbox_words.specs.Table.{optional_argument, picture_program, plain_form, plan_form};
-ghost use Rattle.signalbox_words.specs.Table.{planned_form, program, rehearse_command, repeated_argument};
-ghost use Rattle.signalbox_words.specs.Table.{required_argument, screen_form, states_command};
-ghost use Rattle.signalbox_words.specs.Table.{tidy_command, to_refusal_form, value_option, walked_form};
-ghost use Rattle.signalbox_words.specs.Table.{work_command};
+ghost use Rattle.signalbox_words.specs.Table.{journal_form, json_command, json_form, limit_form, line_form};
+ghost use Rattle.signalbox_words.specs.Table.{line_program, list_option, listed_program, mark_command};
+ghost use Rattle.signalbox_words.specs.Table.{marked_box_form, marked_form, never_form, optional_argument};
+ghost use Rattle.signalbox_words.specs.Table.{picture_command, picture_form, picture_program, plain_form};
+ghost use Rattle.signalbox_words.specs.Table.{plan_form, planned_form, program, register_program};
+ghost use Rattle.signalbox_words.specs.Table.{rehearse_command, repeated_argument, required_argument};
+ghost use Rattle.signalbox_words.specs.Table.{rows_command, screen_form, sheet_command, sheet_form};
+ghost use Rattle.signalbox_words.specs.Table.{states_command, table_command, table_program, tidy_command};
+ghost use Rattle.signalbox_words.specs.Table.{to_refusal_form, value_option, walked_form, work_command};
 
 use clap::{Arg, ArgAction, Command};
 use std::alloc::{AllocError, Global};
@@ -121,6 +123,50 @@ is 1 where there is something to mark.
 const MARKED_BOX_HELP: &str = "The name of a box: only what it did is marked";
 
 const WITHIN_HELP: &str = "Marks what is answered later than M minutes, or seconds under version 2";
+
+const SHEET_ABOUT: &str =
+    "Prints the train register of each box as a sheet, a line for each train and way";
+
+const SHEET_AFTER: &str = "\
+A column for each time that a British register books, and remarks. Each entry of a box stands in one place.
+
+    signalbox sheet valley.plan day.journal Oak";
+
+const SHEET_BOX_HELP: &str = "The name of a box: only its sheets are printed";
+
+const PICTURE_ABOUT: &str = "Draws the line as it stands after an entry of a journal, as SVG";
+
+const PICTURE_AFTER: &str = "\
+Each box with its places, signals, levers and trains, and between the boxes the instruments, the bells and the trains
+on the plain line.
+
+    signalbox picture valley.plan day.journal 14 > line.svg";
+
+const ENTRY_HELP: &str =
+    "The number of the entry after which the line is drawn, the last if it isn't given";
+
+const TABLE_ABOUT: &str = "Prints the locking table of a box, a line for each lever";
+
+const TABLE_AFTER: &str = "\
+What each lever is released by and what it locks, what it works, and the converse of each row at the other lever.
+
+    signalbox table valley.plan Oak";
+
+const ROWS_ABOUT: &str = "Prints the rows of a locking table for a plan";
+
+const ROWS_AFTER: &str = "\
+It reads the table back that `table` prints, or one that is written by hand, such as
+
+    2: rel 7 20; locks 8 10; both 4; locks 5 when 6 r";
+
+const JSON_ABOUT: &str = "Prints a journal for other programs, a JSON object for each entry";
+
+const JSON_AFTER: &str = "\
+The objects are told in docs/EMBEDDING.md.
+
+    signalbox json --csv valley.plan day.journal > day.csv";
+
+const CSV_HELP: &str = "Prints CSV, with a head line";
 
 // An argument that is required.
 fn required_argument<'a>(alloc: Global, id: &'a str, name: &'a str, help: &'a str) -> Arg<'a>
@@ -386,6 +432,98 @@ fn mark_command<'a>(alloc: Global) -> Result<Command<'a>, AllocError>
     marked_box_form(alloc)?.arg(value_option(alloc, "within", "M", WITHIN_HELP))
 }
 
+// `sheet PLAN OUTPUT`
+fn sheet_form<'a>(alloc: Global) -> Result<Command<'a>, AllocError>
+    ensures shape { IfOk result (λ c. app_of c ≡ sheet_form) }
+    ensures own { IfOk result (λ c. (out-Command c).has_globals ≡ false) }
+{
+    planned_form(alloc, "sheet", SHEET_ABOUT, SHEET_AFTER)?.arg(required_argument(
+        alloc,
+        "output",
+        "OUTPUT",
+        OUTPUT_HELP,
+    ))
+}
+
+// `sheet PLAN OUTPUT [BOX]`
+fn sheet_command<'a>(alloc: Global) -> Result<Command<'a>, AllocError>
+    ensures shape { IfOk result (λ c. app_of c ≡ sheet_command) }
+    ensures own { IfOk result (λ c. (out-Command c).has_globals ≡ false) }
+{
+    sheet_form(alloc)?.arg(optional_argument(alloc, "box", "BOX", SHEET_BOX_HELP))
+}
+
+// `picture PLAN OUTPUT`
+fn picture_form<'a>(alloc: Global) -> Result<Command<'a>, AllocError>
+    ensures shape { IfOk result (λ c. app_of c ≡ picture_form) }
+    ensures own { IfOk result (λ c. (out-Command c).has_globals ≡ false) }
+{
+    planned_form(alloc, "picture", PICTURE_ABOUT, PICTURE_AFTER)?.arg(required_argument(
+        alloc,
+        "output",
+        "OUTPUT",
+        OUTPUT_HELP,
+    ))
+}
+
+// `picture PLAN OUTPUT [ENTRY]`
+fn picture_command<'a>(alloc: Global) -> Result<Command<'a>, AllocError>
+    ensures shape { IfOk result (λ c. app_of c ≡ picture_command) }
+    ensures own { IfOk result (λ c. (out-Command c).has_globals ≡ false) }
+{
+    picture_form(alloc)?.arg(optional_argument(alloc, "entry", "ENTRY", ENTRY_HELP))
+}
+
+// `table PLAN BOX`
+fn table_command<'a>(alloc: Global) -> Result<Command<'a>, AllocError>
+    ensures shape { IfOk result (λ c. app_of c ≡ table_command) }
+    ensures own { IfOk result (λ c. (out-Command c).has_globals ≡ false) }
+{
+    planned_form(alloc, "table", TABLE_ABOUT, TABLE_AFTER)?.arg(required_argument(
+        alloc,
+        "box",
+        "BOX",
+        DRAWN_BOX_HELP,
+    ))
+}
+
+// `rows FILE`
+fn rows_command<'a>(alloc: Global) -> Result<Command<'a>, AllocError>
+    ensures shape { IfOk result (λ c. app_of c ≡ rows_command) }
+    ensures own { IfOk result (λ c. (out-Command c).has_globals ≡ false) }
+{
+    Command::new(alloc, "rows")
+        .about(ROWS_ABOUT)
+        .after_help(ROWS_AFTER)
+        .arg(required_argument(
+            alloc,
+            "file",
+            "FILE",
+            "A locking table, a line for each lever",
+        ))
+}
+
+// `json PLAN OUTPUT`
+fn json_form<'a>(alloc: Global) -> Result<Command<'a>, AllocError>
+    ensures shape { IfOk result (λ c. app_of c ≡ json_form) }
+    ensures own { IfOk result (λ c. (out-Command c).has_globals ≡ false) }
+{
+    planned_form(alloc, "json", JSON_ABOUT, JSON_AFTER)?.arg(required_argument(
+        alloc,
+        "output",
+        "OUTPUT",
+        OUTPUT_HELP,
+    ))
+}
+
+// `json [--csv] PLAN OUTPUT`
+fn json_command<'a>(alloc: Global) -> Result<Command<'a>, AllocError>
+    ensures shape { IfOk result (λ c. app_of c ≡ json_command) }
+    ensures own { IfOk result (λ c. (out-Command c).has_globals ≡ false) }
+{
+    json_form(alloc)?.arg(flag(alloc, "csv", CSV_HELP))
+}
+
 // `tidy FILE`
 fn tidy_command<'a>(alloc: Global) -> Result<Command<'a>, AllocError>
     ensures shape { IfOk result (λ c. app_of c ≡ tidy_command) }
@@ -429,12 +567,40 @@ fn picture_program<'a>(alloc: Global) -> Result<Command<'a>, AllocError>
     line_program(alloc)?.subcommand(frame)?.subcommand(graph)
 }
 
+// The same with those that draw a line, and print its registers.
+fn register_program<'a>(alloc: Global) -> Result<Command<'a>, AllocError>
+    ensures { IfOk result (λ c. app_of c ≡ register_program) }
+{
+    let picture = picture_command(alloc)?;
+    let sheet = sheet_command(alloc)?;
+    picture_program(alloc)?
+        .subcommand(picture)?
+        .subcommand(sheet)
+}
+
 // The same with the one that walks a frame.
 fn frame_program<'a>(alloc: Global) -> Result<Command<'a>, AllocError>
     ensures { IfOk result (λ c. app_of c ≡ frame_program) }
 {
     let states = states_command(alloc)?;
-    picture_program(alloc)?.subcommand(states)
+    register_program(alloc)?.subcommand(states)
+}
+
+// The same with those of locking tables.
+fn table_program<'a>(alloc: Global) -> Result<Command<'a>, AllocError>
+    ensures { IfOk result (λ c. app_of c ≡ table_program) }
+{
+    let table = table_command(alloc)?;
+    let rows = rows_command(alloc)?;
+    frame_program(alloc)?.subcommand(table)?.subcommand(rows)
+}
+
+// The same with the one for other programs.
+fn listed_program<'a>(alloc: Global) -> Result<Command<'a>, AllocError>
+    ensures { IfOk result (λ c. app_of c ≡ listed_program) }
+{
+    let json = json_command(alloc)?;
+    table_program(alloc)?.subcommand(json)
 }
 
 /// The program with all its commands.
@@ -443,5 +609,5 @@ pub(crate) fn program<'a>(alloc: Global) -> Result<Command<'a>, AllocError>
 {
     let mark = mark_command(alloc)?;
     let tidy = tidy_command(alloc)?;
-    frame_program(alloc)?.subcommand(mark)?.subcommand(tidy)
+    listed_program(alloc)?.subcommand(mark)?.subcommand(tidy)
 }
