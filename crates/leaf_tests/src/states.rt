@@ -52,15 +52,19 @@ reversed together: . they can be, x never, ? not found
               1
     1 2 3 4 9 2
   1 ?
-  2 ? .
+  2 x .
   3 ? . .
-  4 ? ? ? ?
-  9 ? ? ? ? ?
+  4 x ? ? ?
+  9 ? x ? x ?
  12 ? ? ? ? ? .
+levers 1 2 never, by rows 2
+levers 1 4 never, by rows 2 4
+levers 2 9 never, by rows 2 7
+levers 4 9 never, by rows 6 7
 reach 4
     no state that was walked has them reversed together
 never 1 4
-    no state that was walked has them reversed together
+    never, by rows 2 4
 ";
 
 const FROZEN: [&str; 4] = [
