@@ -1,19 +1,23 @@
 //! What is put when he goes off duty.
 
-ghost use Rattle.std.specs.Prelude.{◌≡◌, ◌<◌, ◌^◌, All, IfOk, IsTrue, OnOk, length, string_bytes, true};
-ghost use mathlib.Core.List.{IsPrefix};
+ghost use Rattle.std.specs.Prelude.{◌≡◌, ◌<◌, ◌^◌, ◌++◌, [], All, IfOk, IsTrue, OnOk, length, string_bytes, true};
+ghost use Rattle.std.specs.Prelude.{if◌then◌else◌};
+ghost use Rattle.std.specs.List.{flat_map};
 ghost use Rattle.script_text.specs.Entries.{IsSpelled};
 ghost use Rattle.line_law.specs.History.{part_of};
 ghost use Rattle.line_law.specs.Refusals.{is_refused};
 ghost use Rattle.hand_working.specs.Duties.{doings_of, journal_at, post_of};
-ghost use Rattle.hand_working.specs.Endings.{IsEnding, TellsRefusal, TellsRefusals};
+ghost use Rattle.hand_working.specs.Endings.{IsEnding, TellsRefusal, TellsRefusals, against_text, breach_text};
+ghost use Rattle.hand_working.specs.Endings.{his_breaches, his_marks, name_text, number_text};
+ghost use Rattle.reg_audit.specs.Rules.{rule_number};
 
 use crate::book::{book_of, journal_of, put_book};
 use crate::duty::Duty;
+use box_marking::{MarkedText, mark_text};
 use line_law::{Entry, is_refused};
 use line_plan::Plan;
 use rail_text::NoMemory;
-use reg_audit::{Breach, audit};
+use reg_audit::{Breach, Rule, audit};
 use reply_sentences::put_sentence;
 use script_text::{put_call, put_number};
 use std::alloc::{AllocError, Global};
@@ -53,51 +57,85 @@ fn put_refusals(out: &mut String, plan: &Plan, entries: &[Entry]) -> Result<(), 
     Ok(())
 }
 
-// Puts a breach behind a text, where it is his: the rule, and the call.
+// The number of a rule.
+fn number_of(rule: Rule) -> u64
+    ensures { result ≡ rule_number rule }
+{
+    u64::from(rule.number())
+}
+
+// Puts the number of a rule behind a text.
+#[tactic(auto, unfolding(crate::specs::Endings::number_text))]
+fn put_rule_number(out: &mut String, rule: Rule) -> Result<(), AllocError>
+    ensures { OnOk result (string_bytes out.new ≡ string_bytes out.old ++ number_text rule) }
+{
+    out.push_str("against rule ")?;
+    put_number(out, number_of(rule))
+}
+
+// Puts the name of a rule behind a text.
+#[tactic(auto, unfolding(crate::specs::Endings::name_text))]
+fn put_rule_name(out: &mut String, rule: Rule) -> Result<(), AllocError>
+    ensures { OnOk result (string_bytes out.new ≡ string_bytes out.old ++ name_text rule) }
+{
+    out.push_str(", ")?;
+    out.push_str(rule.name())?;
+    out.push_str(": ")
+}
+
+// Puts the line of a breach behind a text: the rule, and the call.
+#[tactic(auto, unfolding(crate::specs::Endings::against_text))]
+fn put_against(out: &mut String, plan: &Plan, entry: &Entry, rule: Rule) -> Result<(), AllocError>
+    requires { IsSpelled plan.now entry.now }
+    ensures { OnOk result (string_bytes out.new ≡ string_bytes out.old ++ against_text plan.now rule entry.now.call) }
+{
+    put_rule_number(out, rule)?;
+    put_rule_name(out, rule)?;
+    put_call(out, plan, entry.box_no, &entry.call)?;
+    out.push('\n')
+}
+
+// Puts the line of a breach behind a text, where it is his.
 fn put_breach(
     out: &mut String,
     plan: &Plan,
     box_no: u32,
     entries: &[Entry],
-    breach: Breach,
+    breach: &Breach,
 ) -> Result<(), AllocError>
     requires { All (IsSpelled plan.now) entries.now }
+    ensures { OnOk result (string_bytes out.new
+        ≡ string_bytes out.old ++ breach_text plan.now box_no entries.now breach.now) }
 {
-    let Some(entry) = entries.get((breach.entry as usize).saturating_sub(1)) else {
-        return Ok(());
-    };
-    if entry.box_no != box_no {
-        return Ok(());
+    match entries.get((breach.entry as usize).saturating_sub(1)) {
+        Some(entry) if entry.box_no == box_no => put_against(out, plan, entry, breach.rule),
+        _ => Ok(()),
     }
-    out.push_str("against rule ")?;
-    put_number(out, u64::from(breach.rule.number()))?;
-    out.push_str(", ")?;
-    out.push_str(breach.rule.name())?;
-    out.push_str(": ")?;
-    put_call(out, plan, entry.box_no, &entry.call)?;
-    out.push('\n')
 }
 
-// His ones of these breaches, a line each.
-fn breach_lines(
-    alloc: Global,
+// Puts his ones of these breaches behind a text, a line each.
+fn put_breaches(
+    out: &mut String,
     plan: &Plan,
     box_no: u32,
     entries: &[Entry],
     breaches: &[Breach],
-) -> Result<String, AllocError>
+) -> Result<(), AllocError>
     requires { All (IsSpelled plan.now) entries.now }
+    ensures { OnOk result (string_bytes out.new
+        ≡ string_bytes out.old ++ flat_map (breach_text plan.now box_no entries.now) breaches.now) }
 {
-    let mut lines = String::new(alloc);
     for breach in breaches {
-        put_breach(&mut lines, plan, box_no, entries, *breach)?;
+        put_breach(out, plan, box_no, entries, breach)?;
     }
-    Ok(lines)
+    Ok(())
 }
 
 // Puts behind a text where he worked against the nine rules.
+#[tactic(auto, unfolding(crate::specs::Endings::his_breaches))]
 fn put_audit(alloc: Global, duty: &Duty<'_>, out: &mut String) -> Result<(), NoMemory>
-    ensures { IfOk result (λ _. IsPrefix (string_bytes out.old) (string_bytes out.new)) }
+    ensures { IfOk result (λ _. string_bytes out.new
+        ≡ string_bytes out.old ++ his_breaches (post_of duty.now) (doings_of duty.now)) }
 {
     let session = duty.session();
     session.meets_conditions();
@@ -105,15 +143,43 @@ fn put_audit(alloc: Global, duty: &Duty<'_>, out: &mut String) -> Result<(), NoM
     let journal = journal_of(alloc, duty)?;
     let breaches = audit(alloc, session.plan(), &journal)?;
     drop(journal);
-    let lines = breach_lines(
-        alloc,
+    let put = put_breaches(
+        out,
         session.plan(),
         session.box_no(),
         session.journal(),
         &breaches,
-    )?;
+    );
     drop(breaches);
-    out.push_str(lines.as_str())?;
+    put?;
+    Ok(())
+}
+
+// Puts what is marked behind a text, if there is something.
+fn put_marked(out: &mut String, marked: &MarkedText) -> Result<(), AllocError>
+    ensures { OnOk result (string_bytes out.new
+        ≡ string_bytes out.old ++ (if marked.now.is_marked then string_bytes marked.now.text else [])) }
+{
+    if marked.is_marked {
+        out.push_str(marked.text.as_str())
+    } else {
+        Ok(())
+    }
+}
+
+// Puts behind a text what an instructor would mark of what he did, if there is something.
+#[tactic(auto, unfolding(crate::specs::Endings::his_marks))]
+fn put_marks(alloc: Global, duty: &Duty<'_>, out: &mut String) -> Result<(), NoMemory>
+    ensures { IfOk result (λ _. string_bytes out.new
+        ≡ string_bytes out.old ++ his_marks (post_of duty.now) (doings_of duty.now)) }
+{
+    let session = duty.session();
+    session.meets_conditions();
+    let (plan, box_no) = (session.plan(), session.box_no());
+    let marked = mark_text(alloc, plan, session.journal(), Some(box_no), None)?;
+    let put = put_marked(out, &marked);
+    drop(marked);
+    put?;
     Ok(())
 }
 
@@ -129,13 +195,14 @@ fn put_his_refusals(alloc: Global, duty: &Duty<'_>, out: &mut String) -> Result<
     Ok(())
 }
 
+/// How to see the rest.
 const MORE: &str = "\
 to keep the journal, which `box_main judge` finds legal: --journal FILE
 to keep your calls as a script: --script FILE
 ";
 
 /// What is put when he goes off duty: his register, his refused calls with their sentences, where he worked against the
-/// nine rules of good working, and how to see the rest.
+/// nine rules of good working, what an instructor would mark besides, and how to see the rest.
 pub(crate) fn ending(alloc: Global, duty: &Duty<'_>) -> Result<String, NoMemory>
     ensures { IfOk result (λ text. IsEnding (post_of duty.now) (doings_of duty.now) (string_bytes text)) }
 {
@@ -143,6 +210,7 @@ pub(crate) fn ending(alloc: Global, duty: &Duty<'_>) -> Result<String, NoMemory>
     put_book(alloc, duty, &mut out)?;
     put_his_refusals(alloc, duty, &mut out)?;
     put_audit(alloc, duty, &mut out)?;
+    put_marks(alloc, duty, &mut out)?;
     out.push_str(MORE)?;
     Ok(out)
 }
