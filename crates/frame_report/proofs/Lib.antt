@@ -2,3 +2,5 @@ pub mod ListLemmas
 pub mod FrameLemmas
 pub mod ReportLemmas
 pub mod FaultLemmas
+pub mod WayLemmas
+pub mod CircleLemmas

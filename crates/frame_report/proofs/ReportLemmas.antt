@@ -12,7 +12,9 @@ use Rattle.locking_table.specs.Sound.{RowFits}
 use Rattle.frame_findings.specs.declared.finding.Finding.TheVariants.{Open}
 use Rattle.frame_findings.specs.Findings.{IsFinding}
 use Rattle.row_refutations.proofs.Reached.{never_so}
-use Rattle.frame_report.specs.Report.{AreCoveringBefore, AreHoldingBefore, AreReasons, IsInPlace, finding_by, row_at}
+use Rattle.frame_report.specs.declared.report.LeverReport.{LeverReport}
+use Rattle.frame_report.specs.Report.{AreCoveringBefore, AreHoldingBefore, AreLeverReports, AreReasons, IsInPlace}
+use Rattle.frame_report.specs.Report.{IsLeverReport, finding_by, row_at}
 
 -- another row that holds as much, as the rows were read
 pub in_place_is : (w : Walked) (at other : ℕ) (does : Bool) (row others : Row) → row_at w.rows at ≡ row
@@ -64,3 +66,20 @@ pub open_report : (w : Walked) (levers rows : List ℕ) → All (RowFits w.lever
 open_report w levers [] fits left reasons = left
 open_report w levers (at ∷ places) fits left reasons = λ can.
     never_so w.rows w.levers levers (at ∷ places) can.state fits reasons can.reachable can.reversed
+
+-- what is found of one lever more
+pub levers_push : (w : Walked) (numbers : List ℕ) (levers : ℕ) (reports : List LeverReport) (report : LeverReport)
+    → AreLeverReports w numbers levers reports → IsLeverReport w numbers (levers + 1) report
+    → AreLeverReports w numbers (levers + 1) (reports ++ report ∷ [])
+levers_push w numbers levers reports report are one = record {
+  long = length_push reports report ∙ ap (λ (n : ℕ). n + 1) are.long;
+  each = λ k d lt. elim (cases_lt k (length reports)) [
+    | inl less ↦
+        subst (λ (r : LeverReport). IsLeverReport w numbers (k + 1) r)
+        (sym (get_or_append_left reports (report ∷ []) d k less)) (are.each k d less)
+    | inr late ↦
+        let last : k ≡ length reports = omega (arith, lt, late, length_push reports report) in
+        subst (λ (r : LeverReport). IsLeverReport w numbers (k + 1) r) (sym (get_or_push reports report d k (sym last)))
+        (subst (λ (n : ℕ). IsLeverReport w numbers (n + 1) report) (sym (last ∙ are.long)) one)
+  ];
+}

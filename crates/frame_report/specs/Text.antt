@@ -1,6 +1,8 @@
 -- The text of a report.
 use Rattle.std.specs.Prelude.{ℕ, ◌+◌, ◌-◌, ◌/◌, ◌%◌, List, [], ◌∷◌, ◌++◌, Bool, true, false, codes, decimal}
+use Rattle.std.specs.Prelude.{Option, Some, None}
 use Rattle.std.specs.Prelude.{if◌then◌else◌, length, nat_le, nat_lt, slice_index, slice_index_or}
+use Rattle.std.specs.Global.{Vec}
 use Rattle.std.specs.List.{flat_map, list_any}
 use Rattle.locking_table.specs.declared.places.End.{End}
 use Rattle.locking_table.specs.declared.places.End.TheVariants.{Normal, Reversed}
@@ -56,6 +58,10 @@ marked_text does marks at [] = []
 marked_text does marks at (row ∷ rows) =
     (if is_marked marks at then row_line does (at + 1) row else []) ++ marked_text does marks (at + 1) rows
 
+-- the numbers of rows, given by their places
+abbrev pub places_text : List ℕ → List ℕ
+places_text places = flat_map (λ at. codes " " ++ decimal (at + 1)) places
+
 -- ---- levers that can never be reversed
 
 -- the rows that hold a lever in every state
@@ -64,15 +70,34 @@ blame_text rows marks =
     if list_any (λ mark. mark) marks then marked_text (codes " holds it in every state: ") marks 0 rows
     else codes "    no row alone holds it in every state\n"
 
-unfoldable pub frozen_text : List Row → ℕ → List Bool → List ℕ
-frozen_text rows number marks =
+unfoldable pub round_text : List ℕ
+round_text = codes "    round the rows"
+
+-- the rows of the circle to which a chain leads from a lever, if to one
+unfoldable pub circle_line : List ℕ → List ℕ
+circle_line circle = round_text ++ places_text circle ++ codes "\n"
+
+abbrev pub circle_text : List ℕ → List ℕ
+circle_text [] = []
+circle_text (at ∷ circle) = circle_line (at ∷ circle)
+
+unfoldable pub frozen_text : List Row → ℕ → List Bool → List ℕ → List ℕ
+frozen_text rows number marks circle =
     codes "lever " ++ decimal number ++ codes " can never be reversed\n" ++ blame_text rows marks
+    ++ circle_text circle
 
 -- the lines of a lever, if it can never be reversed
-abbrev pub lever_text : List Row → ℕ → Finding → List Bool → List ℕ
-lever_text rows number (First at) marks = []
-lever_text rows number Never marks = frozen_text rows number marks
-lever_text rows number Open marks = []
+abbrev pub lever_text : List Row → LeverReport → Finding → List ℕ → List ℕ
+lever_text rows lever (First at) circle = []
+lever_text rows lever Never circle = frozen_text rows lever.number lever.holding.items circle
+lever_text rows lever Open circle = []
+
+-- the lines of all these levers, each with its circle
+abbrev pub frozens_text : List Row → List LeverReport → List (Vec ℕ) → List ℕ
+frozens_text rows [] circles = []
+frozens_text rows (lever ∷ levers) [] = []
+frozens_text rows (lever ∷ levers) (circle ∷ circles) =
+    lever_text rows lever lever.own circle.items ++ frozens_text rows levers circles
 
 -- ---- levers that can be reversed together
 
@@ -80,6 +105,11 @@ abbrev pub sign_text : Finding → List ℕ
 sign_text (First at) = codes " ."
 sign_text Never = codes " x"
 sign_text Open = codes " ?"
+
+-- the same, where a way was found beside the walk
+abbrev pub sign_with : Bool → Finding → List ℕ
+sign_with true finding = codes " ."
+sign_with false finding = sign_text finding
 
 -- the digit of a lever's number at a power of ten
 unfoldable pub digit_text : ℕ → ℕ → List ℕ
@@ -101,12 +131,8 @@ padded_text number =
 -- a lever's line of the triangle: each lever before it, and itself
 unfoldable pub triangle_line : LeverReport → List ℕ
 triangle_line lever =
-    padded_text lever.number ++ flat_map (λ pair. sign_text pair.finding) lever.others.items ++ sign_text lever.own
-    ++ codes "\n"
-
--- the numbers of rows, given by their places
-abbrev pub places_text : List ℕ → List ℕ
-places_text places = flat_map (λ at. codes " " ++ decimal (at + 1)) places
+    padded_text lever.number ++ flat_map (λ pair. sign_with pair.has_way pair.finding) lever.others.items
+    ++ sign_with lever.has_way lever.own ++ codes "\n"
 
 -- two levers that rows refute are ever reversed together
 unfoldable pub refuted_line : ℕ → ℕ → List ℕ → List ℕ
@@ -184,29 +210,42 @@ unfoldable pub open_text : List ℕ → List ℕ
 open_text [] = codes "    no state that was walked has them reversed together\n"
 open_text (at ∷ places) = codes "    never, by rows" ++ places_text (at ∷ places) ++ codes "\n"
 
-abbrev pub sequence_text : List ℕ → Sequence → List ℕ → List ℕ
-sequence_text numbers (sequence.Moves path) places = moves_text numbers (all_normal (length numbers)) path.items
-sequence_text numbers sequence.Never places = codes "    no sequence of pulls and puts reverses them together\n"
-sequence_text numbers sequence.Open places = open_text places
+unfoldable pub beside_text : List ℕ
+beside_text = codes "    found beside the walk; there may be a shorter sequence\n"
+
+-- a way that was found beside the walk
+unfoldable pub way_text : List ℕ → List ℕ → List ℕ
+way_text numbers path = beside_text ++ moves_text numbers (all_normal (length numbers)) path
+
+-- the same, or what is said where there is none
+abbrev pub way_or : List ℕ → Option (Vec ℕ) → List ℕ → List ℕ
+way_or numbers None places = open_text places
+way_or numbers (Some path) places = way_text numbers path.items
+
+abbrev pub sequence_text : List ℕ → Sequence → List ℕ → Option (Vec ℕ) → List ℕ
+sequence_text numbers (sequence.Moves path) places way = moves_text numbers (all_normal (length numbers)) path.items
+sequence_text numbers sequence.Never places way = codes "    no sequence of pulls and puts reverses them together\n"
+sequence_text numbers sequence.Open places way = way_or numbers way places
 
 abbrev pub numbers_text : List ℕ → List ℕ
 numbers_text numbers = flat_map (λ number. codes " " ++ decimal number) numbers
 
 -- what was asked of levers, if of any, and the answer
-unfoldable pub asked_text : List ℕ → List ℕ → List ℕ → Sequence → List ℕ → List ℕ
-asked_text asks numbers levers sequence places =
-    asks ++ numbers_text levers ++ codes "\n" ++ sequence_text numbers sequence places
+unfoldable pub asked_text : List ℕ → List ℕ → List ℕ → Sequence → List ℕ → Option (Vec ℕ) → List ℕ
+asked_text asks numbers levers sequence places way =
+    asks ++ numbers_text levers ++ codes "\n" ++ sequence_text numbers sequence places way
 
-abbrev pub answer_text : List ℕ → List ℕ → List ℕ → Sequence → List ℕ → List ℕ
-answer_text asks numbers [] sequence places = []
-answer_text asks numbers (lever ∷ levers) sequence places = asked_text asks numbers (lever ∷ levers) sequence places
+abbrev pub answer_text : List ℕ → List ℕ → List ℕ → Sequence → List ℕ → Option (Vec ℕ) → List ℕ
+answer_text asks numbers [] sequence places way = []
+answer_text asks numbers (lever ∷ levers) sequence places way =
+    asked_text asks numbers (lever ∷ levers) sequence places way
 
 -- ---- the whole
 
 -- what is said of the levers of a box
 unfoldable pub levers_text : List ℕ → List Row → StatesReport → List ℕ
 levers_text numbers rows report =
-    flat_map (λ lever. lever_text rows lever.number lever.own lever.holding.items) report.levers.items
+    frozens_text rows report.levers.items report.circles.items
     ++ together_text report.whole numbers report.levers.items
 
 -- what is said of its rows
@@ -217,8 +256,8 @@ rows_text rows report =
 -- the answers to what was asked
 unfoldable pub answers_text : List ℕ → StatesWanted → StatesReport → List ℕ
 answers_text numbers wanted report =
-    answer_text (codes "reach") numbers wanted.reach.items report.reach report.reach_rows.items
-    ++ answer_text (codes "never") numbers wanted.never.items report.never report.never_rows.items
+    answer_text (codes "reach") numbers wanted.reach.items report.reach report.reach_rows.items report.reach_way
+    ++ answer_text (codes "never") numbers wanted.never.items report.never report.never_rows.items report.never_way
 
 -- the text of a report on the frame of a box that has these levers and rows
 unfoldable pub states_text : List ℕ → List ℕ → List Row → StatesWanted → StatesReport → List ℕ

@@ -10,11 +10,12 @@ ghost use Rattle.frame_findings.specs.declared.finding.Finding.TheVariants.{Open
 ghost use Rattle.frame_report.specs.Report.{AreCovering, AreHolding, AreInPlace, AreLeverReports, AreReasons};
 ghost use Rattle.frame_report.specs.Report.{AreRowReports, IsPairReport, finding_by};
 ghost use Rattle.frame_report.specs.Report.{AreToBlame, AreTogether, IsInPlace, IsLeverReport};
-ghost use Rattle.frame_report.specs.Report.{IsRowReport};
+ghost use Rattle.frame_report.specs.Report.{IsRowReport, IsWayFound, IsWayThere};
 
 use crate::report::{LeverReport, PairReport, RowReport};
 use frame_findings::{Finding, Findings, holds_always};
 use frame_walk::Walk;
+use frame_ways::way_to;
 use locking_table::{NoMemory, Row};
 use row_findings::{RowUse, covers, row_uses};
 use row_refutations::refutation;
@@ -30,6 +31,51 @@ pub fn reasons_of(alloc: Global, walk: &Walk, levers: &[u32]) -> Result<Vec<u32>
     }
 }
 
+/// A way on which levers come to be reversed together, if one is found beside the walk.
+pub fn way_of(alloc: Global, walk: &Walk, levers: &[u32]) -> Result<Option<Vec<u32>>, NoMemory>
+    requires walked { IsWalked walk.now }
+    requires rows { All (RowFits walk.now.levers) walk.now.rows }
+    requires levers { All (IsLever walk.now.levers) levers.now }
+    ensures { IfOk result (IsWayThere walk.now levers.now) }
+{
+    way_to(alloc, walk.table(), walk.levers(), levers)
+}
+
+// Whether such a way is found.
+#[tactic(auto, using(crate::proofs::WayLemmas::way_found))]
+fn has_way(alloc: Global, walk: &Walk, levers: &[u32]) -> Result<bool, NoMemory>
+    requires walked { IsWalked walk.now }
+    requires rows { All (RowFits walk.now.levers) walk.now.rows }
+    requires levers { All (IsLever walk.now.levers) levers.now }
+    ensures { IfOk result (IsWayFound walk.now levers.now) }
+{
+    match way_of(alloc, walk, levers)? {
+        Some(path) => {
+            drop(path);
+            Ok(true)
+        }
+        None => Ok(false),
+    }
+}
+
+// Whether such a way is found, where no rows refute that there is one.
+fn has_way_beside(
+    alloc: Global,
+    walk: &Walk,
+    levers: &[u32],
+    rows: &[u32],
+) -> Result<bool, NoMemory>
+    requires walked { IsWalked walk.now }
+    requires rows { All (RowFits walk.now.levers) walk.now.rows }
+    requires levers { All (IsLever walk.now.levers) levers.now }
+    ensures { IfOk result (IsWayFound walk.now levers.now) }
+{
+    match rows {
+        [] => has_way(alloc, walk, levers),
+        [_, ..] => Ok(false),
+    }
+}
+
 // What is found where the walk left it open, by the rows that refute it.
 fn finding_by(rows: &[u32]) -> Finding
     ensures { result ≡ finding_by rows.now }
@@ -40,17 +86,24 @@ fn finding_by(rows: &[u32]) -> Finding
     }
 }
 
-// What is found of levers that are reversed together, where the walk left that open: rows may refute it.
+// What is found of levers that are reversed together, where the walk left that open: rows may refute it, or a way may
+// be found.
 #[tactic(auto, using(crate::proofs::ReportLemmas::open_report))]
 fn open_pair(alloc: Global, walk: &Walk, levers: &[u32]) -> Result<PairReport, NoMemory>
     requires walked { IsWalked walk.now }
     requires rows { All (RowFits walk.now.levers) walk.now.rows }
+    requires levers { All (IsLever walk.now.levers) levers.now }
     requires open { IsFinding walk.now levers.now Open }
     ensures { IfOk result (IsPairReport walk.now levers.now) }
 {
     let rows = reasons_of(alloc, walk, levers)?;
+    let has_way = has_way_beside(alloc, walk, levers, &rows)?;
     let finding = finding_by(&rows);
-    Ok(PairReport { finding, rows })
+    Ok(PairReport {
+        finding,
+        rows,
+        has_way,
+    })
 }
 
 // What is found of two levers.
@@ -73,10 +126,12 @@ fn pair_report(
         Finding::First(at) => Ok(PairReport {
             finding: Finding::First(at),
             rows: Vec::new(alloc),
+            has_way: false,
         }),
         Finding::Never => Ok(PairReport {
             finding: Finding::Never,
             rows: Vec::new(alloc),
+            has_way: false,
         }),
     }
 }
@@ -129,6 +184,19 @@ fn to_blame(alloc: Global, walk: &Walk, lever: u32, own: Finding) -> Result<Vec<
     }
 }
 
+// Whether a way is found on which a lever is reversed, where the walk left that open.
+fn own_way(alloc: Global, walk: &Walk, lever: u32, own: Finding) -> Result<bool, NoMemory>
+    requires walked { IsWalked walk.now }
+    requires rows { All (RowFits walk.now.levers) walk.now.rows }
+    requires lever { IsLever walk.now.levers lever }
+    ensures { IfOk result (IsWayFound walk.now (lever ∷ [])) }
+{
+    match own {
+        Finding::Open => has_way(alloc, walk, &[lever]),
+        Finding::First(_) | Finding::Never => Ok(false),
+    }
+}
+
 // What is found of a lever.
 fn lever_report(
     alloc: Global,
@@ -145,11 +213,13 @@ fn lever_report(
     ensures { IfOk result (IsLeverReport walk.now numbers.now lever) }
 {
     let own = findings.lever(lever);
+    let has_way = own_way(alloc, walk, lever, own)?;
     let others = others_of(alloc, walk, findings, lever)?;
     let holding = to_blame(alloc, walk, lever, own)?;
     Ok(LeverReport {
         number: numbers[lever as usize - 1],
         own,
+        has_way,
         others,
         holding,
     })

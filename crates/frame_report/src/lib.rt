@@ -3,6 +3,7 @@
 #![tactic(auto)]
 
 mod asked;
+mod circling;
 mod collecting;
 mod fault;
 mod frame;

@@ -3,12 +3,14 @@
 ghost use Rattle.std.specs.Prelude.{◌≡◌, ◌++◌, ◌-◌, ◌<◌, IfOk, OnOk, length, nat_le, slice_index, string_bytes};
 ghost use Rattle.std.specs.List.{flat_map, list_any};
 ghost use Rattle.locking_table.specs.Places.{end_at};
-ghost use Rattle.frame_walk.specs.States.{after_move};
-ghost use Rattle.frame_report.specs.Text.{answer_text, answers_text, blame_text, caveat_text, count_text};
+ghost use Rattle.frame_walk.specs.States.{after_move, all_normal};
+ghost use Rattle.frame_report.specs.Text.{answer_text, answers_text, blame_text, caveat_text, circle_text};
+ghost use Rattle.frame_report.specs.Text.{circle_line, count_text, frozens_text, round_text};
 ghost use Rattle.frame_report.specs.Text.{digit_text, digits_text, levers_text, no_proof_text, rows_text};
 ghost use Rattle.frame_report.specs.Text.{frozen_text, head_text, is_marked, is_redundant, lever_text, marked_text};
 ghost use Rattle.frame_report.specs.Text.{move_text, moves_text, numbers_text, padded_text, redundancy_text};
 ghost use Rattle.frame_report.specs.Text.{redundant_text, redundants_text, row_line, sequence_text, sign_text};
+ghost use Rattle.frame_report.specs.Text.{beside_text, sign_with, way_or, way_text};
 ghost use Rattle.frame_report.specs.Text.{open_text, pair_text, pairs_text, places_text, refuted_line};
 ghost use Rattle.frame_report.specs.Text.{refuted_text, signs_text, states_text, together_text, triangle_line};
 
@@ -94,6 +96,17 @@ fn put_marked(out: &mut String, does: &str, marks: &[bool], rows: &[Row]) -> Res
     Ok(())
 }
 
+// The numbers of rows, given by their places.
+fn put_places(out: &mut String, places: &[u32]) -> Result<(), AllocError>
+    ensures { OnOk result (string_bytes out.new ≡ string_bytes out.old ++ places_text places.now) }
+{
+    for at in places {
+        let number = u64::from(*at) + 1;
+        write!(out, " {number}")?;
+    }
+    Ok(())
+}
+
 // ---- levers that can never be reversed
 
 // Whether any row is marked.
@@ -115,33 +128,78 @@ fn put_blame(out: &mut String, rows: &[Row], marks: &[bool]) -> Result<(), Alloc
     }
 }
 
+#[tactic(auto, unfolding(crate::specs::Text::round_text))]
+fn round() -> &'static str
+    ensures { result.now ≡ round_text }
+{
+    "    round the rows"
+}
+
+// The line of a circle of rows.
+#[tactic(auto, unfolding(crate::specs::Text::circle_line))]
+fn put_circle_line(out: &mut String, circle: &[u32]) -> Result<(), AllocError>
+    ensures { OnOk result (string_bytes out.new ≡ string_bytes out.old ++ circle_line circle.now) }
+{
+    out.push_str(round())?;
+    put_places(out, circle)?;
+    out.push_str("\n")
+}
+
+// The same where there is one.
+fn put_circle(out: &mut String, circle: &[u32]) -> Result<(), AllocError>
+    ensures { OnOk result (string_bytes out.new ≡ string_bytes out.old ++ circle_text circle.now) }
+{
+    match circle {
+        [] => Ok(()),
+        [_, ..] => put_circle_line(out, circle),
+    }
+}
+
 #[tactic(auto, unfolding(crate::specs::Text::frozen_text))]
-fn put_frozen(out: &mut String, rows: &[Row], number: u32, marks: &[bool]) -> Result<(), AllocError>
-    ensures { OnOk result
-        (string_bytes out.new ≡ string_bytes out.old ++ frozen_text rows.now number marks.now) }
+fn put_frozen(
+    out: &mut String,
+    rows: &[Row],
+    number: u32,
+    marks: &[bool],
+    circle: &[u32],
+) -> Result<(), AllocError>
+    ensures { OnOk result (string_bytes out.new
+        ≡ string_bytes out.old ++ frozen_text rows.now number marks.now circle.now) }
 {
     write!(out, "lever {number} can never be reversed\n")?;
-    put_blame(out, rows, marks)
+    put_blame(out, rows, marks)?;
+    put_circle(out, circle)
 }
 
 // The lines of a lever, if it can never be reversed.
-fn put_lever(out: &mut String, rows: &[Row], lever: &LeverReport) -> Result<(), AllocError>
-    ensures { OnOk result (string_bytes out.new ≡ string_bytes out.old
-        ++ lever_text rows.now lever.now.number lever.now.own lever.now.holding.items) }
+fn put_lever(
+    out: &mut String,
+    rows: &[Row],
+    lever: &LeverReport,
+    circle: &[u32],
+) -> Result<(), AllocError>
+    ensures { OnOk result (string_bytes out.new
+        ≡ string_bytes out.old ++ lever_text rows.now lever.now lever.now.own circle.now) }
 {
     match lever.own {
         Finding::First(_) => Ok(()),
-        Finding::Never => put_frozen(out, rows, lever.number, &lever.holding),
+        Finding::Never => put_frozen(out, rows, lever.number, &lever.holding, circle),
         Finding::Open => Ok(()),
     }
 }
 
-fn put_levers(out: &mut String, rows: &[Row], levers: &[LeverReport]) -> Result<(), AllocError>
-    ensures { OnOk result (string_bytes out.new ≡ string_bytes out.old
-        ++ flat_map (λ lever. lever_text rows.now lever.number lever.own lever.holding.items) levers.now) }
+fn put_levers(
+    out: &mut String,
+    rows: &[Row],
+    levers: &[LeverReport],
+    circles: &[Vec<u32>],
+) -> Result<(), AllocError>
+    requires { length circles.now ≡ length levers.now }
+    ensures { OnOk result (string_bytes out.new
+        ≡ string_bytes out.old ++ frozens_text rows.now levers.now circles.now) }
 {
-    for lever in levers {
-        put_lever(out, rows, lever)?;
+    for (i, lever) in levers.iter().enumerate() {
+        put_lever(out, rows, lever, &circles[i])?;
     }
     Ok(())
 }
@@ -158,12 +216,19 @@ fn sign_text(finding: Finding) -> &'static str
     }
 }
 
+// The same, where a way was found beside the walk.
+fn sign_with(has_way: bool, finding: Finding) -> &'static str
+    ensures { result.now ≡ sign_with has_way finding }
+{
+    if has_way { " ." } else { sign_text(finding) }
+}
+
 fn put_signs(out: &mut String, pairs: &[PairReport]) -> Result<(), AllocError>
     ensures { OnOk result (string_bytes out.new
-        ≡ string_bytes out.old ++ flat_map (λ pair. sign_text pair.finding) pairs.now) }
+        ≡ string_bytes out.old ++ flat_map (λ pair. sign_with pair.has_way pair.finding) pairs.now) }
 {
     for pair in pairs {
-        out.push_str(sign_text(pair.finding))?;
+        out.push_str(sign_with(pair.has_way, pair.finding))?;
     }
     Ok(())
 }
@@ -235,7 +300,7 @@ fn put_triangle_line(out: &mut String, lever: &LeverReport) -> Result<(), AllocE
 {
     put_padded(out, lever.number)?;
     put_signs(out, &lever.others)?;
-    out.push_str(sign_text(lever.own))?;
+    out.push_str(sign_with(lever.has_way, lever.own))?;
     out.push_str("\n")
 }
 
@@ -244,17 +309,6 @@ fn put_triangle(out: &mut String, levers: &[LeverReport]) -> Result<(), AllocErr
 {
     for lever in levers {
         put_triangle_line(out, lever)?;
-    }
-    Ok(())
-}
-
-// The numbers of rows, given by their places.
-fn put_places(out: &mut String, places: &[u32]) -> Result<(), AllocError>
-    ensures { OnOk result (string_bytes out.new ≡ string_bytes out.old ++ places_text places.now) }
-{
-    for at in places {
-        let number = u64::from(*at) + 1;
-        write!(out, " {number}")?;
     }
     Ok(())
 }
@@ -483,25 +537,69 @@ fn put_open(out: &mut String, places: &[u32]) -> Result<(), AllocError>
     }
 }
 
+// The lines of moves from all levers normal on.
+fn put_path(
+    out: &mut String,
+    alloc: Global,
+    numbers: &[u32],
+    path: &[u32],
+) -> Result<(), AllocError>
+    ensures { OnOk result (string_bytes out.new ≡ string_bytes out.old
+        ++ moves_text numbers.now (all_normal (length numbers.now)) path.now) }
+{
+    let mut ends = vec![in alloc; End::Normal; numbers.len()]?;
+    put_moves(out, numbers, &mut ends, path)
+}
+
+#[tactic(auto, unfolding(crate::specs::Text::beside_text))]
+fn beside() -> &'static str
+    ensures { result.now ≡ beside_text }
+{
+    "    found beside the walk; there may be a shorter sequence\n"
+}
+
+// A way that was found beside the walk.
+#[tactic(auto, unfolding(crate::specs::Text::way_text))]
+fn put_way(out: &mut String, alloc: Global, numbers: &[u32], path: &[u32]) -> Result<(), AllocError>
+    ensures { OnOk result (string_bytes out.new ≡ string_bytes out.old ++ way_text numbers.now path.now) }
+{
+    out.push_str(beside())?;
+    put_path(out, alloc, numbers, path)
+}
+
+// The same, or what is said where there is none.
+fn put_way_or(
+    out: &mut String,
+    alloc: Global,
+    numbers: &[u32],
+    way: &Option<Vec<u32>>,
+    places: &[u32],
+) -> Result<(), AllocError>
+    ensures { OnOk result (string_bytes out.new ≡ string_bytes out.old ++ way_or numbers.now way.now places.now) }
+{
+    match way {
+        Some(path) => put_way(out, alloc, numbers, path),
+        None => put_open(out, places),
+    }
+}
+
 fn put_sequence(
     out: &mut String,
     alloc: Global,
     numbers: &[u32],
     sequence: &Sequence,
     places: &[u32],
+    way: &Option<Vec<u32>>,
 ) -> Result<(), AllocError>
     ensures { OnOk result (string_bytes out.new
-        ≡ string_bytes out.old ++ sequence_text numbers.now sequence.now places.now) }
+        ≡ string_bytes out.old ++ sequence_text numbers.now sequence.now places.now way.now) }
 {
     match sequence {
-        Sequence::Moves(path) => {
-            let mut ends = vec![in alloc; End::Normal; numbers.len()]?;
-            put_moves(out, numbers, &mut ends, path)
-        }
+        Sequence::Moves(path) => put_path(out, alloc, numbers, path),
         Sequence::Never => {
             out.push_str("    no sequence of pulls and puts reverses them together\n")
         }
-        Sequence::Open => put_open(out, places),
+        Sequence::Open => put_way_or(out, alloc, numbers, way, places),
     }
 }
 
@@ -524,9 +622,10 @@ fn put_answer(
     levers: &[u32],
     sequence: &Sequence,
     places: &[u32],
+    way: &Option<Vec<u32>>,
 ) -> Result<(), AllocError>
     ensures { OnOk result (string_bytes out.new ≡ string_bytes out.old
-        ++ answer_text asks.now numbers.now levers.now sequence.now places.now) }
+        ++ answer_text asks.now numbers.now levers.now sequence.now places.now way.now) }
 {
     match levers {
         [] => Ok(()),
@@ -534,7 +633,7 @@ fn put_answer(
             out.push_str(asks)?;
             put_numbers(out, levers)?;
             out.push_str("\n")?;
-            put_sequence(out, alloc, numbers, sequence, places)
+            put_sequence(out, alloc, numbers, sequence, places, way)
         }
     }
 }
@@ -549,11 +648,12 @@ fn put_levers_part(
     rows: &[Row],
     report: &StatesReport,
 ) -> Result<(), AllocError>
+    requires { length report.now.circles.items ≡ length report.now.levers.items }
     ensures { OnOk result
         (string_bytes out.new ≡ string_bytes out.old ++ levers_text numbers.now rows.now report.now) }
 {
     let levers = report.levers.as_slice();
-    put_levers(out, rows, levers)?;
+    put_levers(out, rows, levers, &report.circles)?;
     put_together(out, report.whole, numbers, levers)
 }
 
@@ -583,8 +683,27 @@ fn put_answers(
     let reached = wanted.reach.as_slice();
     let never = wanted.never.as_slice();
     let (by, against) = (report.reach_rows.as_slice(), report.never_rows.as_slice());
-    put_answer(out, alloc, "reach", numbers, reached, &report.reach, by)?;
-    put_answer(out, alloc, "never", numbers, never, &report.never, against)
+    let (way, way_there) = (&report.reach_way, &report.never_way);
+    put_answer(
+        out,
+        alloc,
+        "reach",
+        numbers,
+        reached,
+        &report.reach,
+        by,
+        way,
+    )?;
+    put_answer(
+        out,
+        alloc,
+        "never",
+        numbers,
+        never,
+        &report.never,
+        against,
+        way_there,
+    )
 }
 
 #[tactic(auto, unfolding(crate::specs::Text::states_text))]
@@ -597,7 +716,8 @@ fn put_states(
     wanted: &StatesWanted,
     report: &StatesReport,
 ) -> Result<(), AllocError>
-    requires { length report.now.rows.items ≡ length rows.now }
+    requires rows { length report.now.rows.items ≡ length rows.now }
+    requires circles { length report.now.circles.items ≡ length report.now.levers.items }
     ensures { OnOk result (string_bytes out.new ≡ string_bytes out.old
         ++ states_text name.now numbers.now rows.now wanted.now report.now) }
 {
@@ -617,7 +737,8 @@ pub fn print_states(
     wanted: &StatesWanted,
     report: &StatesReport,
 ) -> Result<String, NoMemory>
-    requires { length report.now.rows.items ≡ length rows.now }
+    requires rows { length report.now.rows.items ≡ length rows.now }
+    requires circles { length report.now.circles.items ≡ length report.now.levers.items }
     ensures { IfOk result (λ text.
         string_bytes text ≡ states_text name.now numbers.now rows.now wanted.now report.now) }
 {

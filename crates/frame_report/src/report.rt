@@ -10,6 +10,8 @@ pub struct PairReport {
     pub finding: Finding,
     /// Where the walk left that open and rows refute it, these, by their places from 0.
     pub rows: Vec<u32>,
+    /// Whether a way was found beside the walk on which they are.
+    pub has_way: bool,
 }
 
 /// What is found of a lever.
@@ -19,6 +21,8 @@ pub struct LeverReport {
     pub number: u32,
     /// Whether it can be reversed.
     pub own: Finding,
+    /// Whether a way was found beside the walk on which it is.
+    pub has_way: bool,
     /// What is found of it and each lever before it.
     pub others: Vec<PairReport>,
     /// Where it never can be: for each row whether this row holds it in every state.
@@ -43,14 +47,21 @@ pub struct StatesReport {
     pub whole: bool,
     /// Each lever of the frame, in order.
     pub levers: Vec<LeverReport>,
+    /// For each lever the circle to which the first rows to blame lead from it, by the rows' places from 0; none where
+    /// they lead to none.
+    pub circles: Vec<Vec<u32>>,
     /// Each row, in table order.
     pub rows: Vec<RowReport>,
     /// How the levers that are to be reached come to be reversed together.
     pub reach: Sequence,
     /// Where the walk left that open and rows refute it, these, by their places from 0.
     pub reach_rows: Vec<u32>,
+    /// Where the walk left that open and no rows refute it, a way that was found beside the walk.
+    pub reach_way: Option<Vec<u32>>,
     /// How the levers that are never to be reversed together come to be so.
     pub never: Sequence,
     /// Where the walk left that open and rows refute it, these, by their places from 0.
     pub never_rows: Vec<u32>,
+    /// Where the walk left that open and no rows refute it, a way that was found beside the walk.
+    pub never_way: Option<Vec<u32>>,
 }

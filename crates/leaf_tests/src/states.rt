@@ -51,18 +51,21 @@ not all states were walked, and of those that are left nothing is said
 reversed together: . they can be, x never, ? not found
               1
     1 2 3 4 9 2
-  1 ?
+  1 .
   2 x .
-  3 ? . .
-  4 x ? ? ?
-  9 ? x ? x ?
- 12 ? ? ? ? ? .
+  3 . . .
+  4 x . . .
+  9 . x . x .
+ 12 . . . . . .
 levers 1 2 never, by rows 2
 levers 1 4 never, by rows 2 4
 levers 2 9 never, by rows 2 7
 levers 4 9 never, by rows 6 7
 reach 4
-    no state that was walked has them reversed together
+    found beside the walk; there may be a shorter sequence
+    pull 2
+    pull 3
+    pull 4
 never 1 4
     never, by rows 2 4
 ";
@@ -81,11 +84,14 @@ states that were walked: 1
 these are all that can be reached
 lever 1 can never be reversed
     row 1 holds it in every state: 1 released by 2
+    round the rows 1 2
 lever 2 can never be reversed
     row 2 holds it in every state: 2 released by 1
+    round the rows 2 1
 lever 3 can never be reversed
     row 3 holds it in every state: 3 released by 1
     row 4 holds it in every state: 3 released by 1
+    round the rows 1 2
 reversed together: . they can be, x never
     1 2 3
   1 x
