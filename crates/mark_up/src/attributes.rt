@@ -38,6 +38,9 @@ pub enum Name {
     Charset,
     Kind,
     Scope,
+    Span,
+    ColumnSpan,
+    RowSpan,
     Fill,
     Units,
 }
@@ -84,6 +87,9 @@ pub fn attribute_name(name: Name) -> &'static str
         Name::Charset => "charset",
         Name::Kind => "type",
         Name::Scope => "scope",
+        Name::Span => "span",
+        Name::ColumnSpan => "colspan",
+        Name::RowSpan => "rowspan",
         Name::Fill => "fill",
         Name::Units => "patternUnits",
     }

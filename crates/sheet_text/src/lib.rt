@@ -7,6 +7,6 @@ mod printing;
 mod rows;
 
 pub use cells::{hundred_hours, put_described, put_told_at};
-pub use headings::put_title;
+pub use headings::{put_beside, put_no_train, put_title};
 pub use printing::{is_wanted, sheet_text};
 pub use rows::{Row, rows_of};
