@@ -1,3 +1,4 @@
+mod Alone
 mod Stopped
 mod Onward
 mod NextText

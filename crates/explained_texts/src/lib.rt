@@ -2,6 +2,7 @@
 #![tactic(auto)]
 
 mod fetching;
+mod frames;
 mod gathering;
 mod journals;
 mod others;
@@ -10,6 +11,7 @@ mod shelf;
 mod trouble;
 
 pub use fetching::fetch_text;
+pub use frames::fetch_frame;
 pub use gathering::{RunTexts, fetch_run};
 pub use journals::{JournalTexts, fetch_journal};
 pub use others::{OthersTexts, fetch_box, fetch_others, named_box};

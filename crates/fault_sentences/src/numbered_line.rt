@@ -190,11 +190,11 @@ impl<'a> Refused<'a> {
         from_last(self.above, b"box")
     }
 
-    /// The name of the box to which the refused line belongs.
+    /// The name of the box to which the refused line belongs; that of a frame alone, where no line `box` stands above.
     pub fn box_name(&self) -> &'a [u8] {
         match self.here().first() {
-            Some(line) => line.word(1),
-            None => &[],
+            Some(line) if line.has_keyword(b"box") => line.word(1),
+            _ => b"The frame",
         }
     }
 

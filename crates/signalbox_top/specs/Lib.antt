@@ -3,6 +3,7 @@ pub mod Told
 pub mod Rehearsing
 pub mod Hand
 pub mod Listing
+pub mod Frames
 pub mod Framing
 pub mod Graphing
 pub mod MarkedJournals

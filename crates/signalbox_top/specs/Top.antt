@@ -105,8 +105,8 @@ Headline held (Some (Command.Frame plan box_name)) status old new =
     (text : List ℕ) × IsFrameOf held plan box_name text × (new ≡ appended old text) × (status ≡ statuses.Done)
 Headline held (Some (Command.Graph plan output)) status old new =
     (text : List ℕ) × IsGraphOf held plan output text × (new ≡ appended old text) × (status ≡ statuses.Done)
-Headline held (Some (Command.Table plan box_name)) status old new =
-    (text : List ℕ) × IsTableOf held plan box_name text × (new ≡ appended old text) × (status ≡ statuses.Done)
+Headline held (Some (Command.Table html plan box_name)) status old new =
+    (text : List ℕ) × IsTableOf held html plan box_name text × (new ≡ appended old text) × (status ≡ statuses.Done)
 Headline held (Some (Command.Rows file)) status old new =
     IfSome (held file) (λ all. (lines : List ℕ) × AreRowsOf all lines × (new ≡ appended old lines))
     × (status ≡ statuses.Done)

@@ -1,16 +1,16 @@
 -- The states of a box's lever frame are walked.
-use Rattle.std.specs.Prelude.{◌≡◌, ℕ, List, [], ◌∷◌, Bool, true, false, Option, Some, None, Ok, bytes_eq, map}
+use Rattle.std.specs.Prelude.{◌≡◌, ℕ, List, [], ◌∷◌, Bool, true, false, Option, Some, None, Ok, map}
 use Rattle.std.specs.Prelude.{if◌then◌else◌}
-use Rattle.std.specs.List.{position}
 use Rattle.rail_text.specs.Words.{number_in}
-use Rattle.line_plan.specs.Plans.{PlanFields, box_at, names_of}
+use Rattle.line_plan.specs.Plans.{PlanFields, box_at}
 use Rattle.line_plan.specs.declared.frame.Kind.{Kind}
 use Rattle.line_plan.specs.declared.frame.Kind.TheVariants as kinds
 use Rattle.line_plan.specs.declared.frame.Lever.{Lever}
-use Rattle.text_fetch.specs.FromTexts.{Held, IsGiven, plan_told}
+use Rattle.text_fetch.specs.FromTexts.{Held}
 use Rattle.frame_report.specs.declared.asked.StatesWanted.{StatesWanted}
 use Rattle.frame_report.specs.States.{IsStatesText}
 use Rattle.signalbox_words.specs.Commands.{WalkWanted}
+use Rattle.signalbox_top.specs.Frames.{IsFrameMeant}
 
 -- a lever that works something
 abbrev pub is_working : Kind → Bool
@@ -38,13 +38,12 @@ pub record IsAsked (wanted : WalkWanted) (asked : StatesWanted) : Type 0 where
   pub never : AreLevers wanted.never asked.never.items
   pub reach : AreLevers wanted.reach asked.reach.items
 
--- What comes of `states`: the plan is the one that the shelf tells under its name, the box the first of that name; and
--- what is put is the report on a walk of the frame of its levers that work something, by its locking table.
+-- What comes of `states`: what is put is the report on a walk of the frame that is meant, of its levers that work
+-- something, by its locking table.
 pub record IsWalkedOf (held : Held) (wanted : WalkWanted) (text : List ℕ) : Type 0 where
   pub plan : PlanFields
   pub box_no : ℕ
-  pub plan_is : IsGiven plan (plan_told held wanted.plan)
-  pub box_is : position (bytes_eq wanted.box_name) (names_of plan.boxes) ≡ Some box_no
+  pub frame_is : IsFrameMeant held wanted.plan wanted.box_name plan box_no
   pub asked : StatesWanted
   pub asked_is : IsAsked wanted asked
   pub report : IsStatesText (box_at plan.boxes box_no).name (working_numbers (box_at plan.boxes box_no).levers)

@@ -3,6 +3,7 @@
 
 mod answering;
 mod files;
+mod frames;
 mod framing;
 mod graphing;
 mod hand;

@@ -1,8 +1,8 @@
-//! `sheet PLAN OUTPUT [BOX]`: the train register of a journal is printed as sheets.
+//! `sheet [--html] PLAN OUTPUT [BOX]`: the train register of a journal is printed as sheets.
 
 ghost use Rattle.std.specs.Prelude.{◌≡◌, ◌≢◌, ℕ, List, IfOk, Some, string_bytes};
 ghost use Rattle.signalbox_words.specs.Commands.{Command, sheet_shown};
-ghost use Rattle.signalbox_top.specs.Sheeting.{AreSheetsIn, AreSheetsOf};
+ghost use Rattle.signalbox_top.specs.Sheeting.{AreSheets, AreSheetsIn, AreSheetsOf};
 ghost use Rattle.signalbox_top.specs.Top.{Headline, TakesFront};
 ghost use Rattle.signalbox_top.specs.Told.{TellsWhy};
 
@@ -12,10 +12,28 @@ use crate::status::Status;
 use explained_texts::{ReasonedShelf, Trouble, fetch_journal};
 use line_law::Entry;
 use line_plan::Plan;
-use rail_text::Sink;
+use rail_text::{NoMemory, Sink};
+use sheet_page::sheet_page;
 use sheet_text::sheet_text;
 use signalbox_words::SheetWords;
 use std::alloc::Global;
+
+// The sheets of a journal, as a page or as a text.
+fn sheets_as(
+    alloc: Global,
+    html: bool,
+    plan: &Plan,
+    entries: &[Entry],
+    only: Option<u32>,
+) -> Result<String, NoMemory>
+    ensures { IfOk result (λ text. AreSheets html plan.now entries.now only (string_bytes text)) }
+{
+    if html {
+        sheet_page(alloc, plan, entries, only)
+    } else {
+        sheet_text(alloc, plan, entries, only)
+    }
+}
 
 // The sheets of a journal, of the box that is asked for or of all.
 fn sheets_in(
@@ -27,7 +45,7 @@ fn sheets_in(
     ensures { IfOk result (λ text. AreSheetsIn plan.now entries.now (sheet_shown wanted.now) (string_bytes text)) }
 {
     let only = box_asked(alloc, plan, wanted.box_name)?;
-    Ok(sheet_text(alloc, plan, entries, only)?)
+    Ok(sheets_as(alloc, wanted.html, plan, entries, only)?)
 }
 
 // The sheets of the journal of these names.

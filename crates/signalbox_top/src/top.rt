@@ -83,9 +83,11 @@ fn serve<S: ReasonedShelf, N: LineSource, W: Store, K: Sink, L: Sink>(
         SignalboxCommand::Mark(wanted) => serve_mark(alloc, &wanted, shelf, out, told),
         SignalboxCommand::Sheet(wanted) => serve_sheet(alloc, &wanted, shelf, out, told),
         SignalboxCommand::Picture(wanted) => serve_picture(alloc, &wanted, shelf, out, told),
-        SignalboxCommand::Table { plan, box_name } => {
-            serve_table(alloc, plan, box_name, shelf, out, told)
-        }
+        SignalboxCommand::Table {
+            html,
+            plan,
+            box_name,
+        } => serve_table(alloc, html, plan, box_name, shelf, out, told),
         SignalboxCommand::Rows { file } => serve_rows(alloc, file, shelf, out, told),
         SignalboxCommand::Rehearse {
             to_refusal,
@@ -147,6 +149,8 @@ fn serve<S: ReasonedShelf, N: LineSource, W: Store, K: Sink, L: Sink>(
 /// reversed together. `mark PLAN OUTPUT [BOX]` puts what an instructor would mark in a legal journal, and with
 /// `--within M` late answers too. `sheet PLAN OUTPUT [BOX]` puts the train register of a legal journal as sheets.
 /// `table PLAN BOX` puts the locking table of that box, and `rows FILE` the rows of such a text, as lines of a plan.
+/// With `--html` sheets and tables are one page for a browser. `states` and `table` take `frame-only FILE` in the place of
+/// `PLAN BOX`, a frame by itself.
 /// `--help`, `help COMMAND` and `--version` put what they ask for, as results.
 ///
 /// - `Done`: it is done, and nothing was found.

@@ -1,4 +1,4 @@
-//! `states PLAN BOX`: the states of the lever frame of a box are walked.
+//! `states PLAN BOX`: the states of the lever frame of a box are walked, or of one by itself.
 
 ghost use Rattle.std.specs.Prelude.{◌≡◌, ◌≢◌, ◌≤◌, ◌<◌, ℕ, List, IfOk, Ok, Some, length, map, option_map, string_bytes};
 ghost use Rattle.rail_text.specs.Words.{number_in};
@@ -13,8 +13,9 @@ ghost use Rattle.signalbox_top.specs.WalkedFrames.{working_numbers};
 ghost use Rattle.signalbox_top.specs.Walks.{wanted_shown};
 
 use crate::answering::{put_result, tell_trouble};
+use crate::frames::meant_frame;
 use crate::status::Status;
-use explained_texts::{ReasonedShelf, Trouble, fetch_box, trouble_with};
+use explained_texts::{ReasonedShelf, Trouble, trouble_with};
 use frame_report::{StatesFault, StatesWanted, states_report};
 use line_plan::{Kind, Lever, Plan};
 use rail_text::{NoMemory, Sink, number_in};
@@ -154,7 +155,7 @@ fn reported(
     }
 }
 
-// The report on the states of the frame of the box that is wanted. The words are read before the plan is fetched.
+// The report on the states of the frame that is meant. The words are read before the plan is fetched.
 fn walked<S: ReasonedShelf>(
     alloc: Global,
     wanted: &Wanted<'_>,
@@ -164,7 +165,7 @@ fn walked<S: ReasonedShelf>(
     ensures same { (n : List ℕ) → S.held shelf.new n ≡ S.held shelf.old n }
 {
     let asked = asked(alloc, wanted)?;
-    let (plan, box_no) = fetch_box(alloc, shelf, wanted.plan, wanted.box_name)?;
+    let (plan, box_no) = meant_frame(alloc, shelf, wanted.plan, wanted.box_name)?;
     let report = reported(alloc, &plan, box_no, &asked);
     drop(plan);
     report

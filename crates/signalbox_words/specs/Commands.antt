@@ -52,9 +52,10 @@ pub record WalkWanted : Type 0 where
   pub never : List (List ℕ)
   pub reach : List (List ℕ)
 
--- What is wanted of a register sheet: the names of the plan and of the journal, and that of the box, if only its sheets
--- are printed.
+-- What is wanted of a register sheet: whether it is a page for a browser; the names of the plan and of the journal, and
+-- that of the box, if only its sheets are printed.
 pub record SheetWanted : Type 0 where
+  pub html : Bool
   pub plan : List ℕ
   pub output : List ℕ
   pub box_name : Option (List ℕ)
@@ -70,9 +71,9 @@ pub record PictureWanted : Type 0 where
 -- one of its boxes is worked by hand; Frame: the lever frame of one of its boxes is drawn, a plan and a box by their
 -- names; Graph: the train graph of a journal is drawn, a plan and the journal by their names; States: the states
 -- of a lever frame are walked; Mark: a journal is marked; Sheet: the train register is printed as a sheet; Picture: the
--- line is drawn; Table: the locking table of a box is printed, a plan and a box by their names; Rows: the rows of a
--- locking table are printed for a plan; Json: a journal is printed for other programs, as CSV or not, a plan and the
--- journal by their names.
+-- line is drawn; Table: the locking table of a box is printed, as a page for a browser or not, a plan and a box by their
+-- names; Rows: the rows of a locking table are printed for a plan; Json: a journal is printed for other programs, as CSV
+-- or not, a plan and the journal by their names.
 pub data Command : Type 0 where
   Tidy : List ℕ → Command
   Rehearse : Rehearsing → Command
@@ -83,7 +84,7 @@ pub data Command : Type 0 where
   Mark : MarkWanted → Command
   Sheet : SheetWanted → Command
   Picture : PictureWanted → Command
-  Table : List ℕ → List ℕ → Command
+  Table : Bool → List ℕ → List ℕ → Command
   Rows : List ℕ → Command
   Json : Bool → List ℕ → List ℕ → Command
 
@@ -99,6 +100,7 @@ mark_shown given = record {
 -- the words of `sheet`, as their bytes
 abbrev pub sheet_shown : SheetWords → SheetWanted
 sheet_shown given = record {
+  html = given.html;
   plan = given.plan.now;
   output = given.output.now;
   box_name = option_map (λ name. name.now) given.box_name;
@@ -146,7 +148,7 @@ shown (commands.States plan box_name limit never reach) =
 shown (commands.Mark given) = Command.Mark (mark_shown given)
 shown (commands.Sheet given) = Command.Sheet (sheet_shown given)
 shown (commands.Picture given) = Command.Picture (picture_shown given)
-shown (commands.Table plan box_name) = Command.Table plan.now box_name.now
+shown (commands.Table html plan box_name) = Command.Table html plan.now box_name.now
 shown (commands.Rows file) = Command.Rows file.now
 shown (commands.Json csv plan output) = Command.Json csv plan.now output.now
 
@@ -270,12 +272,13 @@ mark_read rows =
 abbrev pub sheet_with : List Row → Text × Text → Command
 sheet_with rows names =
     Command.Sheet (record {
+      html = is_given (first_of (codes "html") rows);
       plan = names.0;
       output = names.1;
       box_name = first_of (codes "box") rows;
     })
 
--- `sheet PLAN OUTPUT [BOX]`
+-- `sheet [--html] PLAN OUTPUT [BOX]`
 abbrev pub sheet_read : List Row → Option Command
 sheet_read rows =
     option_map (sheet_with rows) (two_names (first_of (codes "plan") rows) (first_of (codes "output") rows))
@@ -294,10 +297,10 @@ abbrev pub picture_read : List Row → Option Command
 picture_read rows =
     option_map (picture_with rows) (two_names (first_of (codes "plan") rows) (first_of (codes "output") rows))
 
--- `table PLAN BOX`
+-- `table [--html] PLAN BOX`
 abbrev pub table_read : List Row → Option Command
 table_read rows =
-    option_map (λ names. Command.Table names.0 names.1)
+    option_map (λ names. Command.Table (is_given (first_of (codes "html") rows)) names.0 names.1)
     (two_names (first_of (codes "plan") rows) (first_of (codes "box") rows))
 
 -- `json [--csv] PLAN OUTPUT`

@@ -129,8 +129,12 @@ abbrev pub sheet_form : App
 sheet_form = with_rule (planned_form (codes "sheet")) (required_argument (codes "output"))
 
 -- `sheet PLAN OUTPUT [BOX]`
+abbrev pub sheet_box_form : App
+sheet_box_form = with_rule sheet_form (optional_argument (codes "box"))
+
+-- `sheet [--html] PLAN OUTPUT [BOX]`
 abbrev pub sheet_command : App
-sheet_command = with_rule sheet_form (optional_argument (codes "box"))
+sheet_command = with_rule sheet_box_form (flag (codes "html"))
 
 -- `picture PLAN OUTPUT`
 abbrev pub picture_form : App
@@ -141,8 +145,12 @@ abbrev pub picture_command : App
 picture_command = with_rule picture_form (optional_argument (codes "entry"))
 
 -- `table PLAN BOX`
+abbrev pub table_form : App
+table_form = with_rule (planned_form (codes "table")) (required_argument (codes "box"))
+
+-- `table [--html] PLAN BOX`
 abbrev pub table_command : App
-table_command = with_rule (planned_form (codes "table")) (required_argument (codes "box"))
+table_command = with_rule table_form (flag (codes "html"))
 
 -- `rows FILE`
 abbrev pub rows_command : App

@@ -31,6 +31,8 @@ pub struct MarkWords<'a> {
 /// The words of `sheet`.
 #[derive(Clone, Copy, Debug)]
 pub struct SheetWords<'a> {
+    /// It is a page for a browser.
+    pub html: bool,
     pub plan: &'a str,
     /// What `run` printed, or its journal.
     pub output: &'a str,
@@ -109,12 +111,14 @@ pub enum SignalboxCommand<'a> {
     },
     /// `mark [--within M] PLAN OUTPUT [BOX]`: it is named what an instructor would mark in a journal.
     Mark(MarkWords<'a>),
-    /// `sheet PLAN OUTPUT [BOX]`: the train register of each box is printed as a sheet.
+    /// `sheet [--html] PLAN OUTPUT [BOX]`: the train register of each box is printed as a sheet.
     Sheet(SheetWords<'a>),
     /// `picture PLAN OUTPUT [ENTRY]`: the line is drawn as it stands after an entry.
     Picture(PictureWords<'a>),
-    /// `table PLAN BOX`: the locking table of a box is printed, a line for each lever.
+    /// `table [--html] PLAN BOX`: the locking table of a box is printed, a line for each lever.
     Table {
+        /// It is a page for a browser.
+        html: bool,
         plan: &'a str,
         /// The name of the box.
         box_name: &'a str,
@@ -368,14 +372,16 @@ fn read_mark<'a>(found: &ArgMatches<'a>) -> Option<SignalboxCommand<'a>>
     }))
 }
 
-// The plan, the journal and the box of `sheet`.
+// The flag, the plan, the journal and the box of `sheet`.
 #[tactic(auto, using(crate::proofs::MatchRules::match_rules))]
 fn read_sheet<'a>(found: &ArgMatches<'a>) -> Option<SignalboxCommand<'a>>
     ensures { option_map shown result ≡ sheet_read (rows_of (found_of found.now)) }
 {
     let (plan, output) = read_two(found, "output")?;
     let box_name = found.get_str("box");
+    let html = has_flag(found, "html");
     Some(SignalboxCommand::Sheet(SheetWords {
+        html,
         plan,
         output,
         box_name,
@@ -396,12 +402,17 @@ fn read_picture<'a>(found: &ArgMatches<'a>) -> Option<SignalboxCommand<'a>>
     }))
 }
 
-// The plan and the box of `table`.
+// The flag, the plan and the box of `table`.
 fn read_table<'a>(found: &ArgMatches<'a>) -> Option<SignalboxCommand<'a>>
     ensures { option_map shown result ≡ table_read (rows_of (found_of found.now)) }
 {
     let (plan, box_name) = read_two(found, "box")?;
-    Some(SignalboxCommand::Table { plan, box_name })
+    let html = has_flag(found, "html");
+    Some(SignalboxCommand::Table {
+        html,
+        plan,
+        box_name,
+    })
 }
 
 // The file of `rows`.

@@ -11,8 +11,8 @@ ghost use Rattle.signalbox_words.specs.Table.{marked_box_form, marked_form, neve
 ghost use Rattle.signalbox_words.specs.Table.{picture_command, picture_form, picture_program, plain_form};
 ghost use Rattle.signalbox_words.specs.Table.{plan_form, planned_form, program, register_program};
 ghost use Rattle.signalbox_words.specs.Table.{rehearse_command, repeated_argument, required_argument};
-ghost use Rattle.signalbox_words.specs.Table.{rows_command, screen_form, sheet_command, sheet_form};
-ghost use Rattle.signalbox_words.specs.Table.{states_command, table_command, table_program, tidy_command};
+ghost use Rattle.signalbox_words.specs.Table.{rows_command, screen_form, sheet_box_form, sheet_command, sheet_form};
+ghost use Rattle.signalbox_words.specs.Table.{states_command, table_command, table_form, table_program, tidy_command};
 ghost use Rattle.signalbox_words.specs.Table.{to_refusal_form, value_option, walked_form, work_command};
 
 use clap::{Arg, ArgAction, Command};
@@ -55,9 +55,9 @@ const WORK_ABOUT: &str = "Lets you work one box yourself, reply by reply";
 const WORK_AFTER: &str = "\
 The scripts of all other boxes stand in the order of these. You type calls as a script has them, and each is answered;
 behind each the others go on by their scripts, as far as they come without you. Type help for what may be typed, and
-end, or the end of input, to go off duty: then come your register, your refused calls, and where you worked against
-the nine rules. Lines from a file or a pipe are echoed, so that what is printed is a transcript. On a terminal
-refusals and what you notice are coloured, but with --plain, or where NO_COLOR is set.
+end, or the end of input, to go off duty: then come your register, your refused calls, where you worked against the
+nine rules, and what an instructor would mark besides. Lines from a file or a pipe are echoed, so that what is printed
+is a transcript. On a terminal refusals and what you notice are coloured, but with --plain, or where NO_COLOR is set.
 
     signalbox work valley.plan Oak elm.script";
 
@@ -99,9 +99,11 @@ const STATES_ABOUT: &str = "Walks the states of a lever frame, by its locking ta
 const STATES_AFTER: &str = "\
 It tells how many states can be reached from all levers normal, which levers can never be reversed and why, which
 can't be reversed together, and which rows of the table change nothing. Track circuits and instruments are left out,
-as if clear and free, so it is no proof that a layout is safe.
+as if clear and free, so it is no proof that a layout is safe. With frame-only and a file in the place of PLAN and
+BOX, of a frame alone, a text of lever and row lines.
 
-    signalbox states valley.plan Oak --reach 1 2";
+    signalbox states valley.plan Oak --reach 1 2
+    signalbox states frame-only junction.frame";
 
 const LIMIT_HELP: &str = "Keeps at most N states, 1000000 if it isn't given";
 
@@ -130,7 +132,10 @@ const SHEET_ABOUT: &str =
 const SHEET_AFTER: &str = "\
 A column for each time that a British register books, and remarks. Each entry of a box stands in one place.
 
-    signalbox sheet valley.plan day.journal Oak";
+    signalbox sheet valley.plan day.journal Oak
+    signalbox sheet --html valley.plan day.journal > day.html";
+
+const HTML_HELP: &str = "Prints one page for a browser or a printer, as HTML";
 
 const SHEET_BOX_HELP: &str = "The name of a box: only its sheets are printed";
 
@@ -148,9 +153,11 @@ const ENTRY_HELP: &str =
 const TABLE_ABOUT: &str = "Prints the locking table of a box, a line for each lever";
 
 const TABLE_AFTER: &str = "\
-What each lever is released by and what it locks, what it works, and the converse of each row at the other lever.
+What each lever is released by and what it locks, what it works, and the converse of each row at the other lever. With
+frame-only and a file in the place of PLAN and BOX, of a frame alone, a text of lever and row lines.
 
-    signalbox table valley.plan Oak";
+    signalbox table valley.plan Oak
+    signalbox table --html frame-only junction.frame > junction.html";
 
 const ROWS_ABOUT: &str = "Prints the rows of a locking table for a plan";
 
@@ -446,11 +453,19 @@ fn sheet_form<'a>(alloc: Global) -> Result<Command<'a>, AllocError>
 }
 
 // `sheet PLAN OUTPUT [BOX]`
+fn sheet_box_form<'a>(alloc: Global) -> Result<Command<'a>, AllocError>
+    ensures shape { IfOk result (λ c. app_of c ≡ sheet_box_form) }
+    ensures own { IfOk result (λ c. (out-Command c).has_globals ≡ false) }
+{
+    sheet_form(alloc)?.arg(optional_argument(alloc, "box", "BOX", SHEET_BOX_HELP))
+}
+
+// `sheet [--html] PLAN OUTPUT [BOX]`
 fn sheet_command<'a>(alloc: Global) -> Result<Command<'a>, AllocError>
     ensures shape { IfOk result (λ c. app_of c ≡ sheet_command) }
     ensures own { IfOk result (λ c. (out-Command c).has_globals ≡ false) }
 {
-    sheet_form(alloc)?.arg(optional_argument(alloc, "box", "BOX", SHEET_BOX_HELP))
+    sheet_box_form(alloc)?.arg(flag(alloc, "html", HTML_HELP))
 }
 
 // `picture PLAN OUTPUT`
@@ -475,8 +490,8 @@ fn picture_command<'a>(alloc: Global) -> Result<Command<'a>, AllocError>
 }
 
 // `table PLAN BOX`
-fn table_command<'a>(alloc: Global) -> Result<Command<'a>, AllocError>
-    ensures shape { IfOk result (λ c. app_of c ≡ table_command) }
+fn table_form<'a>(alloc: Global) -> Result<Command<'a>, AllocError>
+    ensures shape { IfOk result (λ c. app_of c ≡ table_form) }
     ensures own { IfOk result (λ c. (out-Command c).has_globals ≡ false) }
 {
     planned_form(alloc, "table", TABLE_ABOUT, TABLE_AFTER)?.arg(required_argument(
@@ -485,6 +500,14 @@ fn table_command<'a>(alloc: Global) -> Result<Command<'a>, AllocError>
         "BOX",
         DRAWN_BOX_HELP,
     ))
+}
+
+// `table [--html] PLAN BOX`
+fn table_command<'a>(alloc: Global) -> Result<Command<'a>, AllocError>
+    ensures shape { IfOk result (λ c. app_of c ≡ table_command) }
+    ensures own { IfOk result (λ c. (out-Command c).has_globals ≡ false) }
+{
+    table_form(alloc)?.arg(flag(alloc, "html", HTML_HELP))
 }
 
 // `rows FILE`

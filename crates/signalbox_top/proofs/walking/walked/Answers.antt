@@ -7,8 +7,7 @@ returns-clause-report g c =
     (λ text is. record {
       plan = c.in_ok-plan.plan;
       box_no = c.in_ok-plan.box_no;
-      plan_is = c.in_ok-plan.ensures.plan;
-      box_is = c.in_ok-plan.ensures.named;
+      frame_is = c.in_ok-plan.ensures.frame;
       asked = c.in_ok-asked.asked;
       asked_is = c.in_ok-asked.ensures.asked;
       report = is;
