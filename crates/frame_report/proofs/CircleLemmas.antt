@@ -1,10 +1,9 @@
 -- The rows that are known to hold levers, and the circles to which they lead.
-use Rattle.std.proofs.Common.{◌≡◌, ℕ, zero, suc, ◌+◌, ◌-◌, ◌<◌, Bool, true, false, List, [], ◌∷◌, length, map}
-use Rattle.std.proofs.Common.{refl, sym, ap, subst, ◌∙◌, arith, get_or}
+use Rattle.std.proofs.Common.{◌≡◌, ℕ, zero, suc, ◌+◌, ◌-◌, ◌<◌, Bool, false, List, [], ◌∷◌, length, map}
+use Rattle.std.proofs.Common.{refl, sym, subst, ◌∙◌, arith, get_or}
 use Rattle.std.specs.Prelude.{Option, Some, None, position}
 use Rattle.std.proofs.lemmas.List.{length-map}
 use Rattle.std.proofs.lemmas.List.Quantifiers.{position-Some}
-use Rattle.locking_table.specs.Places.{IsLever}
 use Rattle.frame_walk.specs.Walked.{Walked}
 use Rattle.frame_findings.specs.declared.finding.Finding.{Finding}
 use Rattle.frame_findings.specs.declared.finding.Finding.TheVariants.{First, Never, Open}

@@ -14,6 +14,7 @@ use Rattle.frame_findings.specs.declared.finding.Finding.{Finding}
 use Rattle.frame_findings.specs.declared.finding.Finding.TheVariants.{First, Never, Open}
 use Rattle.frame_findings.specs.declared.finding.Sequence.{Sequence}
 use Rattle.frame_findings.specs.declared.finding.Sequence.TheVariants as sequence
+use Rattle.row_covers.specs.declared.pairs.RowPair.{RowPair}
 use Rattle.row_findings.specs.declared.uses.RowUse.{RowUse}
 use Rattle.row_findings.specs.declared.uses.RowUse.TheVariants as uses
 use Rattle.frame_report.specs.declared.asked.StatesWanted.{StatesWanted}
@@ -21,6 +22,7 @@ use Rattle.frame_report.specs.declared.report.LeverReport.{LeverReport}
 use Rattle.frame_report.specs.declared.report.PairReport.{PairReport}
 use Rattle.frame_report.specs.declared.report.RowReport.{RowReport}
 use Rattle.frame_report.specs.declared.report.StatesReport.{StatesReport}
+use Rattle.frame_report.specs.Report.{any_marked}
 
 -- ---- the head
 
@@ -67,7 +69,7 @@ places_text places = flat_map (λ at. codes " " ++ decimal (at + 1)) places
 -- the rows that hold a lever in every state
 unfoldable pub blame_text : List Row → List Bool → List ℕ
 blame_text rows marks =
-    if list_any (λ mark. mark) marks then marked_text (codes " holds it in every state: ") marks 0 rows
+    if any_marked marks then marked_text (codes " holds it in every state: ") marks 0 rows
     else codes "    no row alone holds it in every state\n"
 
 unfoldable pub round_text : List ℕ
@@ -172,17 +174,33 @@ is_redundant uses.Needed = false
 is_redundant uses.Redundant = true
 is_redundant uses.Open = false
 
-unfoldable pub redundant_text : List Row → ℕ → Row → List Bool → List ℕ
-redundant_text rows number row marks =
+-- two rows that together hold all that a redundant one holds
+unfoldable pub cover_line : RowPair → List ℕ
+cover_line pair =
+    codes "    rows " ++ decimal (pair.one + 1) ++ codes " " ++ decimal (pair.two + 1)
+    ++ codes " together hold as much\n"
+
+-- the same, if two are told
+abbrev pub cover_text : Option RowPair → List ℕ
+cover_text None = []
+cover_text (Some pair) = cover_line pair
+
+-- the rows that hold as much as a redundant one: each by itself, or two together
+unfoldable pub as_much_text : List Row → RowReport → List ℕ
+as_much_text rows report =
+    marked_text (codes " holds all that it holds: ") report.covering.items 0 rows ++ cover_text report.pair
+
+unfoldable pub redundant_text : List Row → ℕ → Row → RowReport → List ℕ
+redundant_text rows number row report =
     codes "row " ++ decimal number ++ codes " is redundant: " ++ row_text row ++ codes "\n"
-    ++ marked_text (codes " holds all that it holds: ") marks 0 rows
+    ++ as_much_text rows report
 
 -- the lines of the redundant ones of the rows from a place on
 abbrev pub redundants_text : List Row → ℕ → List Row → List RowReport → List ℕ
 redundants_text all at [] reports = []
 redundants_text all at (row ∷ rows) [] = []
 redundants_text all at (row ∷ rows) (report ∷ reports) =
-    (if is_redundant report.row_use then redundant_text all (at + 1) row report.covering.items else [])
+    (if is_redundant report.row_use then redundant_text all (at + 1) row report else [])
     ++ redundants_text all (at + 1) rows reports
 
 -- that each row is redundant while all others stay, or that none is

@@ -8,15 +8,16 @@ ghost use Rattle.frame_findings.specs.Findings.{IsFinding};
 ghost use Rattle.row_findings.specs.Redundant.{IsUse};
 ghost use Rattle.frame_findings.specs.declared.finding.Finding.TheVariants.{Open};
 ghost use Rattle.frame_report.specs.Report.{AreCovering, AreHolding, AreInPlace, AreLeverReports, AreReasons};
-ghost use Rattle.frame_report.specs.Report.{AreRowReports, IsPairReport, finding_by};
+ghost use Rattle.frame_report.specs.Report.{AreRowReports, IsPairInPlace, IsPairReport, IsPairUnless, any_marked};
 ghost use Rattle.frame_report.specs.Report.{AreToBlame, AreTogether, IsInPlace, IsLeverReport};
-ghost use Rattle.frame_report.specs.Report.{IsRowReport, IsWayFound, IsWayThere};
+ghost use Rattle.frame_report.specs.Report.{IsRowReport, IsWayFound, IsWayThere, finding_by};
 
 use crate::report::{LeverReport, PairReport, RowReport};
 use frame_findings::{Finding, Findings, holds_always};
 use frame_walk::Walk;
 use frame_ways::way_to;
 use locking_table::{NoMemory, Row};
+use row_covers::{RowPair, pair_in_place};
 use row_findings::{RowUse, covers, row_uses};
 use row_refutations::refutation;
 use std::alloc::Global;
@@ -289,6 +290,52 @@ fn in_place(alloc: Global, walk: &Walk, at: usize, row_use: RowUse) -> Result<Ve
     }
 }
 
+/// Whether any row is marked.
+pub fn any_marked(marks: &[bool]) -> bool
+    ensures { result ≡ any_marked marks.now }
+{
+    marks.iter().any(|mark| *mark)
+}
+
+// The first two rows that together hold all that the row at a place holds, where no single row does.
+fn pair_unless(
+    alloc: Global,
+    walk: &Walk,
+    at: usize,
+    single: bool,
+) -> Result<Option<RowPair>, NoMemory>
+    requires walked { IsWalked walk.now }
+    requires rows { All (RowFits walk.now.levers) walk.now.rows }
+    requires at { at < length walk.now.rows }
+    ensures { IfOk result (IsPairUnless walk.now at single) }
+{
+    if single {
+        Ok(None)
+    } else {
+        pair_in_place(alloc, walk, at)
+    }
+}
+
+// The same, where the row at a place is redundant; `covering` marks the rows that each hold as much.
+fn pair_of(
+    alloc: Global,
+    walk: &Walk,
+    at: usize,
+    row_use: RowUse,
+    covering: &[bool],
+) -> Result<Option<RowPair>, NoMemory>
+    requires walked { IsWalked walk.now }
+    requires rows { All (RowFits walk.now.levers) walk.now.rows }
+    requires at { at < length walk.now.rows }
+    ensures { IfOk result (IsPairInPlace walk.now at row_use covering.now) }
+{
+    match row_use {
+        RowUse::Needed => Ok(None),
+        RowUse::Redundant => pair_unless(alloc, walk, at, any_marked(covering)),
+        RowUse::Open => Ok(None),
+    }
+}
+
 /// What is found of each row.
 pub fn row_reports(alloc: Global, walk: &Walk) -> Result<Vec<RowReport>, NoMemory>
     requires walked { IsWalked walk.now }
@@ -299,9 +346,11 @@ pub fn row_reports(alloc: Global, walk: &Walk) -> Result<Vec<RowReport>, NoMemor
     let mut reports = Vec::new(alloc);
     for (at, row_use) in uses.iter().enumerate() {
         let covering = in_place(alloc, walk, at, *row_use)?;
+        let pair = pair_of(alloc, walk, at, *row_use, &covering)?;
         reports.push(RowReport {
             row_use: *row_use,
             covering,
+            pair,
         })?;
     }
     Ok(reports)

@@ -4,20 +4,22 @@ ghost use Rattle.std.specs.Prelude.{◌≡◌, ◌++◌, ◌-◌, ◌<◌, IfOk,
 ghost use Rattle.std.specs.List.{flat_map, list_any};
 ghost use Rattle.locking_table.specs.Places.{end_at};
 ghost use Rattle.frame_walk.specs.States.{after_move, all_normal};
-ghost use Rattle.frame_report.specs.Text.{answer_text, answers_text, blame_text, caveat_text, circle_text};
-ghost use Rattle.frame_report.specs.Text.{circle_line, count_text, frozens_text, round_text};
+ghost use Rattle.frame_report.specs.Text.{answer_text, answers_text, as_much_text, blame_text, caveat_text};
+ghost use Rattle.frame_report.specs.Text.{circle_line, circle_text, count_text, cover_line, cover_text, frozens_text};
 ghost use Rattle.frame_report.specs.Text.{digit_text, digits_text, levers_text, no_proof_text, rows_text};
 ghost use Rattle.frame_report.specs.Text.{frozen_text, head_text, is_marked, is_redundant, lever_text, marked_text};
 ghost use Rattle.frame_report.specs.Text.{move_text, moves_text, numbers_text, padded_text, redundancy_text};
 ghost use Rattle.frame_report.specs.Text.{redundant_text, redundants_text, row_line, sequence_text, sign_text};
-ghost use Rattle.frame_report.specs.Text.{beside_text, sign_with, way_or, way_text};
+ghost use Rattle.frame_report.specs.Text.{beside_text, round_text, sign_with, way_or, way_text};
 ghost use Rattle.frame_report.specs.Text.{open_text, pair_text, pairs_text, places_text, refuted_line};
 ghost use Rattle.frame_report.specs.Text.{refuted_text, signs_text, states_text, together_text, triangle_line};
 
 use crate::asked::StatesWanted;
+use crate::collecting::any_marked;
 use crate::report::{LeverReport, PairReport, RowReport, StatesReport};
 use frame_findings::{Finding, Sequence};
 use locking_table::{End, NoMemory, Row, put_row};
+use row_covers::RowPair;
 use row_findings::RowUse;
 use std::alloc::{AllocError, Global};
 use std::fmt::Write;
@@ -108,13 +110,6 @@ fn put_places(out: &mut String, places: &[u32]) -> Result<(), AllocError>
 }
 
 // ---- levers that can never be reversed
-
-// Whether any row is marked.
-fn any_marked(marks: &[bool]) -> bool
-    ensures { result ≡ list_any (λ mark. mark) marks.now }
-{
-    marks.iter().any(|mark| *mark)
-}
 
 // The rows that hold a lever in every state.
 #[tactic(auto, unfolding(crate::specs::Text::blame_text))]
@@ -409,6 +404,35 @@ fn is_redundant(row_use: RowUse) -> bool
     }
 }
 
+// The line of two rows that together hold all that a redundant one holds.
+#[tactic(auto, unfolding(crate::specs::Text::cover_line))]
+fn put_cover_line(out: &mut String, pair: RowPair) -> Result<(), AllocError>
+    ensures { OnOk result (string_bytes out.new ≡ string_bytes out.old ++ cover_line pair) }
+{
+    let one = u64::from(pair.one) + 1;
+    let two = u64::from(pair.two) + 1;
+    write!(out, "    rows {one} {two} together hold as much\n")
+}
+
+// The same, if two are told.
+fn put_cover(out: &mut String, pair: Option<RowPair>) -> Result<(), AllocError>
+    ensures { OnOk result (string_bytes out.new ≡ string_bytes out.old ++ cover_text pair) }
+{
+    match pair {
+        Some(pair) => put_cover_line(out, pair),
+        None => Ok(()),
+    }
+}
+
+// The rows that hold as much as a redundant one: each by itself, or two together.
+#[tactic(auto, unfolding(crate::specs::Text::as_much_text))]
+fn put_as_much(out: &mut String, rows: &[Row], report: &RowReport) -> Result<(), AllocError>
+    ensures { OnOk result (string_bytes out.new ≡ string_bytes out.old ++ as_much_text rows.now report.now) }
+{
+    put_marked(out, " holds all that it holds: ", &report.covering, rows)?;
+    put_cover(out, report.pair)
+}
+
 // The lines of a redundant row.
 #[tactic(auto, unfolding(crate::specs::Text::redundant_text))]
 fn put_redundant(
@@ -416,15 +440,15 @@ fn put_redundant(
     rows: &[Row],
     number: usize,
     row: &Row,
-    marks: &[bool],
+    report: &RowReport,
 ) -> Result<(), AllocError>
     ensures { OnOk result
-        (string_bytes out.new ≡ string_bytes out.old ++ redundant_text rows.now number row.now marks.now) }
+        (string_bytes out.new ≡ string_bytes out.old ++ redundant_text rows.now number row.now report.now) }
 {
     write!(out, "row {number} is redundant: ")?;
     put_row(out, row)?;
     out.push_str("\n")?;
-    put_marked(out, " holds all that it holds: ", marks, rows)
+    put_as_much(out, rows, report)
 }
 
 // The lines of the redundant rows.
@@ -436,7 +460,7 @@ fn put_redundants(out: &mut String, rows: &[Row], reports: &[RowReport]) -> Resu
     for (i, row) in rows.iter().enumerate() {
         let report = &reports[i];
         if is_redundant(report.row_use) {
-            put_redundant(out, rows, i + 1, row, &report.covering)?;
+            put_redundant(out, rows, i + 1, row, report)?;
         }
     }
     Ok(())

@@ -1,6 +1,7 @@
 //! What is reported of a frame's states.
 
 use frame_findings::{Finding, Sequence};
+use row_covers::RowPair;
 use row_findings::RowUse;
 
 /// What is found of two levers.
@@ -36,6 +37,9 @@ pub struct RowReport {
     pub row_use: RowUse,
     /// Where it is redundant: for each row whether this row holds all that the redundant one holds.
     pub covering: Vec<bool>,
+    /// Where it is redundant and no single row does: the first two rows that together hold all that it holds, if two
+    /// do.
+    pub pair: Option<RowPair>,
 }
 
 /// What is found of a frame.

@@ -34,7 +34,9 @@ reversed together: . they can be, x never
  12 . . . . . .
 each row that is redundant is so while all others stay
 row 6 is redundant: 4 locks 1 normal
+    rows 2 4 together hold as much
 row 8 is redundant: 9 locks 4 normal
+    rows 4 7 together hold as much
 reach 4
     pull 2
     pull 3

@@ -169,7 +169,9 @@ circle_is w holders first from chain circle followed closes is =
       first = chain.here;
       leads = passed.before;
       round = subst (λ (ps : List ℕ). IsChain w holders chain.here ps chain.here) (sym is) passed.behind;
-      some = let long = ap (λ (ps : List ℕ). length ps) is in omega (arith, long, length-drop from chain.rows.items, lt);
+      some =
+          let long = ap (λ (ps : List ℕ). length ps) is in
+          omega (arith, long, length-drop from chain.rows.items, lt);
     }
 
 -- the chain has come to a lever for which no row is known

@@ -1,0 +1,3 @@
+pub mod CoverLemmas
+pub mod PairLemmas
+pub mod RedundantLemmas
