@@ -5,8 +5,9 @@ PROGRAM is crates/signalbox/out/signalbox. The frames of the guide's line, of th
 box with as many levers and rows as a box may have are drawn; and the train graphs of what comes of these lines' scripts,
 and of a line of 64 boxes. Each file is taken by xmllint, rsvg-convert and headless Chromium; whichever of these is
 missing is installed from Debian's packages. A PNG of each, as each of the two drew it, is left in FOLDER (a new one
-where none is given) to be looked at. The pictures of docs/pictures/ have to be those that are drawn now. What isn't so
-is told, and the exit status is then 1.
+where none is given) to be looked at. The pictures of docs/pictures/ have to be those that are drawn now. The pages of a
+sheet, a locking table and two films are taken by xmllint and Chromium, which steps through the films by their keys: what
+it shows after an entry has to be what `picture` draws after it. What isn't so is told, and the exit status is then 1.
 """
 
 import os
@@ -19,6 +20,7 @@ import tempfile
 HERE = os.path.dirname(os.path.abspath(__file__))
 TOP = os.path.join(HERE, "..")
 sys.path[:0] = [HERE, os.path.join(TOP, "bench")]
+import film  # noqa: E402
 import inputs  # noqa: E402
 import sizes  # noqa: E402
 
@@ -30,6 +32,28 @@ VALLEY = os.path.join(PEOPLE, "frame_of_oak", "valley.plan")
 GRAPHED = os.path.join(PEOPLE, "graph_guide_line")
 LINE = os.path.join(TOP, "crates", "box_main", "data")
 EXAMPLE = os.path.join(LINE, "example.plan")
+REFUSED = os.path.join(PEOPLE, "sheet_refusals")
+# The pages: file, and the words that print it.
+PAGES = [
+    ("sheet", ["sheet", "--html", f"{GRAPHED}/valley.plan", f"{GRAPHED}/day.journal"]),
+    ("table", ["table", "--html", VALLEY, "Oak"]),
+]
+# The films: file, plan and journal.
+FILMS = [
+    ("film_guide", f"{GRAPHED}/valley.plan", f"{GRAPHED}/day.journal"),
+    ("film_refusals", f"{REFUSED}/valley.plan", f"{REFUSED}/day.journal"),
+]
+# What is pressed in a film, and the entry that is shown then, of so many.
+PRESSED = [
+    ([], lambda last: 0),
+    (["ArrowRight"], lambda last: 1),
+    (["End"], lambda last: last),
+    (["End", "ArrowLeft", "ArrowLeft"], lambda last: last - 2),
+    (["End", "Home", "ArrowLeft"], lambda last: 0),
+    (["ArrowRight"] * 20 + ["ArrowLeft"] * 6, lambda last: 14),
+]
+# Presses keys when the page is there.
+PRESS = "<script>%s.forEach(function(k){document.dispatchEvent(new KeyboardEvent('keydown',{key:k,cancelable:true}));});</script>"
 # The pictures of the documents: file, and the words that draw it.
 SHOWN = [
     ("oak_frame.svg", ["frame", VALLEY, "Oak"]),
@@ -108,6 +132,39 @@ class Looker:
             if not os.path.isfile(drawn):
                 self.tell(name, f"no {os.path.basename(drawn)}")
 
+    def chromium(self, *words):
+        return subprocess.run(["chromium", "--headless", "--no-sandbox", "--disable-gpu", "--hide-scrollbars", *words],
+                              capture_output=True, timeout=120)
+
+    def look_page(self, name, page, at=""):
+        """Has two of the tools take a page, and leaves it as one of them shows it."""
+        path = os.path.join(self.folder, f"{name}.html")
+        with open(path, "wb") as file:
+            file.write(page)
+        self.tool(name, ["xmllint", "--noout", path])
+        shot = f"{path}.chromium.png"
+        self.chromium("--window-size=1180,1000", f"--screenshot={shot}", f"file://{path}{at}")
+        if not os.path.isfile(shot):
+            self.tell(name, f"no {os.path.basename(shot)}")
+
+    def look_film(self, name, plan, journal):
+        """Has a film played by a reader of its text, and stepped through by the browser."""
+        page = self.draw(["picture", "--film", plan, journal])
+        self.look_page(name, page, "#14")
+        played = film.Film(page.decode())
+        pictures = [self.draw(["picture", plan, journal, str(number + 1)]).decode() for number in range(len(played.frames))]
+        for fault in played.faults(pictures):
+            self.tell(name, fault)
+        states = [{at: film.as_shown(drawn) for at, drawn in state.items()} for state in played.states()]
+        for keys, entry in PRESSED:
+            pressed = os.path.join(self.folder, f"{name}.pressed.html")
+            with open(pressed, "wb") as file:
+                file.write(page.replace(b"</body>", (PRESS % keys).encode() + b"</body>"))
+            shown = self.chromium("--dump-dom", f"file://{pressed}").stdout.decode()
+            os.remove(pressed)
+            if film.seen_in(shown) != states[entry(len(pictures))]:
+                self.tell(name, f"{' '.join(keys) or 'nothing'}: the browser doesn't show entry {entry(len(pictures))}")
+
     def compare(self):
         for file_name, words in SHOWN:
             with open(os.path.join(TOP, "docs", "pictures", file_name), "rb") as file:
@@ -131,8 +188,13 @@ def main(program, folder):
         graphs.append(("long", long_plan, looker.journal(room, "long", long_plan, long_scripts)))
         for name, plan, journal in graphs:
             looker.look(f"graph_{name}", looker.draw(["graph", plan, journal]))
+    for name, words in PAGES:
+        looker.look_page(name, looker.draw(words))
+    for name, plan, journal in FILMS:
+        looker.look_film(name, plan, journal)
     looker.compare()
-    print(f"{len(frames) + len(graphs)} pictures in {folder}; {looker.bad} seen otherwise than they should be")
+    print(f"{len(frames) + len(graphs)} pictures and {len(PAGES) + len(FILMS)} pages in {folder}; "
+          f"{looker.bad} seen otherwise than they should be")
     return 1 if looker.bad else 0
 
 

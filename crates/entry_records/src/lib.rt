@@ -5,6 +5,6 @@ mod object;
 mod row;
 mod words;
 
-pub use object::object_text;
+pub use object::{entry_object, object_text};
 pub use row::{put_columns, put_words_row};
 pub use words::EntryWords;

@@ -59,8 +59,8 @@ fn put_call_members(
     object.put_text(alloc, "at", words.at.as_str())
 }
 
-// The object of an entry.
-fn entry_object(alloc: Global, words: &EntryWords<'_>) -> Result<Value, AllocError>
+/// The object of an entry.
+pub fn entry_object(alloc: Global, words: &EntryWords<'_>) -> Result<Value, AllocError>
     ensures { IfOk result (λ value. view value ≡ entry_data words.now) }
 {
     let mut object = Object::new(alloc);

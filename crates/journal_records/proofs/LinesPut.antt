@@ -1,5 +1,5 @@
 -- The lines of entries, one behind the other.
-use Rattle.std.proofs.Common.{◌≡◌, ℕ, ◌+◌, ◌<◌, List, ◌∷◌, length, drop, get_or, sym, subst, arith}
+use Rattle.std.proofs.Common.{◌≡◌, ℕ, ◌+◌, ◌<◌, List, length, drop, get_or, sym, subst, arith}
 use Rattle.std.proofs.lemmas.List.{drop_more}
 use Rattle.line_plan.specs.Plans.{PlanFields}
 use Rattle.line_law.specs.declared.call.Entry.{Entry}

@@ -3,3 +3,4 @@ pub mod Named
 pub mod Objects
 pub mod Rows
 pub mod Said
+pub mod Told

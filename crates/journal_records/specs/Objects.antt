@@ -1,11 +1,18 @@
 -- The entries of a journal as JSON, one a line.
 use Rattle.std.specs.Prelude.{◌≡◌, ℕ, ◌+◌, List, [], ◌∷◌, ◌++◌}
+use Rattle.serde_json.specs.Data.{Data}
 use Rattle.json_objects.specs.Texts.{IsTextOf}
 use Rattle.line_plan.specs.Plans.{PlanFields}
 use Rattle.line_law.specs.declared.call.Entry.{Entry}
 use Rattle.entry_records.specs.Fields.{EntryFields}
 use Rattle.entry_records.specs.Objects.{entry_data}
 use Rattle.journal_records.specs.Entries.{AreFieldsOf}
+
+-- the object of entry n
+pub record IsEntryData (plan : PlanFields) (n : ℕ) (e : Entry) (d : Data) : Type 0 where
+  pub fields : EntryFields
+  pub are : AreFieldsOf plan n e fields
+  pub is : d ≡ entry_data fields
 
 -- the text of entry n as JSON
 pub record IsEntryText (plan : PlanFields) (n : ℕ) (e : Entry) (text : List ℕ) : Type 0 where

@@ -6,9 +6,11 @@ mod named;
 mod records;
 mod rows;
 mod said;
+mod told;
 mod words;
 
-pub use lines::{entry_text, print_json_lines};
+pub use lines::{entry_text, entry_value, print_json_lines};
 pub use records::print_records;
 pub use rows::print_csv;
+pub use told::told_of;
 pub use words::words_of;

@@ -32,24 +32,34 @@ thing_text plan layout (shown.OnLine rear way behind train portion) =
 abbrev pub things_text : PlanFields → LayoutFields → List Shown → List ℕ
 things_text plan layout things = flat_map (thing_text plan layout) things
 
+-- the style of a picture
+unfoldable pub style_text : List ℕ
+style_text = start_tag tags.Style [] ++ escaped STYLE.now ++ end_tag tags.Style
+
 -- the title of a picture, and its style
 unfoldable pub title_text : List ℕ → List ℕ
-title_text name =
-    (start_tag tags.Title [] ++ escaped name ++ end_tag tags.Title)
-    ++ (start_tag tags.Style [] ++ escaped STYLE.now ++ end_tag tags.Style)
+title_text name = (start_tag tags.Title [] ++ escaped name ++ end_tag tags.Title) ++ style_text
+
+-- the key of a picture of this height, at its foot
+unfoldable pub key_text : ℕ → List ℕ
+key_text high =
+    words_text (codes "key") (point 16 (high - 48)) TRAINS.now
+    ++ words_text (codes "key") (point 16 (high - 28)) ARMS.now
 
 -- the background of a picture, its head, and its key at the foot
 unfoldable pub frame_text : ℕ → List ℕ → List ℕ → List ℕ
 frame_text high name when =
     rect_text (codes "background") (point 0 0) 1100 high ++ words_text (codes "head") (point 16 34) name
-    ++ words_text (codes "sub") (point 16 58) when ++ words_text (codes "key") (point 16 (high - 48)) TRAINS.now
-    ++ words_text (codes "key") (point 16 (high - 28)) ARMS.now
+    ++ words_text (codes "sub") (point 16 58) when ++ key_text high
+
+-- the boxes, and the roads between them, without their things
+unfoldable pub ground_text : PlanFields → LayoutFields → List ℕ
+ground_text plan layout =
+    boxes_text layout 0 plan.boxes ++ sections_text plan layout (length plan.boxes - 1)
 
 -- the line: the boxes and the roads between them, and over them their things
 unfoldable pub line_text : PlanFields → LayoutFields → List Shown → List ℕ
-line_text plan layout things =
-    boxes_text layout 0 plan.boxes ++ sections_text plan layout (length plan.boxes - 1)
-    ++ things_text plan layout things
+line_text plan layout things = ground_text plan layout ++ things_text plan layout things
 
 -- all that stands in a picture
 unfoldable pub inner_text : PlanFields → LayoutFields → List Shown → ℕ → List ℕ

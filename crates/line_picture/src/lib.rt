@@ -9,4 +9,6 @@ mod picture;
 mod section_drawing;
 mod words;
 
-pub use picture::{draw_scene, line_picture};
+pub use layout::Layout;
+pub use picture::{draw_scene, line_picture, put_ground, put_key, put_style, put_thing};
+pub use words::picture_name;

@@ -2,8 +2,9 @@
 
 ghost use Rattle.std.specs.Prelude.{◌≡◌, ◌++◌, ◌∷◌, ◌<◌, ◌≤◌, ◌-◌, ◌^◌, [], IfOk, OnOk, length, string_bytes, take};
 ghost use Rattle.line_law.specs.History.{IsLegal};
-ghost use Rattle.line_picture.specs.Pictures.{begun_text, frame_text, inner_text, laid_text, line_text, picture_text};
-ghost use Rattle.line_picture.specs.Pictures.{thing_text, things_text, title_text, view_text};
+ghost use Rattle.line_picture.specs.Pictures.{begun_text, frame_text, ground_text, inner_text, key_text, laid_text};
+ghost use Rattle.line_picture.specs.Pictures.{line_text, picture_text, style_text, thing_text, things_text, title_text};
+ghost use Rattle.line_picture.specs.Pictures.{view_text};
 ghost use Rattle.line_picture.specs.Words.{picture_name};
 ghost use Rattle.line_scene.specs.Scenes.{scene_after};
 ghost use Rattle.mark_up.specs.Documents.{IsDocument};
@@ -57,8 +58,8 @@ and low when it is reversed. S: signal, P: points, L: lock, D: distant.";
 
 // ---- things
 
-// Draws a thing of a line.
-fn put_thing(
+/// Draws a thing of a line.
+pub fn put_thing(
     page: &mut Page,
     alloc: Global,
     plan: &Plan,
@@ -130,8 +131,24 @@ fn put_things(
     Ok(())
 }
 
+/// Draws the boxes and the roads between them, without their things.
+#[tactic(auto, using(line_scene::proofs::Few::few_boxes), unfolding(crate::specs::Pictures::ground_text))]
+pub fn put_ground(
+    page: &mut Page,
+    alloc: Global,
+    plan: &Plan,
+    layout: &Layout,
+) -> Result<(), AllocError>
+    ensures text { OnOk result (page.new.text ≡ page.old.text ++ ground_text plan.now layout.now) }
+    ensures tags { OnOk result (page.new.open_tags ≡ page.old.open_tags) }
+{
+    plan.meets_conditions();
+    put_boxes(page, layout, plan.boxes.as_slice())?;
+    put_sections(page, alloc, plan, layout)
+}
+
 // Draws the boxes and the roads between them, and over them their things.
-#[tactic(auto, using(line_scene::proofs::Few::few_boxes), unfolding(crate::specs::Pictures::line_text))]
+#[tactic(auto, unfolding(crate::specs::Pictures::line_text))]
 fn put_line(
     page: &mut Page,
     alloc: Global,
@@ -143,9 +160,7 @@ fn put_line(
     ensures text { OnOk result (page.new.text ≡ page.old.text ++ line_text plan.now layout.now things.now) }
     ensures tags { OnOk result (page.new.open_tags ≡ page.old.open_tags) }
 {
-    plan.meets_conditions();
-    put_boxes(page, layout, plan.boxes.as_slice())?;
-    put_sections(page, alloc, plan, layout)?;
+    put_ground(page, alloc, plan, layout)?;
     put_things(page, alloc, plan, layout, things)
 }
 
@@ -181,6 +196,15 @@ fn begun<'a>(alloc: Global, high: u64, name: &'a str, view: &'a str) -> Result<P
     )
 }
 
+/// Puts the style of a picture.
+#[tactic(auto, unfolding(crate::specs::Pictures::style_text))]
+pub fn put_style(page: &mut Page) -> Result<(), AllocError>
+    ensures text { OnOk result (page.new.text ≡ page.old.text ++ style_text) }
+    ensures tags { OnOk result (page.new.open_tags ≡ page.old.open_tags) }
+{
+    page.put_text(Tag::Style, &[], STYLE)
+}
+
 // The title of a picture, and its style.
 #[tactic(auto, unfolding(crate::specs::Pictures::title_text))]
 fn put_title(page: &mut Page, name: &str) -> Result<(), AllocError>
@@ -188,7 +212,17 @@ fn put_title(page: &mut Page, name: &str) -> Result<(), AllocError>
     ensures tags { OnOk result (page.new.open_tags ≡ page.old.open_tags) }
 {
     page.put_text(Tag::Title, &[], name)?;
-    page.put_text(Tag::Style, &[], STYLE)
+    put_style(page)
+}
+
+/// Puts the key of a picture of this height, at its foot.
+#[tactic(auto, unfolding(crate::specs::Pictures::key_text))]
+pub fn put_key(page: &mut Page, high: u64) -> Result<(), AllocError>
+    ensures text { OnOk result (page.new.text ≡ page.old.text ++ key_text high) }
+    ensures tags { OnOk result (page.new.open_tags ≡ page.old.open_tags) }
+{
+    put_words(page, "key", Point::new(16, high.saturating_sub(48)), TRAINS)?;
+    put_words(page, "key", Point::new(16, high.saturating_sub(28)), ARMS)
 }
 
 // The background of a picture, its head, and its key.
@@ -200,8 +234,7 @@ fn put_frame(page: &mut Page, high: u64, name: &str, when: &str) -> Result<(), A
     put_rect(page, "background", Point::new(0, 0), WIDE, high)?;
     put_words(page, "head", Point::new(16, 34), name)?;
     put_words(page, "sub", Point::new(16, 58), when)?;
-    put_words(page, "key", Point::new(16, high.saturating_sub(48)), TRAINS)?;
-    put_words(page, "key", Point::new(16, high.saturating_sub(28)), ARMS)
+    put_key(page, high)
 }
 
 // Draws all of a picture into a page.

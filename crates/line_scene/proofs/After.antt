@@ -1,10 +1,10 @@
 -- A line goes on by the entries of a legal journal.
-use Rattle.std.proofs.Common.{◌≡◌, ℕ, ◌+◌, ◌<◌, List, ◌∷◌, length, drop, get_or, ap, subst, ◌∙◌}
+use Rattle.std.proofs.Common.{◌≡◌, ℕ, ◌+◌, ◌<◌, List, ◌∷◌, length, drop, get_or, ap, subst}
 use Rattle.std.proofs.lemmas.List.{drop_more}
 use Rattle.line_plan.specs.Plans.{PlanFields}
 use Rattle.line_law.specs.declared.call.Entry.{Entry}
 use Rattle.line_law.specs.declared.call.Reply.{Reply}
-use Rattle.line_law.specs.History.{IsLegalFrom, after_entry, state_after}
+use Rattle.line_law.specs.History.{IsLegalFrom, state_after}
 use Rattle.line_law.specs.Law.{Done, MayCall, step}
 use Rattle.line_law.specs.States.{LineState}
 

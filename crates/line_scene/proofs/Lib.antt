@@ -1,3 +1,5 @@
 pub mod Few
 pub mod After
 pub mod OnLine
+pub mod NextPlaces
+pub mod OwnSpots

@@ -1,6 +1,5 @@
 -- What is seen of a box.
 use Rattle.std.specs.Prelude.{ℕ, ◌+◌, Bool, List, [], ◌∷◌, ◌++◌, Option, slice_index, slice_index_or}
-use Rattle.std.specs.List.{flat_map}
 use Rattle.locking_table.specs.declared.places.End.{End}
 use Rattle.line_plan.specs.Frames.{BoxFields}
 use Rattle.line_plan.specs.declared.frame.Lever.{Lever}

@@ -2,3 +2,4 @@ pub mod Diagrams
 pub mod Boxes
 pub mod Sections
 pub mod Scenes
+pub mod Spots

@@ -1,5 +1,5 @@
 -- What is seen of a line.
-use Rattle.std.specs.Prelude.{ℕ, ◌-◌, List, ◌++◌, length}
+use Rattle.std.specs.Prelude.{◌-◌, List, ◌++◌, length}
 use Rattle.line_law.specs.declared.call.Entry.{Entry}
 use Rattle.line_law.specs.History.{state_of}
 use Rattle.line_law.specs.States.{LineState}

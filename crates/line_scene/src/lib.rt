@@ -4,6 +4,7 @@
 
 mod box_shown;
 mod diagram;
+mod laws;
 mod passing;
 mod performing;
 mod scene;
@@ -12,7 +13,8 @@ mod shown;
 mod walk;
 
 pub use diagram::{Diagram, diagrams_of};
+pub use laws::spots_law;
 pub use performing::line_after;
-pub use scene::{Scene, scene_after};
+pub use scene::{Scene, scene_after, things_of};
 pub use shown::Shown;
 pub use walk::Spot;

@@ -1,15 +1,17 @@
 //! What is seen of a line.
 
-ghost use Rattle.std.specs.Prelude.{◌≡◌, ◌<◌, ◌^◌, IfOk, length};
-ghost use Rattle.line_law.specs.History.{IsLegal};
-ghost use Rattle.line_scene.specs.Scenes.{scene_after};
+ghost use Rattle.std.specs.Prelude.{◌≡◌, ◌++◌, ◌<◌, ◌^◌, IfOk, length};
+ghost use Rattle.line_law.specs.History.{IsLegal, state_of};
+ghost use Rattle.line_law.specs.Lines.{IsLineOf};
+ghost use Rattle.line_scene.specs.Diagrams.{diagrams_of};
+ghost use Rattle.line_scene.specs.Scenes.{scene_after, things_of};
 
 use crate::box_shown::add_boxes;
 use crate::diagram::{Diagram, diagrams_of};
 use crate::performing::line_after;
 use crate::section_shown::add_sections;
 use crate::shown::Shown;
-use line_law::Entry;
+use line_law::{Entry, Plain};
 use line_plan::{Items, Plan};
 use rail_text::NoMemory;
 use std::alloc::Global;
@@ -24,6 +26,26 @@ pub struct Scene {
     pub shown: Items<Shown>,
 }
 
+/// What is seen of a line that stands as it does behind the entries of a legal journal, by the diagrams of its boxes.
+pub fn things_of(
+    alloc: Global,
+    plan: &Plan,
+    diagrams: &[Diagram],
+    line: &Plain,
+    entries: &[Entry],
+) -> Result<Vec<Shown>, NoMemory>
+    requires diagrams { diagrams.now ≡ diagrams_of plan.now.boxes }
+    requires line { IsLineOf plan.now line.now }
+    requires legal { IsLegal plan.now entries.now }
+    requires state { line.now.line ≡ state_of plan.now entries.now }
+    ensures { IfOk result (λ things. things.items ≡ things_of plan.now (state_of plan.now entries.now)) }
+{
+    let mut shown = Vec::new(alloc);
+    add_boxes(&mut shown, plan, diagrams, line)?;
+    add_sections(&mut shown, alloc, plan, line, entries)?;
+    Ok(shown)
+}
+
 /// What is seen of a line behind the entries of a legal journal.
 pub fn scene_after(alloc: Global, plan: &Plan, entries: &[Entry]) -> Result<Scene, NoMemory>
     requires legal { IsLegal plan.now entries.now }
@@ -32,9 +54,7 @@ pub fn scene_after(alloc: Global, plan: &Plan, entries: &[Entry]) -> Result<Scen
 {
     let line = line_after(alloc, plan, entries)?;
     let diagrams = diagrams_of(alloc, plan)?;
-    let mut shown = Vec::new(alloc);
-    add_boxes(&mut shown, plan, &diagrams, &line)?;
-    add_sections(&mut shown, alloc, plan, &line, entries)?;
+    let shown = things_of(alloc, plan, &diagrams, &line, entries)?;
     Ok(Scene {
         diagrams: Items::from_vec(diagrams),
         shown: Items::from_vec(shown),

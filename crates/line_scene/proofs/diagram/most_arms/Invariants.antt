@@ -1,4 +1,4 @@
-use Rattle.std.proofs.Common.{◌≡◌, ◌≤◌, drop}
+use Rattle.std.proofs.Common.{◌≡◌, drop}
 use Rattle.line_scene.specs.Diagrams.{most_arms}
 use Rattle.line_scene.proofs.diagram.most_arms.Given as goal
 

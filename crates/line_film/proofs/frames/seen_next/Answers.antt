@@ -1,0 +1,17 @@
+use Rattle.line_film.proofs.Framed.{call_at, state_next}
+use Rattle.line_film.proofs.frames.seen_next.Goals as goal
+
+pub perform-requires-clause-call : goal.perform-requires-clause-call
+perform-requires-clause-call c =
+    call_at c.args.plan.now c.args.entries.now c.args.at _ c.args.line.now.line c.requires.legal c.requires.at
+    c.requires.state
+
+pub things_of-requires-clause-state : goal.things_of-requires-clause-state
+things_of-requires-clause-state c =
+    state_next c.args.plan.now c.args.entries.now c.args.at _ c.args.line.now.line c.perform.new.self.line _
+    c.requires.at c.requires.state c.perform.ensures.told
+
+pub returns-clause-state : goal.returns-clause-state
+returns-clause-state c =
+    state_next c.args.plan.now c.args.entries.now c.args.at _ c.args.line.now.line c.perform.new.self.line _
+    c.requires.at c.requires.state c.perform.ensures.told

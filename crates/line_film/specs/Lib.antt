@@ -1,0 +1,6 @@
+pub mod Changes
+pub mod Frames
+pub mod Drawing
+pub mod Rows
+pub mod Desk
+pub mod Pages
