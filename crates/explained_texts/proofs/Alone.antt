@@ -1,5 +1,6 @@
 -- The lines of a frame that were fetched whole.
-use Rattle.std.proofs.Common.{◌≡◌, ℕ, ◌+◌, ◌≤◌, List, Option, Some, None, Ok, IfSome, ap, arith, length, refl, sym, take, ◌∙◌}
+use Rattle.std.proofs.Common.{◌≡◌, ℕ, ◌+◌, ◌≤◌, List, Option, Some, None, Ok, IfSome, ap, arith, length, refl, sym}
+use Rattle.std.proofs.Common.{take, ◌∙◌}
 use Rattle.std.proofs.lemmas.List.{length-take, take_all}
 use Rattle.std.specs.Prelude.{min, option_map}
 use Rattle.line_plan.specs.Limits.{most_bytes}

@@ -119,10 +119,10 @@ fn frame_alone(alloc: Global, name: &str, lines: &[u8]) -> Result<Plan, Trouble>
     Ok(plan)
 }
 
-/// The frame of the text of this name: the lines of the levers and rows of a box, as a plan has them, without any other.
-/// It comes as a plan with the number of that box, whose name is `Frame`; there is nothing else in it. The text may be
-/// as long as a plan, and its last line may lack its end. It has no line `end`; a line of another kind is refused as in
-/// a plan, and so is a place.
+/// The frame of the text of this name: the lines of the levers and rows of a box, as a plan has them, without any
+/// other. It comes as a plan with the number of that box, whose name is `Frame`; there is nothing else in it. The text
+/// may be as long as a plan, and its last line may lack its end. It has no line `end`; a line of another kind is
+/// refused as in a plan, and so is a place.
 pub fn fetch_frame<S: ReasonedShelf>(
     alloc: Global,
     shelf: &mut S,

@@ -14,6 +14,6 @@ pub use fetching::fetch_text;
 pub use frames::fetch_frame;
 pub use gathering::{RunTexts, fetch_run};
 pub use journals::{JournalTexts, fetch_journal};
-pub use others::{OthersTexts, fetch_box, fetch_others, named_box};
+pub use others::{OthersTexts, fetch_box, fetch_others, fetch_plan, named_box};
 pub use shelf::ReasonedShelf;
 pub use trouble::{Trouble, trouble_with};

@@ -29,7 +29,7 @@ pub struct OthersTexts {
 }
 
 /// The plan under a name, as text 1.
-pub(crate) fn fetch_plan<S: ReasonedShelf>(
+pub fn fetch_plan<S: ReasonedShelf>(
     alloc: Global,
     shelf: &mut S,
     name: &str,

@@ -21,6 +21,7 @@ returns-in-Ok-clause-frame g c =
     record {
       plan_is =
           frame_given (held c.args.name.now) c.in_ok-lines.lines.items c.in-Ok.plan c.in_ok-lines.ensures.bytes
-          (omega (arith, c.if-len-gt-PLAN_LIMIT.false, c.len.ensures)) (rw c.deref.ensures.value at c.in-Ok.ensures.plan);
+          (omega (arith, c.if-len-gt-PLAN_LIMIT.false, c.len.ensures))
+          (rw c.deref.ensures.value at c.in-Ok.ensures.plan);
       no_place = c.in-Ok.ensures.place;
     }

@@ -1,0 +1,14 @@
+-- Why a request isn't done.
+use Rattle.std.specs.Prelude.{ℕ, List, codes}
+use Rattle.rail_text.specs.CauseText.{cause_bytes}
+use Rattle.line_requests.specs.declared.fault.Fault.{Fault}
+use Rattle.line_requests.specs.declared.fault.Fault.TheVariants as faults
+
+-- the words in which a fault is told
+abbrev pub fault_bytes : Fault → List ℕ
+fault_bytes faults.NotJson = codes "not JSON"
+fault_bytes faults.NotRequest = codes "not a request"
+fault_bytes faults.UnknownBox = codes "unknown box"
+fault_bytes faults.UnknownEntry = codes "unknown entry"
+fault_bytes faults.Full = codes "full"
+fault_bytes (faults.Cause cause) = cause_bytes cause

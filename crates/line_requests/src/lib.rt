@@ -1,0 +1,12 @@
+//! What a line of JSON asks a service for, and the answers that tell a fault or a count.
+#![tactic(auto)]
+
+mod answers;
+mod fault;
+mod reading;
+mod request;
+
+pub use answers::{count_text, fault_text};
+pub use fault::{Fault, fault_word};
+pub use reading::{request_in, value_in};
+pub use request::{LINE_LIMIT, Request};

@@ -1,0 +1,131 @@
+-- What a service keeps.
+use Rattle.std.proofs.Common.{◌≡◌, ℕ, ◌+◌, ◌<◌, ◌^◌, List, [], ◌∷◌, ◌++◌, Some, length}
+use Rattle.std.proofs.Common.{◌≤◌, arith, refl, sym, ap, subst, ◌∙◌, drop, get_or, take}
+use Rattle.std.proofs.lemmas.List.{drop_more, length-append, length-take-le, take-append-drop, take_more}
+use Rattle.std.proofs.lemmas.List.Elements.{All-pop}
+use Rattle.line_plan.specs.Plans.{IsPlan, PlanFields}
+use Rattle.line_law.specs.declared.call.Call.{Call}
+use Rattle.line_law.specs.declared.call.Entry.{Entry}
+use Rattle.line_law.specs.declared.call.Reply.{Reply}
+use Rattle.line_law.specs.History.{IsLegal, opened, state_of}
+use Rattle.line_law.specs.Law.{Done, MayCall, step}
+use Rattle.line_law.specs.Lines.{IsLineOf, PlainState}
+use Rattle.line_law.specs.States.{LineState}
+use Rattle.line_law.proofs.Histories.{entry_determined, history_grows, prefix_legal, state_grows}
+use Rattle.line_law.proofs.KeepingLaws.{history_keeps}
+use Rattle.line_report.proofs.Histories.{legal_spelled}
+use Rattle.script_text.specs.Entries.{IsSpelled}
+use Rattle.line_service.specs.Calls.{MayFollow, with_entry}
+use Rattle.line_service.specs.Services.{IsKept, ServiceFields}
+
+-- a service that begins
+pub kept_begins : (plan : PlanFields) (es : List Entry) (plain : PlainState) → es ≡ [] → plain ≡ opened plan
+    → IsKept plan es plain
+kept_begins plan es plain none is = rw none (record { legal = tt; few = omega arith; line = is })
+
+-- its line is one of the plan
+pub kept_line : (plan : PlanFields) (es : List Entry) (plain : PlainState) → IsPlan plan → IsKept plan es plain
+    → IsLineOf plan plain
+kept_line plan es plain is h = rw h.line (history_keeps plan es is h.legal)
+
+-- its history with an entry more that the law allows
+legal_next : (service : ServiceFields) (e : Entry) → IsLegal service.plan service.entries → MayFollow service e
+    → IsLegal service.plan (service.entries ++ e ∷ [])
+legal_next service e legal h =
+    subst (λ (last : Entry). IsLegal service.plan (service.entries ++ last ∷ [])) (sym h.told)
+    (history_grows service.plan service.entries e.box_no e.call legal h.call)
+
+longer : (es : List Entry) (e : Entry) → length (es ++ e ∷ []) ≡ length es + 1
+longer es e = length-append es (e ∷ [])
+
+-- an entry that the law allows there can be printed
+pub spelled_next : (service : ServiceFields) (e : Entry) → IsPlan service.plan
+    → IsLegal service.plan service.entries → MayFollow service e → IsSpelled service.plan e
+spelled_next service e is legal h =
+    let few : length (service.entries ++ e ∷ []) < 10 ^ 10 = omega (arith, longer service.entries e, h.room) in
+    let spelled = legal_spelled service.plan (service.entries ++ e ∷ []) is few (legal_next service e legal h) in
+    (All-pop (IsSpelled service.plan) (service.entries ++ e ∷ []) service.entries (Some e) refl spelled).1
+
+-- a call that may be made by the entries may be made on the line
+pub may_on_line : (plan : PlanFields) (es : List Entry) (plain : PlainState) (b : ℕ) (call : Call)
+    → IsKept plan es plain → MayCall plan (state_of plan es) b call → MayCall plan plain.line b call
+may_on_line plan es plain b call h may = rw h.line may
+
+same_line : (plain : PlainState) (line : LineState) (calls : ℕ) → plain.line ≡ line → plain.calls ≡ calls
+    → plain ≡ record { line = line; calls = calls }
+same_line plain line calls h k = rw (← h, ← k) refl
+
+-- a service keeps what it keeps with an entry more, whose call was performed
+pub kept_next : (service : ServiceFields) (all : List Entry) (e : Entry) (plain new : PlainState) (reply : Reply)
+    → IsKept service.plan service.entries plain → MayFollow service e → all ≡ service.entries ++ e ∷ []
+    → step service.plan plain.line e.box_no e.call ≡ record { reply = reply; after = new.line }
+    → new.calls ≡ plain.calls + 1 → IsKept service.plan all new
+kept_next service all e plain new reply h next is told counted =
+    let line : plain.line ≡ state_of service.plan service.entries = ap (λ (p : PlainState). p.line) h.line in
+    let calls : plain.calls ≡ length service.entries = ap (λ (p : PlainState). p.calls) h.line in
+    let done : new.line ≡ (step service.plan plain.line e.box_no e.call).after =
+    sym (ap (λ (d : Done). d.after) told) in
+    let state : new.line ≡ state_of service.plan (service.entries ++ e ∷ []) =
+    done ∙ ap (λ (s : LineState). (step service.plan s e.box_no e.call).after) line
+    ∙ sym (state_grows service.plan service.entries e) in
+    let count : new.calls ≡ length (service.entries ++ e ∷ []) =
+    omega (arith, counted, calls, longer service.entries e) in
+    rw is
+    (record {
+      legal = legal_next service e h.legal next;
+      few = omega (arith, longer service.entries e, next.room);
+      line = same_line new _ _ state count;
+    })
+
+-- ---- by what a service shows
+
+abbrev shown : PlanFields → List Entry → ServiceFields
+shown plan es = record { plan = plan; entries = es }
+
+-- its line is one of the plan that it shows
+pub seen_line : (plan : PlanFields) (es : List Entry) (plain : PlainState) (service : ServiceFields)
+    → shown plan es ≡ service → IsPlan plan → IsKept plan es plain → IsLineOf service.plan plain
+seen_line plan es plain service e is h =
+    subst (λ (s : ServiceFields). IsLineOf s.plan plain) e (kept_line plan es plain is h)
+
+-- it keeps what it keeps with an entry more that the law allows behind those that it shows
+pub seen_next : (plan : PlanFields) (es all : List Entry) (last : Entry) (plain new : PlainState) (reply : Reply)
+    (service : ServiceFields) → shown plan es ≡ service → IsKept plan es plain → MayFollow service last
+    → all ≡ es ++ last ∷ [] → step plan plain.line last.box_no last.call ≡ record { reply = reply; after = new.line }
+    → new.calls ≡ plain.calls + 1 → IsKept plan all new
+seen_next plan es all last plain new reply service e h next is told counted =
+    kept_next (shown plan es) all last plain new reply h
+    (subst (λ (s : ServiceFields). MayFollow s last) (sym e) next) is told counted
+
+-- ---- a history that is made again
+
+-- the first entries of a legal history are legal
+pub legal_front : (plan : PlanFields) (es : List Entry) (n : ℕ) → IsLegal plan es → IsLegal plan (take n es)
+legal_front plan es n legal =
+    prefix_legal plan (take n es) (drop n es)
+    (subst (λ (all : List Entry). IsLegal plan all) (sym (take-append-drop n es)) legal)
+
+-- the first so many are that many
+pub front_long : (es : List Entry) (n : ℕ) → n ≤ length es → length (take n es) ≡ n
+front_long es n le = length-take-le n es le
+
+-- each entry of a legal history is allowed behind those before it
+pub follows_next : (plan : PlanFields) (es : List Entry) (at : ℕ) (d : Entry) → IsLegal plan es
+    → length es < 2 ^ 32 → at < length es
+    → MayFollow (record { plan = plan; entries = take at es }) (get_or es at d)
+follows_next plan es at d legal few lt =
+    let split : es ≡ take at es ++ get_or es at d ∷ drop (at + 1) es =
+    sym (take-append-drop at es) ∙ ap (λ (rest : List Entry). take at es ++ rest) (drop_more es at d lt) in
+    let there = entry_determined plan (take at es) (drop (at + 1) es) (get_or es at d)
+    (subst (λ (all : List Entry). IsLegal plan all) split legal) in
+    record {
+      call = there.0;
+      told = there.1;
+      room = omega (arith, front_long es at (omega (arith, lt)), lt, few);
+    }
+
+-- with it they are one more
+pub front_next : (plan : PlanFields) (es : List Entry) (at : ℕ) (d : Entry) (service : ServiceFields) → at < length es
+    → service ≡ with_entry (record { plan = plan; entries = take at es }) (get_or es at d)
+    → service ≡ record { plan = plan; entries = take (at + 1) es }
+front_next plan es at d service lt is = is ∙ sym (ap (shown plan) (take_more es at d lt))

@@ -1,0 +1,12 @@
+//! A line that is held for a program of others: each request, a line of JSON, is answered by a line of JSON.
+#![tactic(auto)]
+
+mod answer;
+mod calls;
+mod lists;
+mod moves;
+mod service;
+
+pub use answer::Answer;
+pub use moves::Present;
+pub use service::{MOST_ENTRIES, Service};
