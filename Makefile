@@ -1,7 +1,7 @@
 # The crates whose tests try what no words reach.
 TESTS = $(patsubst crates/%/,%,$(wildcard crates/*_tests/))
 
-.PHONY: demo build cases quick $(TESTS) bench walk soak loaded races faults edge typed sizes look pictures planted contracts test
+.PHONY: demo build cases quick $(TESTS) bench walk served examples soak loaded races faults edge typed sizes look pictures planted contracts test
 
 example = run data/example.plan data/ash.script data/beech.script data/cedar.script
 
@@ -38,6 +38,14 @@ bench:
 # Times `signalbox states` on a made frame of 40 levers beside the same walk in plain Rust, which rustc compiles.
 walk:
 	python3 bench/walk.py crates/signalbox/out/signalbox
+
+# Times `signalbox serve` through a pipe.
+served:
+	python3 bench/serve.py crates/signalbox/out/signalbox
+
+# Works the guide's line by `signalbox serve` from a program in C, in Rust and in Python.
+examples:
+	sh examples/run.sh crates/signalbox/out/signalbox
 
 # Seven that try the programs that `make build`, and `rt run` in crates/signalbox, leave: it works made lines for
 # MINUTES, with bad signalmen; large lines beside busy processes; lines that `signalbox` rehearsed; each allocation is

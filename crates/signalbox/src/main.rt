@@ -2,6 +2,7 @@
 #![tactic(auto)]
 
 use hand_working::{FileStore, InputLines, Terminal};
+use line_serving::RequestLines;
 use rail_text::OutSink;
 use signalbox_top::{ReasonedFiles, Status, signalbox_top};
 use std::alloc::AllocError;
@@ -45,6 +46,7 @@ fn main(rt: HostRuntime) -> ExitCode {
     let mut out = OutSink::new(io::writer(&rt));
     let mut told = OutSink::new(rt.stderr());
     let mut lines = InputLines::new(rt.alloc(), rt.reader());
+    let mut requests = RequestLines::new(rt.reader());
     let mut store = FileStore::new(&rt);
     let status = signalbox_top(
         rt.alloc(),
@@ -52,6 +54,7 @@ fn main(rt: HostRuntime) -> ExitCode {
         terminal(&rt),
         &mut shelf,
         &mut lines,
+        &mut requests,
         &mut store,
         &mut out,
         &mut told,

@@ -4,4 +4,5 @@ pub mod Written
 mod Grown
 mod NamedTexts
 mod Reported
+mod Served
 mod Working

@@ -10,6 +10,7 @@ pub mod MarkedJournals
 pub mod Sheeting
 pub mod Picturing
 pub mod RowReading
+pub mod Serving
 pub mod Statuses
 pub mod Tabling
 pub mod WalkedFrames

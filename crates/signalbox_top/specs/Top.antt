@@ -91,9 +91,9 @@ pub record IsAnswered (held : Held) (wanted : Rehearsing) (text : List ℕ) (sta
 -- ---- any command
 
 -- what is taken, and the status, where a command is done: of a tidying the text under the name with its form mended;
--- of a rehearsal what comes of it; of a frame its picture, the report on its states, or its locking table, and of such a
--- table its rows; of a journal its graph, the picture of the line, what an instructor marks in it, its sheets, or its
--- records; what is taken of a box worked by hand is told by IsHandWorked
+-- of a rehearsal what comes of it; of a frame its picture, the report on its states, or its locking table, and of such
+-- a table its rows; of a journal its graph, the picture of the line, what an instructor marks in it, its sheets, or its
+-- records; what is taken of a box worked by hand is told by IsHandWorked, and of a line that is served by IsServedTo
 abbrev pub Headline : Held → Option Command → Status → Option (List ℕ) → Option (List ℕ) → Type 0
 Headline held None status old new = Unit {0}
 Headline held (Some (Command.Tidy file)) status old new =
@@ -120,6 +120,7 @@ Headline held (Some (Command.Sheet wanted)) status old new =
     (text : List ℕ) × AreSheetsOf held wanted text × (new ≡ appended old text) × (status ≡ statuses.Done)
 Headline held (Some (Command.Picture wanted)) status old new =
     (text : List ℕ) × IsPictureOf held wanted text × (new ≡ appended old text) × (status ≡ statuses.Done)
+Headline held (Some (Command.Serve plan)) status old new = status ≡ statuses.Done
 
 -- nothing was taken, or the front part of a text
 abbrev pub TakesFront : Option (List ℕ) → Option (List ℕ) → Type 0

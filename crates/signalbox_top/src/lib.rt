@@ -12,6 +12,7 @@ mod marking;
 mod picturing;
 mod rehearsing;
 mod row_reading;
+mod serving;
 mod sheeting;
 mod status;
 mod tabling;

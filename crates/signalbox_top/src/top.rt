@@ -3,6 +3,7 @@
 ghost use Rattle.std.specs.Prelude.{◌≡◌, ◌≢◌, ℕ, List, Some};
 ghost use Rattle.signalbox_words.specs.Commands.{Command, Working, bytes_of, shown};
 ghost use Rattle.signalbox_top.specs.Hand.{IsHandWorked};
+ghost use Rattle.signalbox_top.specs.Serving.{IsServedTo};
 ghost use Rattle.signalbox_top.specs.Top.{Headline, TakesFront, asked};
 ghost use Rattle.signalbox_top.specs.Told.{FaultIsTold, TellsWhy};
 
@@ -15,6 +16,7 @@ use crate::marking::serve_mark;
 use crate::picturing::serve_picture;
 use crate::rehearsing::{Wanted, serve_rehearse};
 use crate::row_reading::serve_rows;
+use crate::serving::serve_requests;
 use crate::sheeting::serve_sheet;
 use crate::status::Status;
 use crate::tabling::serve_table;
@@ -22,17 +24,19 @@ use crate::tidying::serve_tidy;
 use crate::walking::{Wanted as WalkWanted, serve_states};
 use explained_texts::ReasonedShelf;
 use hand_working::{LineSource, Store, Terminal};
+use line_serving::RequestSource;
 use rail_text::{NoMemory, Sink};
 use signalbox_words::{SignalboxCommand, Words, read_words};
 use std::alloc::Global;
 
 // Does a command.
-fn serve<S: ReasonedShelf, N: LineSource, W: Store, K: Sink, L: Sink>(
+fn serve<S: ReasonedShelf, N: LineSource, R: RequestSource, W: Store, K: Sink, L: Sink>(
     alloc: Global,
     command: SignalboxCommand<'_>,
     terminal: Terminal,
     shelf: &mut S,
     source: &mut N,
+    requests: &mut R,
     store: &mut W,
     out: &mut K,
     told: &mut L,
@@ -48,6 +52,9 @@ fn serve<S: ReasonedShelf, N: LineSource, W: Store, K: Sink, L: Sink>(
     ensures worked { (wanted : Working) → shown command.entry ≡ Command.Work wanted → result ≢ Status.Failed
         → IsHandWorked (S.held shelf.old) wanted terminal (N.given source.old) (N.given source.new) (K.taken out.old)
         (K.taken out.new) (W.written store.new) }
+    ensures served { (plan : List ℕ) → shown command.entry ≡ Command.Serve plan → result ≢ Status.Failed
+        → IsServedTo (S.held shelf.old) plan (R.given requests.old) (R.given requests.new) (K.taken out.old)
+        (K.taken out.new) }
     ensures same { (n : List ℕ) → S.held shelf.new n ≡ S.held shelf.old n }
 {
     match command {
@@ -89,6 +96,9 @@ fn serve<S: ReasonedShelf, N: LineSource, W: Store, K: Sink, L: Sink>(
             box_name,
         } => serve_table(alloc, html, plan, box_name, shelf, out, told),
         SignalboxCommand::Rows { file } => serve_rows(alloc, file, shelf, out, told),
+        SignalboxCommand::Serve { plan } => {
+            serve_requests(alloc, plan, shelf, requests, out, told)
+        }
         SignalboxCommand::Rehearse {
             to_refusal,
             as_journal,
@@ -141,16 +151,18 @@ fn serve<S: ReasonedShelf, N: LineSource, W: Store, K: Sink, L: Sink>(
 /// they are echoed; with `--hint` it is told what is due; with `--screen` the box is drawn anew behind each line that
 /// is typed; with `--plain` a terminal's colours aren't shown; with `--journal FILE` and `--script FILE` the journal
 /// and his calls are written to `store`. His prompts go to `told`.
+/// `serve PLAN` holds the line of that plan for another program: each line of `requests` is answered by one line.
 /// `frame PLAN BOX` puts a picture of the lever frame of that box, and `graph PLAN OUTPUT` one of a legal journal: its
 /// train graph. `picture PLAN OUTPUT [ENTRY]` puts a picture of the line as it stands after that entry of a legal
-/// journal. `json PLAN OUTPUT` puts a record of each entry of a legal journal for other programs: a JSON object a
-/// line, and with `--csv` rows of commas. `states PLAN BOX` puts a report on the states of the lever frame of that box:
-/// with `--limit N` at most N states are kept; with `--reach L..` and `--never L..` it is told how these levers can be
-/// reversed together. `mark PLAN OUTPUT [BOX]` puts what an instructor would mark in a legal journal, and with
-/// `--within M` late answers too. `sheet PLAN OUTPUT [BOX]` puts the train register of a legal journal as sheets.
-/// `table PLAN BOX` puts the locking table of that box, and `rows FILE` the rows of such a text, as lines of a plan.
-/// With `--html` sheets and tables are one page for a browser. `states` and `table` take `frame-only FILE` in the place of
-/// `PLAN BOX`, a frame by itself.
+/// journal, and with `--film` a page that steps through the entries up to that one. `json PLAN OUTPUT` puts a record
+/// of each entry of a legal journal for other programs: a JSON object a line, and with `--csv` rows of commas.
+/// `states PLAN BOX` puts a report on the states of the lever frame of that box: with `--limit N` at most N states
+/// are kept; with `--reach L..` and `--never L..` it is told how these levers can be reversed together. `mark PLAN
+/// OUTPUT [BOX]` puts what an instructor would mark in a legal journal, and with `--within M` late answers too.
+/// `sheet PLAN OUTPUT [BOX]` puts the train register of a legal journal as sheets. `table PLAN BOX` puts the locking
+/// table of that box, and `rows FILE` the rows of such a text, as lines of a plan. With `--html` sheets and tables
+/// are one page for a browser. `states` and `table` take `frame-only FILE` in the place of `PLAN BOX`, a frame by
+/// itself.
 /// `--help`, `help COMMAND` and `--version` put what they ask for, as results.
 ///
 /// - `Done`: it is done, and nothing was found.
@@ -159,12 +171,13 @@ fn serve<S: ReasonedShelf, N: LineSource, W: Store, K: Sink, L: Sink>(
 /// - `Failed`: it could not be done. Of the results nothing was taken, or a front part where the sink failed; a line
 ///   tells why, unless that sink failed too. A text that is refused is explained, with the line and the cause for which
 ///   `box_main` refuses it.
-pub fn signalbox_top<S: ReasonedShelf, N: LineSource, W: Store, K: Sink, L: Sink>(
+pub fn signalbox_top<S: ReasonedShelf, N: LineSource, R: RequestSource, W: Store, K: Sink, L: Sink>(
     alloc: Global,
     words: &[String],
     terminal: Terminal,
     shelf: &mut S,
     source: &mut N,
+    requests: &mut R,
     store: &mut W,
     out: &mut K,
     told: &mut L,
@@ -180,11 +193,14 @@ pub fn signalbox_top<S: ReasonedShelf, N: LineSource, W: Store, K: Sink, L: Sink
     ensures worked { (wanted : Working) → asked (bytes_of words.now) ≡ Some (Command.Work wanted)
         → result ≢ Status.Failed → IsHandWorked (S.held shelf.old) wanted terminal (N.given source.old)
         (N.given source.new) (K.taken out.old) (K.taken out.new) (W.written store.new) }
+    ensures served { (plan : List ℕ) → asked (bytes_of words.now) ≡ Some (Command.Serve plan)
+        → result ≢ Status.Failed → IsServedTo (S.held shelf.old) plan (R.given requests.old) (R.given requests.new)
+        (K.taken out.old) (K.taken out.new) }
     ensures same { (n : List ℕ) → S.held shelf.new n ≡ S.held shelf.old n }
 {
     match read_words(alloc, words) {
         Ok(Words::Command(command)) => serve(
-            alloc, command, terminal, shelf, source, store, out, told,
+            alloc, command, terminal, shelf, source, requests, store, out, told,
         ),
         Ok(Words::Shown(text)) => put_result(out, told, text.as_bytes(), Status::Done),
         Ok(Words::Wrong(text)) => tell(told, text.as_str()),

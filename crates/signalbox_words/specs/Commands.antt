@@ -60,9 +60,10 @@ pub record SheetWanted : Type 0 where
   pub output : List ℕ
   pub box_name : Option (List ℕ)
 
--- What is wanted of a picture of the line: the names of the plan and of the journal, and the number of the entry after
--- which the line is drawn, as it was written, if there is one.
+-- What is wanted of a picture of the line: whether it is a film; the names of the plan and of the journal, and the
+-- number of the entry after which the line is drawn, as it was written, if there is one.
 pub record PictureWanted : Type 0 where
+  pub film : Bool
   pub plan : List ℕ
   pub output : List ℕ
   pub number : Option (List ℕ)
@@ -72,8 +73,8 @@ pub record PictureWanted : Type 0 where
 -- names; Graph: the train graph of a journal is drawn, a plan and the journal by their names; States: the states
 -- of a lever frame are walked; Mark: a journal is marked; Sheet: the train register is printed as a sheet; Picture: the
 -- line is drawn; Table: the locking table of a box is printed, as a page for a browser or not, a plan and a box by their
--- names; Rows: the rows of a locking table are printed for a plan; Json: a journal is printed for other programs, as CSV
--- or not, a plan and the journal by their names.
+-- names; Rows: the rows of a locking table are printed for a plan; Json: a journal is printed for other programs, as
+-- CSV or not, a plan and the journal by their names; Serve: the line of a plan is held for another program.
 pub data Command : Type 0 where
   Tidy : List ℕ → Command
   Rehearse : Rehearsing → Command
@@ -87,6 +88,7 @@ pub data Command : Type 0 where
   Table : Bool → List ℕ → List ℕ → Command
   Rows : List ℕ → Command
   Json : Bool → List ℕ → List ℕ → Command
+  Serve : List ℕ → Command
 
 -- the words of `mark`, as their bytes
 abbrev pub mark_shown : MarkWords → MarkWanted
@@ -109,6 +111,7 @@ sheet_shown given = record {
 -- the words of `picture`, as their bytes
 abbrev pub picture_shown : PictureWords → PictureWanted
 picture_shown given = record {
+  film = given.film;
   plan = given.plan.now;
   output = given.output.now;
   number = option_map (λ word. word.now) given.number;
@@ -151,6 +154,7 @@ shown (commands.Picture given) = Command.Picture (picture_shown given)
 shown (commands.Table html plan box_name) = Command.Table html plan.now box_name.now
 shown (commands.Rows file) = Command.Rows file.now
 shown (commands.Json csv plan output) = Command.Json csv plan.now output.now
+shown (commands.Serve plan) = Command.Serve plan.now
 
 -- words as their bytes
 abbrev pub bytes_of : List (String Global) → List Text
@@ -287,12 +291,13 @@ sheet_read rows =
 abbrev pub picture_with : List Row → Text × Text → Command
 picture_with rows names =
     Command.Picture (record {
+      film = is_given (first_of (codes "film") rows);
       plan = names.0;
       output = names.1;
       number = first_of (codes "entry") rows;
     })
 
--- `picture PLAN OUTPUT [ENTRY]`
+-- `picture [--film] PLAN OUTPUT [ENTRY]`
 abbrev pub picture_read : List Row → Option Command
 picture_read rows =
     option_map (picture_with rows) (two_names (first_of (codes "plan") rows) (first_of (codes "output") rows))
@@ -324,6 +329,7 @@ command_read name rows =
     else if bytes_eq name (codes "table") then table_read rows
     else if bytes_eq name (codes "rows") then option_map Command.Rows (first_of (codes "file") rows)
     else if bytes_eq name (codes "json") then json_read rows
+    else if bytes_eq name (codes "serve") then option_map Command.Serve (first_of (codes "plan") rows)
     else None
 
 -- the command of these words, as clap reads them by the table of commands

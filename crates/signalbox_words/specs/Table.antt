@@ -141,8 +141,12 @@ abbrev pub picture_form : App
 picture_form = with_rule (planned_form (codes "picture")) (required_argument (codes "output"))
 
 -- `picture PLAN OUTPUT [ENTRY]`
+abbrev pub picture_entry_form : App
+picture_entry_form = with_rule picture_form (optional_argument (codes "entry"))
+
+-- `picture [--film] PLAN OUTPUT [ENTRY]`
 abbrev pub picture_command : App
-picture_command = with_rule picture_form (optional_argument (codes "entry"))
+picture_command = with_rule picture_entry_form (flag (codes "film"))
 
 -- `table PLAN BOX`
 abbrev pub table_form : App
@@ -163,6 +167,10 @@ json_form = with_rule (planned_form (codes "json")) (required_argument (codes "o
 -- `json [--csv] PLAN OUTPUT`
 abbrev pub json_command : App
 json_command = with_rule json_form (flag (codes "csv"))
+
+-- `serve PLAN`
+abbrev pub serve_command : App
+serve_command = planned_form (codes "serve")
 
 -- the program with no command; clap is given its words without its own name in front
 abbrev pub bare_program : App
@@ -195,9 +203,9 @@ frame_program = with_subcommand register_program states_command.top
 abbrev pub table_program : App
 table_program = with_subcommand (with_subcommand frame_program table_command.top) rows_command.top
 
--- the same with the one for other programs
+-- the same with those for other programs
 abbrev pub listed_program : App
-listed_program = with_subcommand table_program json_command.top
+listed_program = with_subcommand (with_subcommand table_program json_command.top) serve_command.top
 
 -- the program with all its commands
 abbrev pub program : App

@@ -43,6 +43,8 @@ pub struct SheetWords<'a> {
 /// The words of `picture`.
 #[derive(Clone, Copy, Debug)]
 pub struct PictureWords<'a> {
+    /// It is a film: a page for a browser that steps through the entries.
+    pub film: bool,
     pub plan: &'a str,
     /// What `run` printed, or its journal.
     pub output: &'a str,
@@ -113,7 +115,7 @@ pub enum SignalboxCommand<'a> {
     Mark(MarkWords<'a>),
     /// `sheet [--html] PLAN OUTPUT [BOX]`: the train register of each box is printed as a sheet.
     Sheet(SheetWords<'a>),
-    /// `picture PLAN OUTPUT [ENTRY]`: the line is drawn as it stands after an entry.
+    /// `picture [--film] PLAN OUTPUT [ENTRY]`: the line is drawn as it stands after an entry.
     Picture(PictureWords<'a>),
     /// `table [--html] PLAN BOX`: the locking table of a box is printed, a line for each lever.
     Table {
@@ -134,6 +136,10 @@ pub enum SignalboxCommand<'a> {
         plan: &'a str,
         /// What `run` printed, or its journal.
         output: &'a str,
+    },
+    /// `serve PLAN`: the line of a plan is held for another program, whose requests are answered.
+    Serve {
+        plan: &'a str,
     },
 }
 
@@ -388,14 +394,16 @@ fn read_sheet<'a>(found: &ArgMatches<'a>) -> Option<SignalboxCommand<'a>>
     }))
 }
 
-// The plan, the journal and the entry of `picture`.
+// The flag, the plan, the journal and the entry of `picture`.
 #[tactic(auto, using(crate::proofs::MatchRules::match_rules))]
 fn read_picture<'a>(found: &ArgMatches<'a>) -> Option<SignalboxCommand<'a>>
     ensures { option_map shown result ≡ picture_read (rows_of (found_of found.now)) }
 {
     let (plan, output) = read_two(found, "output")?;
     let number = found.get_str("entry");
+    let film = has_flag(found, "film");
     Some(SignalboxCommand::Picture(PictureWords {
+        film,
         plan,
         output,
         number,
@@ -434,6 +442,16 @@ fn read_json<'a>(found: &ArgMatches<'a>) -> Option<SignalboxCommand<'a>>
     Some(SignalboxCommand::Json { csv, plan, output })
 }
 
+// The plan of `serve`.
+#[tactic(auto, using(crate::proofs::MatchRules::match_rules))]
+fn read_serve<'a>(found: &ArgMatches<'a>) -> Option<SignalboxCommand<'a>>
+    ensures { option_map shown result
+        ≡ option_map Command.Serve (first_of (codes "plan") (rows_of (found_of found.now))) }
+{
+    let plan = found.get_str("plan")?;
+    Some(SignalboxCommand::Serve { plan })
+}
+
 // A command, by its name and what clap found.
 fn read_command<'a>(
     alloc: Global,
@@ -456,6 +474,7 @@ fn read_command<'a>(
         "table" => Ok(read_table(found)),
         "rows" => Ok(read_rows(found)),
         "json" => Ok(read_json(found)),
+        "serve" => Ok(read_serve(found)),
         _ => Ok(None),
     }
 }

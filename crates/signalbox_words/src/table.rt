@@ -8,12 +8,12 @@ ghost use Rattle.signalbox_words.specs.Table.{frame_command, frame_program, grap
 ghost use Rattle.signalbox_words.specs.Table.{journal_form, json_command, json_form, limit_form, line_form};
 ghost use Rattle.signalbox_words.specs.Table.{line_program, list_option, listed_program, mark_command};
 ghost use Rattle.signalbox_words.specs.Table.{marked_box_form, marked_form, never_form, optional_argument};
-ghost use Rattle.signalbox_words.specs.Table.{picture_command, picture_form, picture_program, plain_form};
-ghost use Rattle.signalbox_words.specs.Table.{plan_form, planned_form, program, register_program};
+ghost use Rattle.signalbox_words.specs.Table.{picture_command, picture_entry_form, picture_form, picture_program};
+ghost use Rattle.signalbox_words.specs.Table.{plain_form, plan_form, planned_form, program, register_program};
 ghost use Rattle.signalbox_words.specs.Table.{rehearse_command, repeated_argument, required_argument};
-ghost use Rattle.signalbox_words.specs.Table.{rows_command, screen_form, sheet_box_form, sheet_command, sheet_form};
-ghost use Rattle.signalbox_words.specs.Table.{states_command, table_command, table_form, table_program, tidy_command};
-ghost use Rattle.signalbox_words.specs.Table.{to_refusal_form, value_option, walked_form, work_command};
+ghost use Rattle.signalbox_words.specs.Table.{rows_command, screen_form, serve_command, sheet_box_form, sheet_command};
+ghost use Rattle.signalbox_words.specs.Table.{sheet_form, states_command, table_command, table_form, table_program};
+ghost use Rattle.signalbox_words.specs.Table.{tidy_command, to_refusal_form, value_option, walked_form, work_command};
 
 use clap::{Arg, ArgAction, Command};
 use std::alloc::{AllocError, Global};
@@ -145,10 +145,14 @@ const PICTURE_AFTER: &str = "\
 Each box with its places, signals, levers and trains, and between the boxes the instruments, the bells and the trains
 on the plain line.
 
-    signalbox picture valley.plan day.journal 14 > line.svg";
+    signalbox picture valley.plan day.journal 14 > line.svg
+    signalbox picture --film valley.plan day.journal > day.html";
 
 const ENTRY_HELP: &str =
     "The number of the entry after which the line is drawn, the last if it isn't given";
+
+const FILM_HELP: &str =
+    "Prints one page for a browser that steps through the entries up to that one";
 
 const TABLE_ABOUT: &str = "Prints the locking table of a box, a line for each lever";
 
@@ -174,6 +178,14 @@ The objects are told in docs/EMBEDDING.md.
     signalbox json --csv valley.plan day.journal > day.csv";
 
 const CSV_HELP: &str = "Prints CSV, with a head line";
+
+const SERVE_ABOUT: &str = "Holds the line of a plan for another program, by lines of JSON";
+
+const SERVE_AFTER: &str = "\
+Each line of standard input is a request, an object; each is answered by one line on standard output, at once. They are
+told in docs/EMBEDDING.md.
+
+    echo '{\"box\":\"Oak\",\"at\":\"09:02\",\"call\":\"ring down 3-1\"}' | signalbox serve valley.plan";
 
 // An argument that is required.
 fn required_argument<'a>(alloc: Global, id: &'a str, name: &'a str, help: &'a str) -> Arg<'a>
@@ -482,11 +494,19 @@ fn picture_form<'a>(alloc: Global) -> Result<Command<'a>, AllocError>
 }
 
 // `picture PLAN OUTPUT [ENTRY]`
+fn picture_entry_form<'a>(alloc: Global) -> Result<Command<'a>, AllocError>
+    ensures shape { IfOk result (λ c. app_of c ≡ picture_entry_form) }
+    ensures own { IfOk result (λ c. (out-Command c).has_globals ≡ false) }
+{
+    picture_form(alloc)?.arg(optional_argument(alloc, "entry", "ENTRY", ENTRY_HELP))
+}
+
+// `picture [--film] PLAN OUTPUT [ENTRY]`
 fn picture_command<'a>(alloc: Global) -> Result<Command<'a>, AllocError>
     ensures shape { IfOk result (λ c. app_of c ≡ picture_command) }
     ensures own { IfOk result (λ c. (out-Command c).has_globals ≡ false) }
 {
-    picture_form(alloc)?.arg(optional_argument(alloc, "entry", "ENTRY", ENTRY_HELP))
+    picture_entry_form(alloc)?.arg(flag(alloc, "film", FILM_HELP))
 }
 
 // `table PLAN BOX`
@@ -545,6 +565,14 @@ fn json_command<'a>(alloc: Global) -> Result<Command<'a>, AllocError>
     ensures own { IfOk result (λ c. (out-Command c).has_globals ≡ false) }
 {
     json_form(alloc)?.arg(flag(alloc, "csv", CSV_HELP))
+}
+
+// `serve PLAN`
+fn serve_command<'a>(alloc: Global) -> Result<Command<'a>, AllocError>
+    ensures shape { IfOk result (λ c. app_of c ≡ serve_command) }
+    ensures own { IfOk result (λ c. (out-Command c).has_globals ≡ false) }
+{
+    planned_form(alloc, "serve", SERVE_ABOUT, SERVE_AFTER)
 }
 
 // `tidy FILE`
@@ -618,12 +646,13 @@ fn table_program<'a>(alloc: Global) -> Result<Command<'a>, AllocError>
     frame_program(alloc)?.subcommand(table)?.subcommand(rows)
 }
 
-// The same with the one for other programs.
+// The same with those for other programs.
 fn listed_program<'a>(alloc: Global) -> Result<Command<'a>, AllocError>
     ensures { IfOk result (λ c. app_of c ≡ listed_program) }
 {
     let json = json_command(alloc)?;
-    table_program(alloc)?.subcommand(json)
+    let serve = serve_command(alloc)?;
+    table_program(alloc)?.subcommand(json)?.subcommand(serve)
 }
 
 /// The program with all its commands.

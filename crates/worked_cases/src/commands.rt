@@ -4,6 +4,7 @@ use crate::case_shelf::CaseShelf;
 use crate::case_store::CaseStore;
 use crate::worked_case::Answer;
 use hand_working::{InputLines, Terminal};
+use line_serving::RequestLines;
 use rail_text::{MemSink, NoMemory};
 use signalbox_top::signalbox_top;
 use std::alloc::Global;
@@ -40,6 +41,7 @@ pub fn work_command(
     let typed = text_named(alloc, &texts, TYPED)?;
     let mut shelf = CaseShelf::new(alloc, texts);
     let mut lines = InputLines::new(alloc, typed.as_slice());
+    let mut requests = RequestLines::new(typed.as_slice());
     let mut store = CaseStore::new(alloc);
     let mut out = MemSink::new(alloc, ROOM, ROOM, Vec::new(alloc))?;
     let mut told = MemSink::new(alloc, ROOM, ROOM, Vec::new(alloc))?;
@@ -49,6 +51,7 @@ pub fn work_command(
         NO_TERMINAL,
         &mut shelf,
         &mut lines,
+        &mut requests,
         &mut store,
         &mut out,
         &mut told,

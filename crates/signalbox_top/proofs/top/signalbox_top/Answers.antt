@@ -37,3 +37,9 @@ returns-in-Ok-Command-clause-worked g c =
     λ wanted asks done. c.serve.ensures.worked wanted
     (asked_is (bytes_of c.args.words.now) (shown c.in-Ok-Command.command) (Command.Work wanted) (search rules) asks)
     done
+
+pub returns-in-Ok-Command-clause-served : goal.returns-in-Ok-Command-clause-served
+returns-in-Ok-Command-clause-served g c =
+    λ plan asks done. c.serve.ensures.served plan
+    (asked_is (bytes_of c.args.words.now) (shown c.in-Ok-Command.command) (Command.Serve plan) (search rules) asks)
+    done
