@@ -86,6 +86,8 @@ pictures:
 	crates/signalbox/out/signalbox frame $(people)/frame_of_oak/valley.plan Oak > docs/pictures/oak_frame.svg
 	crates/signalbox/out/signalbox graph $(people)/graph_guide_line/valley.plan $(people)/graph_guide_line/day.journal \
 		> docs/pictures/valley_graph.svg
+	cd $(people)/picture_guide_line_in_the_middle && $(CURDIR)/crates/signalbox/out/signalbox picture valley.plan day.journal 22 \
+		> $(CURDIR)/docs/pictures/valley_line.svg
 
 # Tries the wrong bodies of hostile/planted.txt, which the contracts must refuse, on a copy. It needs the libraries,
 # and some half a minute of a processor for each edit.

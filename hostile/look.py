@@ -30,6 +30,7 @@ PACKAGES = {"xmllint": "libxml2-utils", "rsvg-convert": "librsvg2-bin", "chromiu
 PEOPLE = os.path.join(TOP, "crates", "worked_cases", "data", "people")
 VALLEY = os.path.join(PEOPLE, "frame_of_oak", "valley.plan")
 GRAPHED = os.path.join(PEOPLE, "graph_guide_line")
+DRAWN = os.path.join(PEOPLE, "picture_guide_line_in_the_middle")
 LINE = os.path.join(TOP, "crates", "box_main", "data")
 EXAMPLE = os.path.join(LINE, "example.plan")
 REFUSED = os.path.join(PEOPLE, "sheet_refusals")
@@ -58,6 +59,7 @@ PRESS = "<script>%s.forEach(function(k){document.dispatchEvent(new KeyboardEvent
 SHOWN = [
     ("oak_frame.svg", ["frame", VALLEY, "Oak"]),
     ("valley_graph.svg", ["graph", f"{GRAPHED}/valley.plan", f"{GRAPHED}/day.journal"]),
+    ("valley_line.svg", ["picture", f"{DRAWN}/valley.plan", f"{DRAWN}/day.journal", "22"]),
 ]
 
 
