@@ -6,8 +6,8 @@ box with as many levers and rows as a box may have are drawn; and the train grap
 and of a line of 64 boxes. Each file is taken by xmllint, rsvg-convert and headless Chromium; whichever of these is
 missing is installed from Debian's packages. A PNG of each, as each of the two drew it, is left in FOLDER (a new one
 where none is given) to be looked at. The pictures of docs/pictures/ have to be those that are drawn now. The pages of a
-sheet, a locking table and two films are taken by xmllint and Chromium, which steps through the films by their keys: what
-it shows after an entry has to be what `picture` draws after it. What isn't so is told, and the exit status is then 1.
+sheet, a locking table and two films are taken by xmllint and Chromium, which steps through the films by their keys:
+what it shows after an entry has to be what `picture` draws after it. What isn't so is told, and the exit status is 1.
 """
 
 import os
@@ -54,7 +54,8 @@ PRESSED = [
     (["ArrowRight"] * 20 + ["ArrowLeft"] * 6, lambda last: 14),
 ]
 # Presses keys when the page is there.
-PRESS = "<script>%s.forEach(function(k){document.dispatchEvent(new KeyboardEvent('keydown',{key:k,cancelable:true}));});</script>"
+PRESS = ("<script>%s.forEach(function(k){"
+         "document.dispatchEvent(new KeyboardEvent('keydown',{key:k,cancelable:true}));});</script>")
 # The pictures of the documents: file, and the words that draw it.
 SHOWN = [
     ("oak_frame.svg", ["frame", VALLEY, "Oak"]),
@@ -154,7 +155,8 @@ class Looker:
         page = self.draw(["picture", "--film", plan, journal])
         self.look_page(name, page, "#14")
         played = film.Film(page.decode())
-        pictures = [self.draw(["picture", plan, journal, str(number + 1)]).decode() for number in range(len(played.frames))]
+        numbers = range(1, len(played.frames) + 1)
+        pictures = [self.draw(["picture", plan, journal, str(number)]).decode() for number in numbers]
         for fault in played.faults(pictures):
             self.tell(name, fault)
         states = [{at: film.as_shown(drawn) for at, drawn in state.items()} for state in played.states()]
