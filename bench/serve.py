@@ -1,8 +1,8 @@
 #!/usr/bin/env python3
 """Times `signalbox serve` through a pipe: serve.py PROGRAM [ROUNDS].
 
-Two boxes ring a code to one another and hear it, 100,000 calls. In each of ROUNDS (5) all requests are written while the
-answers are read; and then 10,000 are asked one at a time, each when the answer before it is there. The lines have the
+Two boxes ring a code to one another and hear it, 100,000 calls. In each of ROUNDS (5) all requests are written while
+the answers are read; and then 10,000 are asked one at a time, each when the answer before it is there. The lines have the
 median seconds, and of the first the most memory and the processor's time for each call."""
 
 import os

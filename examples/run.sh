@@ -1,5 +1,6 @@
 #!/bin/sh
-# Each example works the guide's line by `signalbox serve`, and has to print its journal, byte for byte: run.sh SIGNALBOX
+# Each example works the guide's line by `signalbox serve`, and has to print its journal, byte for byte:
+# run.sh SIGNALBOX
 set -e
 signalbox=$(realpath "$1")
 cd "$(dirname "$0")"

@@ -1,7 +1,7 @@
 /* Works a line by `signalbox serve`: serve SIGNALBOX PLAN JOURNAL
 
-   It asks for the calls of a journal, one after another, and prints the journal that comes of them; docs/EMBEDDING.md has
-   the requests and the answers. A program of more than a page takes a reader of JSON in the place of `text_at`. */
+   It asks for the calls of a journal, one after another, and prints the journal that comes of them; docs/EMBEDDING.md
+   has the requests and the answers. A program of more than a page takes a reader of JSON in the place of `text_at`. */
 
 #include <stdio.h>
 #include <stdlib.h>

@@ -1,8 +1,8 @@
 //! Works a line by `signalbox serve`: serve SIGNALBOX PLAN JOURNAL
 //!
 //! It asks for the calls of a journal, one after another, and prints the journal that comes of them; docs/EMBEDDING.md
-//! has the requests and the answers. A program of more than a page takes a reader of JSON (`serde_json`) in the place of
-//! `text_at`.
+//! has the requests and the answers. A program of more than a page takes a reader of JSON (`serde_json`) in the place
+//! of `text_at`.
 
 use std::env;
 use std::fs;
