@@ -1,7 +1,6 @@
 //! The levers and places of a box, as text.
 
 ghost use Rattle.std.specs.Prelude.{◌≡◌, ◌≤◌, ◌^◌, ◌++◌, All, IfSome, IsTrue, OnOk, length, option_map, string_bytes};
-ghost use Rattle.line_law.specs.LeverEnds.{is_off, is_pulled};
 ghost use Rattle.line_plan.specs.Plans.{is_train};
 ghost use Rattle.box_view.specs.Look.{arm_text, arm_word, end_word, frame_text, last_text, leading_text, lever_line};
 ghost use Rattle.box_view.specs.Look.{lever_lines, place_line, starter_text};
@@ -9,9 +8,8 @@ ghost use Rattle.box_view.specs.Look.{place_lines, place_name, signal_text, stan
 
 use crate::words::{put_four, put_three};
 use block_words::Way;
-use line_law::BoxState;
+use line_law::{BoxState, is_off, is_pulled};
 use line_plan::{BoxPlan, Kind, Lever, Plan, Signal, To, kind_word, way_word};
-use locking_table::End;
 use rail_text::Names;
 use script_text::put_number;
 use std::alloc::AllocError;
@@ -29,28 +27,6 @@ fn place_name(names: &Names, place: u32) -> &str
 }
 
 // ---- levers
-
-// Whether a lever is reversed.
-#[tactic(auto, using(crate::proofs::Named::name_rules))]
-fn is_pulled(ends: &[End], lever: u32) -> bool
-    ensures { result ≡ is_pulled ends.now lever }
-{
-    match ends.get(lever.saturating_sub(1) as usize) {
-        Some(end) => *end == End::Reversed,
-        None => false,
-    }
-}
-
-/// Whether a lever's arm is off.
-#[tactic(auto, using(crate::proofs::Named::name_rules))]
-pub fn is_off(off: &[bool], lever: u32) -> bool
-    ensures { result ≡ is_off off.now lever }
-{
-    match off.get(lever.saturating_sub(1) as usize) {
-        Some(is_off) => *is_off,
-        None => false,
-    }
-}
 
 // Puts a signal that leads from a place to another behind a text.
 fn put_leading(out: &mut String, from: &str, to: &str) -> Result<(), AllocError>

@@ -20,7 +20,6 @@ mod words;
 pub use answer::put_answer;
 pub use block_look::{first_coming, unheard_from};
 pub use codes::put_codes;
-pub use frame_look::is_off;
 pub use listener::listener_of;
 pub use look::put_look;
 pub use may::put_may;

@@ -12,8 +12,8 @@ ghost use Rattle.due_hints.specs.Hints.{train_dues, waits_at, waits_at_starter};
 use crate::hint::Hint;
 use bell_codes::{CodeNo, TRAIN_ENTERING_SECTION};
 use block_words::{Position, Way, WelwynState};
-use box_view::{first_coming, is_off, unheard_from};
-use line_law::{BoxState, Control, Incoming, Passage, Plain, knows_berth, knows_side};
+use box_view::{first_coming, unheard_from};
+use line_law::{BoxState, Control, Incoming, Passage, Plain, is_off, knows_berth, knows_side};
 use line_plan::{Berth, BoxPlan, Plan, Signal};
 use reg_audit::{BellEntry, BellKind, SideMarks, is_class_code};
 

@@ -21,12 +21,12 @@ pub fn first_of(alloc: Global, plan: &Plan, diagrams: &[Diagram]) -> Result<Item
     ensures { IfOk result (λ first. first ≡ all_from 0 (things_of plan.now (state_of plan.now []))) }
 {
     let line = Plain::open(alloc, plan)?;
-    let things = things_of(alloc, plan, diagrams, &line, &[])?;
+    let things = things_of(alloc, plan, diagrams, &line)?;
     all_of(alloc, &things)
 }
 
 // Performs the call of an entry of a legal journal, and tells what is seen then.
-#[tactic(auto, using(line_picture::proofs::Front::legal_front))]
+#[tactic(auto, using(line_law::proofs::Histories::legal_front))]
 fn seen_next(
     alloc: Global,
     plan: &Plan,
@@ -50,7 +50,7 @@ fn seen_next(
     plan.meets_conditions();
     let entry = &entries[at];
     line.perform(plan, entry.box_no, &entry.call);
-    things_of(alloc, plan, diagrams, line, &entries[..at + 1])
+    things_of(alloc, plan, diagrams, line)
 }
 
 /// What each entry of a legal journal changes of what is seen.
@@ -67,7 +67,7 @@ pub fn frames_of(
 {
     let mut frames = Vec::new(alloc);
     let mut line = Plain::open(alloc, plan)?;
-    let mut before = things_of(alloc, plan, diagrams, &line, &[])?;
+    let mut before = things_of(alloc, plan, diagrams, &line)?;
     for at in 0..entries.len() {
         let after = seen_next(alloc, plan, diagrams, &mut line, entries, at)?;
         frames.push(changes_of(alloc, &before, &after)?)?;

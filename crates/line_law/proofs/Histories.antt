@@ -1,5 +1,7 @@
 -- Legal histories: how they grow, their prefixes, and the runs that make them.
-use Rattle.std.proofs.Common.{◌≡◌, ℕ, ◌+◌, List, [], ◌∷◌, ◌++◌, length, map, refl, sym, ap, subst, ◌∙◌, arith}
+use Rattle.std.proofs.Common.{◌≡◌, ℕ, ◌+◌, List, [], ◌∷◌, ◌++◌, length, map, take, drop, refl, sym, ap, subst, ◌∙◌}
+use Rattle.std.proofs.Common.{arith}
+use Rattle.std.proofs.lemmas.List.{take-append-drop}
 use Rattle.line_plan.specs.Plans.{PlanFields}
 use Rattle.line_law.specs.declared.call.Call.{Call}
 use Rattle.line_law.specs.declared.call.Entry.{Entry}
@@ -82,6 +84,12 @@ state_grows plan es e = state_both plan (opening_state plan) es (e ∷ [])
 -- each beginning of a legal history is legal
 pub prefix_legal : (plan : PlanFields) (es more : List Entry) → IsLegal plan (es ++ more) → IsLegal plan es
 prefix_legal plan es more h = legal_first plan (opening_state plan) es more h
+
+-- the first entries of a legal history are legal
+pub legal_front : (plan : PlanFields) (es : List Entry) (n : ℕ) → IsLegal plan es → IsLegal plan (take n es)
+legal_front plan es n legal =
+    prefix_legal plan (take n es) (drop n es)
+    (subst (λ (all : List Entry). IsLegal plan all) (sym (take-append-drop n es)) legal)
 
 -- each entry of a legal history is a call that might be made there, with the reply of the law
 pub entry_determined : (plan : PlanFields) (es more : List Entry) (e : Entry) → IsLegal plan (es ++ e ∷ more)

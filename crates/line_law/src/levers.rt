@@ -9,7 +9,7 @@ ghost use Rattle.line_law.specs.declared.state.BoxState.{BoxState};
 ghost use Rattle.line_law.specs.declared.state.PairState.{PairState};
 ghost use Rattle.line_law.specs.Decisions.{Here, on_pair, or_later};
 ghost use Rattle.line_law.specs.Law.{at_moment};
-ghost use Rattle.line_law.specs.LeverEnds.{first_reversed};
+ghost use Rattle.line_law.specs.LeverEnds.{first_reversed, is_off, is_pulled};
 ghost use Rattle.line_law.specs.Levers.{is_unspent_clear, lever_link, lock_refusal, pull, pull_refusal, pulled};
 ghost use Rattle.line_law.specs.Levers.{pulled_under, put, put_back, put_refusal, starter_way};
 ghost use Rattle.line_law.specs.Lines.{HasFrame, RowsHold};
@@ -22,6 +22,26 @@ use crate::tracks::first_standing;
 use block_words::{Position, Way};
 use line_plan::{BoxPlan, Kind, Signal, To};
 use locking_table::{End, Holder, end_of};
+
+/// Whether a lever is reversed; one that there isn't is not.
+pub fn is_pulled(ends: &[End], lever: u32) -> bool
+    ensures { result ≡ is_pulled ends.now lever }
+{
+    match ends.get(lever.saturating_sub(1) as usize) {
+        Some(end) => *end == End::Reversed,
+        None => false,
+    }
+}
+
+/// Whether a lever's arm is off; of one that there isn't it is not.
+pub fn is_off(off: &[bool], lever: u32) -> bool
+    ensures { result ≡ is_off off.now lever }
+{
+    match off.get(lever.saturating_sub(1) as usize) {
+        Some(is_off) => *is_off,
+        None => false,
+    }
+}
 
 /// The first of these levers that is reversed.
 pub fn first_reversed(ends: &[End], levers: &[u32]) -> Option<u32>

@@ -32,7 +32,7 @@ pub use laws::{
     box_law, growing_law, history_law, keeping_law, neighbour_law, opening_law, outcome_law,
     run_law, section_law, serial_law, shape_law, step_law,
 };
-pub use levers::{first_reversed, starter_way};
+pub use levers::{first_reversed, is_off, is_pulled, starter_way};
 pub use link::Link;
 pub use plain::{Plain, open_pairs};
 pub use plain_line::PlainLine;

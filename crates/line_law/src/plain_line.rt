@@ -65,6 +65,13 @@ impl PlainLine {
         }
     }
 
+    /// The train that is so far behind the first one, if there is one.
+    pub fn get(&self, behind: usize) -> Option<Passage>
+        ensures { result ≡ slice_get self.now behind }
+    {
+        self.lanes[..self.count].get(behind).copied()
+    }
+
     /// Whether the train that entered four before the `k`th is still there.
     pub fn holds(&self, k: u64) -> bool
         ensures { result ≡ holds self.now k }

@@ -309,7 +309,7 @@ pub fn draw_scene(
 }
 
 /// The picture of the line of a plan after so many of the entries of a legal journal.
-#[tactic(auto, using(crate::proofs::Front::legal_front))]
+#[tactic(auto, using(line_law::proofs::Histories::legal_front))]
 pub fn line_picture(
     alloc: Global,
     plan: &Plan,

@@ -1,7 +1,6 @@
 //! What is seen of a box.
 
 ghost use Rattle.std.specs.Prelude.{◌≡◌, ◌<◌, ◌≤◌, ◌^◌, ◌++◌, OnOk, length, slice_index};
-ghost use Rattle.line_law.specs.LeverEnds.{is_off, is_pulled};
 ghost use Rattle.line_law.specs.Lines.{IsLineOf};
 ghost use Rattle.line_scene.specs.Boxes.{arm_shown, arms_shown, box_shown, boxes_shown, lever_shown, levers_shown};
 ghost use Rattle.line_scene.specs.Boxes.{places_shown, spot_at};
@@ -9,7 +8,7 @@ ghost use Rattle.line_scene.specs.Boxes.{places_shown, spot_at};
 use crate::diagram::Diagram;
 use crate::shown::Shown;
 use crate::walk::Spot;
-use line_law::{BoxState, Plain};
+use line_law::{BoxState, Plain, is_off, is_pulled};
 use line_plan::{BoxPlan, Lever, Plan, Signal};
 use locking_table::End;
 use rail_text::NoMemory;
@@ -31,26 +30,6 @@ fn rank_at(ranks: &[u32], at: usize) -> u32
     match ranks.get(at) {
         Some(rank) => *rank,
         None => 0,
-    }
-}
-
-// Whether a lever is reversed.
-fn is_pulled(ends: &[End], lever: u32) -> bool
-    ensures { result ≡ is_pulled ends.now lever }
-{
-    match ends.get(lever.saturating_sub(1) as usize) {
-        Some(end) => *end == End::Reversed,
-        None => false,
-    }
-}
-
-// Whether a lever's arm is off.
-fn is_off(off: &[bool], lever: u32) -> bool
-    ensures { result ≡ is_off off.now lever }
-{
-    match off.get(lever.saturating_sub(1) as usize) {
-        Some(is_off) => *is_off,
-        None => false,
     }
 }
 

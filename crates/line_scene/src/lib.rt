@@ -5,7 +5,6 @@
 mod box_shown;
 mod diagram;
 mod laws;
-mod passing;
 mod performing;
 mod scene;
 mod section_shown;

@@ -26,23 +26,20 @@ pub struct Scene {
     pub shown: Items<Shown>,
 }
 
-/// What is seen of a line that stands as it does behind the entries of a legal journal, by the diagrams of its boxes.
+/// What is seen of a line, by the diagrams of its boxes.
 pub fn things_of(
     alloc: Global,
     plan: &Plan,
     diagrams: &[Diagram],
     line: &Plain,
-    entries: &[Entry],
 ) -> Result<Vec<Shown>, NoMemory>
     requires diagrams { diagrams.now ≡ diagrams_of plan.now.boxes }
     requires line { IsLineOf plan.now line.now }
-    requires legal { IsLegal plan.now entries.now }
-    requires state { line.now.line ≡ state_of plan.now entries.now }
-    ensures { IfOk result (λ things. things.items ≡ things_of plan.now (state_of plan.now entries.now)) }
+    ensures { IfOk result (λ things. things.items ≡ things_of plan.now line.now.line) }
 {
     let mut shown = Vec::new(alloc);
     add_boxes(&mut shown, plan, diagrams, line)?;
-    add_sections(&mut shown, alloc, plan, line, entries)?;
+    add_sections(&mut shown, plan, line)?;
     Ok(shown)
 }
 
@@ -54,7 +51,7 @@ pub fn scene_after(alloc: Global, plan: &Plan, entries: &[Entry]) -> Result<Scen
 {
     let line = line_after(alloc, plan, entries)?;
     let diagrams = diagrams_of(alloc, plan)?;
-    let shown = things_of(alloc, plan, &diagrams, &line, entries)?;
+    let shown = things_of(alloc, plan, &diagrams, &line)?;
     Ok(Scene {
         diagrams: Items::from_vec(diagrams),
         shown: Items::from_vec(shown),

@@ -2,18 +2,15 @@
 
 ghost use Rattle.std.specs.Prelude.{◌≡◌, ◌<◌, ◌+◌, ◌-◌, ◌^◌, ◌++◌, OnOk, length, option_map};
 ghost use Rattle.block_words.specs.declared.Way.TheVariants.{Up, Down};
-ghost use Rattle.line_law.specs.History.{IsLegal, state_of};
 ghost use Rattle.line_law.specs.Lines.{IsLineOf};
 ghost use Rattle.line_plan.specs.Sections.{IsSection};
 ghost use Rattle.line_scene.specs.Sections.{instrument_shown, on_line, section_shown, sections_shown, trains_shown};
 
-use crate::passing::passages_of;
 use crate::shown::Shown;
 use block_words::{Position, Way};
-use line_law::{Entry, Link, Passage, Plain};
+use line_law::{Link, Plain, PlainLine};
 use line_plan::{Berth, Plan, Section};
 use rail_text::NoMemory;
-use std::alloc::Global;
 
 // Adds what the instrument of a section shows, where the line has a berth.
 fn add_instrument(
@@ -36,7 +33,7 @@ fn add_instrument(
 }
 
 // The train that is so far behind the first one of these.
-fn on_line(section: Section, portion: Option<u32>, trains: &[Passage], behind: u32) -> Shown
+fn on_line(section: Section, portion: Option<u32>, trains: &PlainLine, behind: u32) -> Shown
     ensures { result ≡ on_line section portion trains.now behind }
 {
     let train = match trains.get(behind as usize) {
@@ -57,7 +54,7 @@ fn add_trains(
     shown: &mut Vec<Shown>,
     section: Section,
     portion: Option<u32>,
-    trains: &[Passage],
+    trains: &PlainLine,
 ) -> Result<(), NoMemory>
     ensures { OnOk result (shown.new.items ≡ shown.old.items ++ trains_shown section portion trains.now) }
 {
@@ -68,22 +65,18 @@ fn add_trains(
     Ok(())
 }
 
-// Adds what is seen of a section behind a legal journal.
+// Adds what is seen of a section.
 #[tactic(auto, unfolding(crate::specs::Sections::section_shown))]
 fn add_section(
     shown: &mut Vec<Shown>,
-    alloc: Global,
     plan: &Plan,
     line: &Plain,
-    entries: &[Entry],
     section: Section,
 ) -> Result<(), NoMemory>
     requires line { IsLineOf plan.now line.now }
-    requires legal { IsLegal plan.now entries.now }
-    requires state { line.now.line ≡ state_of plan.now entries.now }
     requires section { IsSection plan.now section }
     ensures { OnOk result (shown.new.items
-        ≡ shown.old.items ++ section_shown plan.now (state_of plan.now entries.now) section) }
+        ≡ shown.old.items ++ section_shown plan.now line.now.line section) }
 {
     plan.meets_conditions();
     let way = section.way;
@@ -101,27 +94,17 @@ fn add_section(
         way,
         unheard: pair.bells.get(way).unheard,
     })?;
-    let trains = passages_of(alloc, plan, section, entries)?;
-    add_trains(shown, section, incoming.portion, &trains)
+    add_trains(shown, section, incoming.portion, pair.plain_line(way))
 }
 
 // Adds what is seen of the two sections of a pair of neighbours.
-fn add_pair(
-    shown: &mut Vec<Shown>,
-    alloc: Global,
-    plan: &Plan,
-    line: &Plain,
-    entries: &[Entry],
-    pair: u32,
-) -> Result<(), NoMemory>
+fn add_pair(shown: &mut Vec<Shown>, plan: &Plan, line: &Plain, pair: u32) -> Result<(), NoMemory>
     requires line { IsLineOf plan.now line.now }
-    requires legal { IsLegal plan.now entries.now }
-    requires state { line.now.line ≡ state_of plan.now entries.now }
     requires pair { pair + 1 < length plan.now.boxes }
     requires few { pair + 1 < 2 ^ 32 }
     ensures { OnOk result (shown.new.items ≡ shown.old.items
-        ++ (section_shown plan.now (state_of plan.now entries.now) (record { rear = pair; way = Down })
-        ++ section_shown plan.now (state_of plan.now entries.now) (record { rear = pair + 1; way = Up }))) }
+        ++ (section_shown plan.now line.now.line (record { rear = pair; way = Down })
+        ++ section_shown plan.now line.now.line (record { rear = pair + 1; way = Up }))) }
 {
     let down = Section {
         rear: pair,
@@ -131,28 +114,20 @@ fn add_pair(
         rear: pair + 1,
         way: Way::Up,
     };
-    add_section(shown, alloc, plan, line, entries, down)?;
-    add_section(shown, alloc, plan, line, entries, up)
+    add_section(shown, plan, line, down)?;
+    add_section(shown, plan, line, up)
 }
 
-/// Adds what is seen of the sections of a line behind a legal journal.
-pub fn add_sections(
-    shown: &mut Vec<Shown>,
-    alloc: Global,
-    plan: &Plan,
-    line: &Plain,
-    entries: &[Entry],
-) -> Result<(), NoMemory>
+/// Adds what is seen of the sections of a line.
+pub fn add_sections(shown: &mut Vec<Shown>, plan: &Plan, line: &Plain) -> Result<(), NoMemory>
     requires line { IsLineOf plan.now line.now }
-    requires legal { IsLegal plan.now entries.now }
-    requires state { line.now.line ≡ state_of plan.now entries.now }
     ensures { OnOk result (shown.new.items ≡ shown.old.items
-        ++ sections_shown plan.now (state_of plan.now entries.now) (length plan.now.boxes - 1)) }
+        ++ sections_shown plan.now line.now.line (length plan.now.boxes - 1)) }
 {
     plan.meets_conditions();
     let pairs = plan.boxes.len() as u32 - 1;
     for pair in 0..pairs {
-        add_pair(shown, alloc, plan, line, entries, pair)?;
+        add_pair(shown, plan, line, pair)?;
     }
     Ok(())
 }

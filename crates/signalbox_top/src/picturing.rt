@@ -63,7 +63,7 @@ fn film_of(alloc: Global, plan: &Plan, entries: &[Entry]) -> Result<String, NoMe
 }
 
 // The film of the entries up to the one that is asked for.
-#[tactic(auto, using(line_picture::proofs::Front::legal_front))]
+#[tactic(auto, using(line_law::proofs::Histories::legal_front))]
 fn film_in(
     alloc: Global,
     plan: &Plan,

@@ -1,8 +1,7 @@
 use Rattle.std.proofs.Common.{◌≡◌, ◌++◌}
-use Rattle.line_law.specs.History.{state_of}
 use Rattle.line_scene.specs.Sections.{sections_shown}
 use Rattle.line_scene.proofs.section_shown.add_sections.Given as goal
 
 abbrev pub invariant-loop-pair : goal.invariant-loop-pair
 invariant-loop-pair l =
-    l.shown.items ≡ l.fn.shown.items ++ sections_shown l.plan (state_of l.plan l.entries) l.pair
+    l.shown.items ≡ l.fn.shown.items ++ sections_shown l.plan l.line.line l.pair
