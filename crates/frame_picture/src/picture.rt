@@ -27,7 +27,7 @@ use std::fmt::Write;
 // The style of a picture: light, and dark where its reader asks for that.
 const STYLE: &str = "text{font-family:'DejaVu Sans',Verdana,sans-serif;fill:#1c1c1c}\
 .background{fill:#ffffff}.head{font-size:20px;font-weight:bold}.sub{font-size:13px}.small{font-size:10px}\
-.mid{font-size:11px;font-weight:bold;text-anchor:middle}.row{font-size:11px}.tiny{font-size:7px}\
+.mid{font-size:11px;font-weight:bold;text-anchor:middle}.row{font-size:11px}.tiny{font-size:6px}\
 .end{text-anchor:end}.small,.row,.tiny{font-family:'DejaVu Sans Mono','Liberation Mono','Courier New',monospace}\
 .letter{font-size:8px;font-weight:bold;text-anchor:middle;fill:#ffffff}\
 .bright{fill:#ffffff}.dark{fill:#1c1c1c}.handle{fill:#b9bec4;stroke:#6b7178}\

@@ -40,7 +40,7 @@ boxes_text right top (box_plan ∷ boxes) =
 abbrev pub names_text : ℕ → ℕ → List BoxFields → List ℕ
 names_text x top [] = []
 names_text x top (box_plan ∷ boxes) =
-    words_text (codes "again") (point (x + 4) (top - 2)) box_plan.name
+    words_text (codes "again") (point (x + 4) (top - 3)) box_plan.name
     ++ names_text x (top + height_of box_plan + 100) boxes
 
 -- ---- bars

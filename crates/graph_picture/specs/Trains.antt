@@ -79,7 +79,7 @@ polyline_text class corners =
 
 -- the name of a train, at the beginning of a stay
 abbrev pub name_text : List ℕ → Point → List ℕ
-name_text name at = words_text (codes "label") (point (at.x + 8) (at.y - 4)) name
+name_text name at = words_text (codes "label") (point (at.x + 7) (at.y - 4)) name
 
 -- a small square where a train comes or goes
 unfoldable pub stop_text : Point → List ℕ
@@ -93,7 +93,7 @@ away_text at =
 
 -- words of warning beside a mark
 abbrev pub warning_text : Point → List ℕ → List ℕ
-warning_text at words = words_text (codes "warning") (point (at.x + 8) (at.y - 4)) words
+warning_text at words = words_text (codes "warning") (point (at.x + 7) (at.y - 4)) words
 
 -- a signal passed at danger: a triangle, with the word
 unfoldable pub danger_text : Point → List ℕ

@@ -90,7 +90,7 @@ pub fn put_names(page: &mut Page, x: u64, boxes: &[BoxPlan]) -> Result<(), Alloc
 {
     let mut top = TOP;
     for box_plan in boxes {
-        let at = Point::new(x + 4, top.saturating_sub(2));
+        let at = Point::new(x + 4, top.saturating_sub(3));
         put_words(page, "again", at, box_plan.name.as_str())?;
         top += height_of(box_plan) + PLAIN_LINE;
     }

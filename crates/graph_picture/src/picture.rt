@@ -27,8 +27,10 @@ const STYLE: &str = "text{font-family:'DejaVu Sans',Verdana,sans-serif;fill:#1c1
 .background{fill:#ffffff}.head{font-size:18px;font-weight:bold}.sub{font-size:12px}\
 .name{font-size:13px;font-weight:bold;text-anchor:end}.place{font-size:9px;text-anchor:end;fill:#4a525b}\
 .again{font-size:8px;fill:#4a525b}.time{font-size:11px;text-anchor:middle}\
-.label,.warning,.left{font-family:'DejaVu Sans Mono','Liberation Mono','Courier New',monospace;font-size:10px;\
-font-weight:bold;paint-order:stroke;stroke:#ffffff;stroke-width:2px;stroke-linejoin:round}\
+.head,.name,.place,.again,.label,.warning,.left\
+{font-family:'DejaVu Sans Mono','Liberation Mono','Courier New',monospace}\
+.label,.warning,.left{font-size:10px;font-weight:bold;paint-order:stroke;stroke:#ffffff;stroke-width:2px;\
+stroke-linejoin:round}\
 .warning,.left{fill:#9c0f2b}.left{font-size:9px}\
 .box{fill:#eef0f2}.level{stroke:#b9bec4;stroke-width:0.75}\
 .minute{stroke:#d3d8dd;stroke-width:0.5}.tens{stroke:#a8aeb5;stroke-width:0.75}.hour{stroke:#4a525b;stroke-width:1.5}\

@@ -158,7 +158,7 @@ fn put_name(page: &mut Page, name: &str, at: Point) -> Result<(), AllocError>
     put_words(
         page,
         "label",
-        Point::new(at.x + 8, at.y.saturating_sub(4)),
+        Point::new(at.x + 7, at.y.saturating_sub(4)),
         name,
     )
 }
@@ -196,7 +196,7 @@ fn put_warning(page: &mut Page, at: Point, words: &str) -> Result<(), AllocError
     put_words(
         page,
         "warning",
-        Point::new(at.x + 8, at.y.saturating_sub(4)),
+        Point::new(at.x + 7, at.y.saturating_sub(4)),
         words,
     )
 }
