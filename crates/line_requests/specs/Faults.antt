@@ -9,6 +9,7 @@ abbrev pub fault_bytes : Fault → List ℕ
 fault_bytes faults.NotJson = codes "not JSON"
 fault_bytes faults.NotRequest = codes "not a request"
 fault_bytes faults.UnknownBox = codes "unknown box"
+fault_bytes faults.NotNeighbours = codes "not neighbours"
 fault_bytes faults.UnknownEntry = codes "unknown entry"
 fault_bytes faults.Full = codes "full"
 fault_bytes (faults.Cause cause) = cause_bytes cause

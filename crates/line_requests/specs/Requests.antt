@@ -13,11 +13,16 @@ use Rattle.line_requests.specs.declared.request.Request.TheVariants as requests
 use Rattle.line_requests.specs.declared.request.TheConstants.{LINE_LIMIT}
 
 -- What is asked for: a call of a box, by the box's name, the moment and what is done; what would be answered if a lever
--- of a box were moved, by the box's name and the moment; the entries from a number on; to go back to so many entries;
--- or to end.
+-- of a box were moved, by the box's name and the moment; what stands at a box, by its name; what belongs to a section,
+-- by the names of the box in its rear and of the box in advance; all that stands on the line; what stands otherwise than
+-- behind so many entries; the entries from a number on; to go back to so many entries; or to end.
 pub data Asked : Type 0 where
   Call : List ℕ → List ℕ → List ℕ → Asked
   May : List ℕ → List ℕ → Asked
+  Look : List ℕ → Asked
+  LookTo : List ℕ → List ℕ → Asked
+  LookAll : Asked
+  Changes : ℕ → Asked
   Journal : ℕ → Asked
   Back : ℕ → Asked
   End : Asked
@@ -26,6 +31,10 @@ pub data Asked : Type 0 where
 abbrev pub shown : Request → Asked
 shown (requests.Call box_name at call) = Asked.Call box_name.now at.now call.now
 shown (requests.May box_name at) = Asked.May box_name.now at.now
+shown (requests.Look box_name) = Asked.Look box_name.now
+shown (requests.LookTo rear advance) = Asked.LookTo rear.now advance.now
+shown requests.LookAll = Asked.LookAll
+shown (requests.Changes count) = Asked.Changes count
 shown (requests.Journal from) = Asked.Journal from
 shown (requests.Back count) = Asked.Back count
 shown requests.End = Asked.End
@@ -67,22 +76,41 @@ end_asked None = None
 end_asked (Some false) = None
 end_asked (Some true) = Some Asked.End
 
--- the entries from a number on, or to go back to so many
-abbrev pub numbers_asked : Option ℕ → Option ℕ → Option Asked
-numbers_asked None None = None
-numbers_asked None (Some count) = Some (Asked.Back count)
-numbers_asked (Some from) back = Some (Asked.Journal from)
+-- all that stands, where the flag is true
+abbrev pub all_asked : Option Bool → Option Asked
+all_asked None = None
+all_asked (Some false) = None
+all_asked (Some true) = Some Asked.LookAll
+
+-- what stands at a box, where its name is there
+abbrev pub box_asked : Option (List ℕ) → Option Asked
+box_asked None = None
+box_asked (Some box_name) = Some (Asked.Look box_name)
+
+-- what is asked for of a number, where it is there
+abbrev pub count_asked : (ℕ → Asked) → Option ℕ → Option Asked
+count_asked ask None = None
+count_asked ask (Some count) = Some (ask count)
 
 -- the first, if that is asked for, else the other
 abbrev pub first_asked : Option Asked → Option Asked → Option Asked
 first_asked None other = other
 first_asked (Some asked) other = Some asked
 
+-- what an object with one member asks for by a number
+unfoldable pub number_asked : Data → Option Asked
+number_asked d =
+    first_asked (count_asked (λ from. Asked.Journal from) (number_at (codes "journal") d))
+    (first_asked (count_asked (λ count. Asked.Back count) (number_at (codes "back") d))
+    (count_asked (λ count. Asked.Changes count) (number_at (codes "changes") d)))
+
+-- what an object with one member asks to look at
+unfoldable pub look_asked : Data → Option Asked
+look_asked d = first_asked (box_asked (text_at (codes "look") d)) (all_asked (flag_at (codes "look") d))
+
 -- what an object with one member asks for
 unfoldable pub one_asked : Data → Option Asked
-one_asked d =
-    first_asked (end_asked (flag_at (codes "end") d))
-    (numbers_asked (number_at (codes "journal") d) (number_at (codes "back") d))
+one_asked d = first_asked (end_asked (flag_at (codes "end") d)) (first_asked (number_asked d) (look_asked d))
 
 -- what may be done, where all that it needs is there
 abbrev pub may_asked : Option (List ℕ) → Option (List ℕ) → Option Asked
@@ -90,9 +118,17 @@ may_asked None at = None
 may_asked (Some box_name) None = None
 may_asked (Some box_name) (Some at) = Some (Asked.May box_name at)
 
+-- what belongs to a section, where both names are there
+abbrev pub section_asked : Option (List ℕ) → Option (List ℕ) → Option Asked
+section_asked None advance = None
+section_asked (Some rear) None = None
+section_asked (Some rear) (Some advance) = Some (Asked.LookTo rear advance)
+
 -- what an object with two members asks for
 unfoldable pub two_asked : Data → Option Asked
-two_asked d = may_asked (text_at (codes "may") d) (text_at (codes "at") d)
+two_asked d =
+    first_asked (may_asked (text_at (codes "may") d) (text_at (codes "at") d))
+    (section_asked (text_at (codes "look") d) (text_at (codes "to") d))
 
 -- what an object with three members asks for
 unfoldable pub three_asked : Data → Option Asked

@@ -14,6 +14,8 @@ pub enum Fault {
     NotRequest,
     /// The line has no box of that name.
     UnknownBox,
+    /// These two boxes aren't neighbours.
+    NotNeighbours,
     /// There aren't so many entries.
     UnknownEntry,
     /// There are as many entries as may be.
@@ -30,6 +32,7 @@ pub fn fault_word(fault: Fault) -> &'static str
         Fault::NotJson => "not JSON",
         Fault::NotRequest => "not a request",
         Fault::UnknownBox => "unknown box",
+        Fault::NotNeighbours => "not neighbours",
         Fault::UnknownEntry => "unknown entry",
         Fault::Full => "full",
         Fault::Cause(cause) => cause_text(cause),
@@ -63,8 +66,10 @@ pub fn fault_sentence(fault: Fault) -> &'static str {
     match fault {
         Fault::NotJson => "the line is no JSON",
         Fault::NotRequest =>
-            "a request is an object with exactly the keys of one: box, at and call; may and at; journal; back; or end",
+            "a request is an object with exactly the keys of one: box, at and call; may and at; look; look and to; \
+            changes; journal; back; or end",
         Fault::UnknownBox => "the line has no box of that name",
+        Fault::NotNeighbours => "these two boxes aren't neighbours",
         Fault::UnknownEntry => "there aren't so many entries",
         Fault::Full => "there are as many entries as may be",
         Fault::Cause(cause) => cause_sentence(cause),

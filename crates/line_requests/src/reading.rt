@@ -2,8 +2,9 @@
 
 ghost use Rattle.std.specs.Prelude.{◌≡◌, IfOk, codes, option_map};
 ghost use Rattle.serde_json.specs.View.{view};
-ghost use Rattle.line_requests.specs.Requests.{asked_in, end_asked, flag_at, member_count, number_at, numbers_asked};
-ghost use Rattle.line_requests.specs.Requests.{one_asked, shown, text_at, three_asked, two_asked, value_in};
+ghost use Rattle.line_requests.specs.Requests.{all_asked, asked_in, end_asked, flag_at, look_asked, may_asked};
+ghost use Rattle.line_requests.specs.Requests.{member_count, number_asked, number_at, one_asked, section_asked, shown};
+ghost use Rattle.line_requests.specs.Requests.{text_at, three_asked, two_asked, value_in};
 
 use crate::request::Request;
 use rail_text::NoMemory;
@@ -69,14 +70,35 @@ fn three_asked(value: &Value) -> Option<Request<'_>>
     Some(Request::Call { box_name, at, call })
 }
 
+// Which levers of a box may be moved, where that is asked for.
+fn may_asked(value: &Value) -> Option<Request<'_>>
+    ensures { option_map shown result
+        ≡ may_asked (text_at (codes "may") (view value.now)) (text_at (codes "at") (view value.now)) }
+{
+    let box_name = text_at(value, "may")?;
+    let at = text_at(value, "at")?;
+    Some(Request::May { box_name, at })
+}
+
+// What belongs to a section, where that is asked for.
+fn section_asked(value: &Value) -> Option<Request<'_>>
+    ensures { option_map shown result
+        ≡ section_asked (text_at (codes "look") (view value.now)) (text_at (codes "to") (view value.now)) }
+{
+    let rear = text_at(value, "look")?;
+    let advance = text_at(value, "to")?;
+    Some(Request::LookTo { rear, advance })
+}
+
 // What an object with two members asks for.
 #[tactic(auto, unfolding(crate::specs::Requests::two_asked))]
 fn two_asked(value: &Value) -> Option<Request<'_>>
     ensures { option_map shown result ≡ two_asked (view value.now) }
 {
-    let box_name = text_at(value, "may")?;
-    let at = text_at(value, "at")?;
-    Some(Request::May { box_name, at })
+    match may_asked(value) {
+        Some(may) => Some(may),
+        None => section_asked(value),
+    }
 }
 
 // The end, where that is asked for.
@@ -89,16 +111,40 @@ fn end_asked(value: &Value) -> Option<Request<'_>>
     }
 }
 
-// The entries from a number on, or to go back to so many.
-fn numbers_asked(value: &Value) -> Option<Request<'_>>
-    ensures { option_map shown result ≡ numbers_asked (number_at (codes "journal") (view value.now))
-        (number_at (codes "back") (view value.now)) }
+// All that stands, where that is asked for.
+fn all_asked(value: &Value) -> Option<Request<'_>>
+    ensures { option_map shown result ≡ all_asked (flag_at (codes "look") (view value.now)) }
 {
-    match (number_at(value, "journal"), number_at(value, "back")) {
-        (Some(from), _) => Some(Request::Journal { from }),
-        (None, Some(count)) => Some(Request::Back { count }),
-        (None, None) => None,
+    match flag_at(value, "look") {
+        Some(true) => Some(Request::LookAll),
+        _ => None,
     }
+}
+
+// What an object with one member asks to look at.
+#[tactic(auto, unfolding(crate::specs::Requests::look_asked))]
+fn look_asked(value: &Value) -> Option<Request<'_>>
+    ensures { option_map shown result ≡ look_asked (view value.now) }
+{
+    match text_at(value, "look") {
+        Some(box_name) => Some(Request::Look { box_name }),
+        None => all_asked(value),
+    }
+}
+
+// What an object with one member asks for by a number.
+#[tactic(auto, unfolding(crate::specs::Requests::number_asked))]
+fn number_asked(value: &Value) -> Option<Request<'_>>
+    ensures { option_map shown result ≡ number_asked (view value.now) }
+{
+    if let Some(from) = number_at(value, "journal") {
+        return Some(Request::Journal { from });
+    }
+    if let Some(count) = number_at(value, "back") {
+        return Some(Request::Back { count });
+    }
+    let count = number_at(value, "changes")?;
+    Some(Request::Changes { count })
 }
 
 // What an object with one member asks for.
@@ -106,9 +152,12 @@ fn numbers_asked(value: &Value) -> Option<Request<'_>>
 fn one_asked(value: &Value) -> Option<Request<'_>>
     ensures { option_map shown result ≡ one_asked (view value.now) }
 {
-    match end_asked(value) {
-        Some(end) => Some(end),
-        None => numbers_asked(value),
+    if let Some(end) = end_asked(value) {
+        return Some(end);
+    }
+    match number_asked(value) {
+        Some(asked) => Some(asked),
+        None => look_asked(value),
     }
 }
 

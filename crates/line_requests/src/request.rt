@@ -17,6 +17,21 @@ pub enum Request<'v> {
         box_name: &'v str,
         at: &'v str,
     },
+    /// What stands at a box: the name of the box.
+    Look {
+        box_name: &'v str,
+    },
+    /// What belongs to a section: the names of the box in its rear and of the box in advance.
+    LookTo {
+        rear: &'v str,
+        advance: &'v str,
+    },
+    /// All that stands on the line.
+    LookAll,
+    /// What stands otherwise than behind so many entries.
+    Changes {
+        count: u64,
+    },
     /// The entries from this number on.
     Journal {
         from: u64,

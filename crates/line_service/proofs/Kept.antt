@@ -1,7 +1,8 @@
 -- What a service keeps.
 use Rattle.std.proofs.Common.{◌≡◌, ℕ, ◌+◌, ◌<◌, ◌^◌, List, [], ◌∷◌, ◌++◌, Some, length}
 use Rattle.std.proofs.Common.{◌≤◌, arith, refl, sym, ap, subst, ◌∙◌, drop, get_or, take}
-use Rattle.std.proofs.lemmas.List.{drop_more, length-append, length-take-le, take-append-drop, take_more}
+use Rattle.std.proofs.lemmas.List.{drop_more, length-append, length-take-le, take-append-drop, take-append-le}
+use Rattle.std.proofs.lemmas.List.{take_more}
 use Rattle.std.proofs.lemmas.List.Elements.{All-pop}
 use Rattle.line_plan.specs.Plans.{IsPlan, PlanFields}
 use Rattle.line_law.specs.declared.call.Call.{Call}
@@ -11,12 +12,12 @@ use Rattle.line_law.specs.History.{IsLegal, opened, state_of}
 use Rattle.line_law.specs.Law.{Done, MayCall, step}
 use Rattle.line_law.specs.Lines.{IsLineOf, PlainState}
 use Rattle.line_law.specs.States.{LineState}
-use Rattle.line_law.proofs.Histories.{entry_determined, history_grows, prefix_legal, state_grows}
+use Rattle.line_law.proofs.Histories.{entry_determined, history_grows, state_grows}
 use Rattle.line_law.proofs.KeepingLaws.{history_keeps}
 use Rattle.line_report.proofs.Histories.{legal_spelled}
 use Rattle.script_text.specs.Entries.{IsSpelled}
 use Rattle.line_service.specs.Calls.{MayFollow, with_entry}
-use Rattle.line_service.specs.Services.{IsKept, ServiceFields}
+use Rattle.line_service.specs.Services.{IsHeld, IsKept, ServiceFields}
 
 -- a service that begins
 pub kept_begins : (plan : PlanFields) (es : List Entry) (plain : PlainState) → es ≡ [] → plain ≡ opened plan
@@ -99,12 +100,6 @@ seen_next plan es all last plain new reply service e h next is told counted =
 
 -- ---- a history that is made again
 
--- the first entries of a legal history are legal
-pub legal_front : (plan : PlanFields) (es : List Entry) (n : ℕ) → IsLegal plan es → IsLegal plan (take n es)
-legal_front plan es n legal =
-    prefix_legal plan (take n es) (drop n es)
-    (subst (λ (all : List Entry). IsLegal plan all) (sym (take-append-drop n es)) legal)
-
 -- the first so many are that many
 pub front_long : (es : List Entry) (n : ℕ) → n ≤ length es → length (take n es) ≡ n
 front_long es n le = length-take-le n es le
@@ -129,3 +124,33 @@ pub front_next : (plan : PlanFields) (es : List Entry) (at : ℕ) (d : Entry) (s
     → service ≡ with_entry (record { plan = plan; entries = take at es }) (get_or es at d)
     → service ≡ record { plan = plan; entries = take (at + 1) es }
 front_next plan es at d service lt is = is ∙ sym (ap (shown plan) (take_more es at d lt))
+
+-- the line behind the first entries, with the next one's call performed, is the line behind one more
+pub kept_more : (plan : PlanFields) (es : List Entry) (at : ℕ) (d : Entry) (plain new : PlainState) (reply : Reply)
+    → IsLegal plan es → length es < 2 ^ 32 → at < length es → IsKept plan (take at es) plain
+    → step plan plain.line (get_or es at d).box_no (get_or es at d).call ≡ record { reply = reply; after = new.line }
+    → new.calls ≡ plain.calls + 1 → IsKept plan (take (at + 1) es) new
+kept_more plan es at d plain new reply legal few lt h told counted =
+    kept_next (shown plan (take at es)) (take (at + 1) es) (get_or es at d) plain new reply h
+    (follows_next plan es at d legal few lt) (take_more es at d lt) told counted
+
+-- ---- a service with an earlier line
+
+-- one that begins
+pub held_begins : (plan : PlanFields) (es : List Entry) (plain earlier : PlainState) → es ≡ [] → plain ≡ opened plan
+    → earlier ≡ opened plan → IsHeld plan es plain earlier 0
+held_begins plan es plain earlier none is early = record {
+  kept = kept_begins plan es plain none is;
+  within = omega arith;
+  stood = kept_begins plan [] earlier refl early;
+}
+
+-- with an entry more the earlier line stays as it was
+pub held_next : (plan : PlanFields) (es all : List Entry) (e : Entry) (plain new earlier : PlainState) (count : ℕ)
+    → IsHeld plan es plain earlier count → all ≡ es ++ e ∷ [] → IsKept plan all new → IsHeld plan all new earlier count
+held_next plan es all e plain new earlier count h is kept = record {
+  kept = kept;
+  within = omega (arith, h.within, ap length is, longer es e);
+  stood = subst (λ (front : List Entry). IsKept plan front earlier)
+      (sym (ap (take count) is ∙ take-append-le count es (e ∷ []) h.within)) h.stood;
+}

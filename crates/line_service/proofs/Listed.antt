@@ -1,17 +1,16 @@
 -- Objects that are listed, one for each thing.
-use Rattle.std.proofs.Common.{◌≡◌, ℕ, ◌+◌, ◌<◌, ◌≤◌, List, [], ◌∷◌, ◌++◌, All, Bool, false, length, drop, get_or}
+use Rattle.std.proofs.Common.{◌≡◌, ℕ, ◌+◌, ◌<◌, ◌≤◌, List, [], ◌∷◌, ◌++◌, All, length, drop, get_or}
 use Rattle.std.proofs.Common.{arith, refl, sym, ap, subst, ◌∙◌}
-use Rattle.std.specs.Prelude.{◌||◌}
 use Rattle.std.specs.Prelude.{◌-◌, map, take}
 use Rattle.std.proofs.lemmas.List.{drop_all, drop_more, length-drop, map-append, take_all}
-use Rattle.std.proofs.lemmas.List.Elements.{All-drop, All-head, All-push, All-tail}
-use Rattle.serde_json.specs.Data.{Data, array, items_depth}
-use Rattle.serde_json.specs.View.{items_of, view}
+use Rattle.std.proofs.lemmas.List.Elements.{All-drop, All-push}
+use Rattle.serde_json.specs.Data.{Data}
+use Rattle.serde_json.specs.View.{view}
 use Rattle.serde_json.specs.declared.value.Value.{Value}
-use Rattle.serde_json.specs.Written.{has_float, items_have_float}
 use Rattle.json_objects.specs.Texts.{IsPlain, most_levels}
 use Rattle.json_objects.proofs.Plain.{member_plain, no_members_plain, object_plain}
 use Rattle.entry_records.proofs.Plain.{entry_within}
+use Rattle.look_records.proofs.Plain.{array_plain}
 use Rattle.line_plan.specs.Plans.{PlanFields}
 use Rattle.line_plan.specs.declared.frame.Lever.{Lever}
 use Rattle.line_law.specs.declared.call.Entry.{Entry}
@@ -55,27 +54,6 @@ pub behind_whole : (es : List Entry) (n : ℕ) → take (length es - n) (drop n 
 behind_whole es n = let long = length-drop n es in take_all (length es - n) (drop n es) (omega (arith, long))
 
 -- ---- plain values
-
-neither : (a b : Bool) → a ≡ false → b ≡ false → (a || b) ≡ false
-neither a b x y = rw x y
-
-no_float_in : (levels : ℕ) (ds : List Data) → All (IsPlain levels) ds → items_have_float (items_of ds) ≡ false
-no_float_in levels [] h = refl
-no_float_in levels (d ∷ ds) h =
-    neither (has_float d) (items_have_float (items_of ds)) (All-head (IsPlain levels) d ds h).no_float
-    (no_float_in levels ds (All-tail (IsPlain levels) d ds h))
-
-shallow_in : (levels : ℕ) (ds : List Data) → All (IsPlain levels) ds → items_depth (items_of ds) ≤ levels
-shallow_in levels [] h = omega arith
-shallow_in levels (d ∷ ds) h =
-    let rest = shallow_in levels ds (All-tail (IsPlain levels) d ds h) in
-    let one = All-head (IsPlain levels) d ds h in
-    omega (arith, rest, one.shallow)
-
-array_plain : (levels : ℕ) (ds : List Data) → All (IsPlain levels) ds → IsPlain (levels + 1) (array (items_of ds))
-array_plain levels ds h =
-    let shallow = shallow_in levels ds h in
-    record { no_float = no_float_in levels ds h; shallow = omega (arith, shallow) }
 
 -- a list of plain values under a key has a text that is read back
 list_plain : (key : List ℕ) (ds : List Data) → All (IsPlain 125) ds → IsPlain most_levels (list_data key ds)

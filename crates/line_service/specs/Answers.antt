@@ -7,8 +7,9 @@ use Rattle.line_requests.specs.Answers.{IsCountText, IsFaultText}
 use Rattle.line_requests.specs.Requests.{Asked, asked_of}
 use Rattle.line_requests.specs.declared.fault.Fault.{Fault}
 use Rattle.line_requests.specs.declared.fault.Fault.TheVariants as faults
-use Rattle.line_service.specs.Calls.{MayFollow, call_line, entry_on, with_entry}
+use Rattle.line_service.specs.Calls.{MayFollow, box_named, call_line, entry_on, with_entry}
 use Rattle.line_service.specs.Lists.{AreMoves, IsListed, before_entry, present_of}
+use Rattle.line_service.specs.Looks.{AreChanged, IsLookText, IsLooksText, IsSectionText, section_named}
 use Rattle.line_service.specs.Services.{ServiceFields}
 
 -- ---- a call
@@ -49,6 +50,10 @@ IsBackText (Err fault) text = IsFaultText fault text
 abbrev pub after_asked : ServiceFields → Asked → ServiceFields
 after_asked service (Asked.Call box_name at call) = after_made service (entry_on service box_name (call_line at call))
 after_asked service (Asked.May box_name at) = service
+after_asked service (Asked.Look box_name) = service
+after_asked service (Asked.LookTo rear advance) = service
+after_asked service Asked.LookAll = service
+after_asked service (Asked.Changes count) = service
 after_asked service (Asked.Journal from) = service
 after_asked service (Asked.Back count) = after_back service (kept_of service count)
 after_asked service Asked.End = service
@@ -58,6 +63,11 @@ abbrev pub IsAnswered : ServiceFields → Asked → List ℕ → Type 0
 IsAnswered service (Asked.Call box_name at call) text =
     IsMadeText service (entry_on service box_name (call_line at call)) text
 IsAnswered service (Asked.May box_name at) text = AreMoves service (present_of service box_name at) text
+IsAnswered service (Asked.Look box_name) text = IsLookText service (box_named service.plan box_name) text
+IsAnswered service (Asked.LookTo rear advance) text =
+    IsSectionText service (section_named service.plan rear advance) text
+IsAnswered service Asked.LookAll text = IsLooksText service text
+IsAnswered service (Asked.Changes count) text = AreChanged service (kept_of service count) text
 IsAnswered service (Asked.Journal from) text = IsListed service (before_entry service from) text
 IsAnswered service (Asked.Back count) text = IsBackText (kept_of service count) text
 IsAnswered service Asked.End text = IsCountText (length service.entries) text

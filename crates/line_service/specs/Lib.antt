@@ -1,4 +1,5 @@
 pub mod Answers
 pub mod Calls
 pub mod Lists
+pub mod Looks
 pub mod Services

@@ -1,5 +1,5 @@
 -- A line that is held for a program of others.
-use Rattle.std.specs.Prelude.{◌≡◌, ◌<◌, ◌^◌, List, length}
+use Rattle.std.specs.Prelude.{◌≡◌, ℕ, ◌<◌, ◌≤◌, ◌^◌, List, length, take}
 use Rattle.line_plan.specs.Plans.{PlanFields}
 use Rattle.line_law.specs.declared.call.Entry.{Entry}
 use Rattle.line_law.specs.History.{IsLegal, state_of}
@@ -20,3 +20,9 @@ pub record IsKept (plan : PlanFields) (entries : List Entry) (plain : PlainState
   pub legal : IsLegal plan entries
   pub few : length entries < 2 ^ 32
   pub line : plain ≡ record { line = state_of plan entries; calls = length entries }
+
+-- The same; and an earlier line, as it stood behind the first so many of the calls.
+pub record IsHeld (plan : PlanFields) (entries : List Entry) (plain earlier : PlainState) (count : ℕ) : Type 0 where
+  pub kept : IsKept plan entries plain
+  pub within : count ≤ length entries
+  pub stood : IsKept plan (take count entries) earlier

@@ -4,8 +4,9 @@ ghost use Rattle.std.specs.Prelude.{◌≡◌, ◌≤◌, IfOk, Ok, length};
 ghost use Rattle.line_requests.specs.Requests.{shown};
 ghost use Rattle.line_service.specs.Answers.{is_end, kept_of};
 
-use crate::calls::{call_line, entry_on};
+use crate::calls::{box_named, call_line, entry_on};
 use crate::lists::{before_entry, journal_text, moves_text};
+use crate::looks::{look_text, looks_text, section_named, section_text};
 use crate::moves::present_of;
 use crate::service::Service;
 use journal_records::entry_text;
@@ -51,8 +52,9 @@ impl<'a> Service<'a> {
     ghost use Rattle.line_service.specs.Answers.{IsAnswer, IsAnswered, IsMadeText, IsNext, IsReadText, after_asked};
     ghost use Rattle.line_service.specs.Answers.{after_line, after_made, after_read, ends, is_end};
     ghost use Rattle.line_service.specs.Answers.{IsBackText, after_back, kept_of};
-    ghost use Rattle.line_service.specs.Calls.{MayFollow, call_line, entry_on};
+    ghost use Rattle.line_service.specs.Calls.{MayFollow, box_named, call_line, entry_on};
     ghost use Rattle.line_service.specs.Lists.{AreMoves, IsListed, before_entry, present_of};
+    ghost use Rattle.line_service.specs.Looks.{AreChanged, IsLookText, IsLooksText, IsSectionText, section_named};
 
     // A fault is answered. It changes nothing.
     fn answer_fault(&self, alloc: Global, fault: Fault) -> Result<String, NoMemory>
@@ -93,6 +95,46 @@ impl<'a> Service<'a> {
     {
         match present_of(self, box_name, at) {
             Ok(here) => Ok(moves_text(alloc, self, here)?),
+            Err(fault) => self.answer_fault(alloc, fault),
+        }
+    }
+
+    // What stands at a box is answered.
+    fn answer_look(&self, alloc: Global, box_name: &str) -> Result<String, NoMemory>
+        ensures { IfOk result
+            (λ text. IsLookText self.now (box_named self.now.plan box_name.now) (string_bytes text)) }
+    {
+        match box_named(self.plan(), box_name) {
+            Ok(box_no) => look_text(alloc, self, box_no),
+            Err(fault) => self.answer_fault(alloc, fault),
+        }
+    }
+
+    // What belongs to a section is answered.
+    fn answer_section(&self, alloc: Global, rear: &str, advance: &str) -> Result<String, NoMemory>
+        ensures { IfOk result (λ text. IsSectionText self.now
+            (section_named self.now.plan rear.now advance.now) (string_bytes text)) }
+    {
+        match section_named(self.plan(), rear, advance) {
+            Ok(section) => section_text(alloc, self, section),
+            Err(fault) => self.answer_fault(alloc, fault),
+        }
+    }
+
+    // All that stands is answered.
+    fn answer_looks(&self, alloc: Global) -> Result<String, NoMemory>
+        ensures { IfOk result (λ text. IsLooksText self.now (string_bytes text)) }
+    {
+        looks_text(alloc, self)
+    }
+
+    // What stands otherwise than behind so many entries is answered.
+    fn answer_changes(&mut self, alloc: Global, count: u64) -> Result<String, NoMemory>
+        ensures text { IfOk result (λ text. AreChanged self.old (kept_of self.old count) (string_bytes text)) }
+        ensures same { self.new ≡ self.old }
+    {
+        match kept_of(self, count) {
+            Ok(first) => self.changes_since(alloc, first),
             Err(fault) => self.answer_fault(alloc, fault),
         }
     }
@@ -153,6 +195,10 @@ impl<'a> Service<'a> {
         match *request {
             Request::Call { box_name, at, call } => self.answer_call(alloc, box_name, at, call),
             Request::May { box_name, at } => self.answer_may(alloc, box_name, at),
+            Request::Look { box_name } => self.answer_look(alloc, box_name),
+            Request::LookTo { rear, advance } => self.answer_section(alloc, rear, advance),
+            Request::LookAll => self.answer_looks(alloc),
+            Request::Changes { count } => self.answer_changes(alloc, count),
             Request::Journal { from } => self.answer_journal(alloc, from),
             Request::Back { count } => self.answer_back(alloc, count),
             Request::End => self.answer_end(alloc),
@@ -203,7 +249,9 @@ impl<'a> Service<'a> {
     /// Answers a line, which is one request as JSON without its end. A call of a box is read as a line of its script
     /// is, and made where its moment isn't below that of the box's last one; it is answered by its entry, whether what
     /// was asked for is done or refused. `may` tells of each lever of a box what a call that moves it would be
-    /// answered, and `journal` the entries from a number on; `back` goes back to where there were so many entries.
+    /// answered; `look` of what stands at a box, on a section or on the whole line, and `changes` of what stands otherwise
+    /// than behind so many entries; `journal` tells the entries from a number on; `back` goes back to where there were
+    /// so many entries.
     /// Anything else that isn't understood, and a line longer than 65,536 bytes, is answered by an error, and changes
     /// nothing. Where memory runs out, nothing is changed.
     #[tactic(auto, unfolding(line_requests::specs::Requests::asked_of, crate::specs::Answers::after_line, crate::specs::Answers::IsAnswer, crate::specs::Answers::ends))]

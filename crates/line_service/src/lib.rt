@@ -4,7 +4,9 @@
 mod answer;
 mod calls;
 mod lists;
+mod looks;
 mod moves;
+mod replay;
 mod service;
 
 pub use answer::Answer;

@@ -2,7 +2,6 @@
 
 ghost use Rattle.std.specs.Prelude.{◌≡◌, ◌<◌, IfOk, IsTrue, length};
 ghost use Rattle.line_law.specs.Known.{knows_lever, moments_of};
-ghost use Rattle.line_law.specs.LeverEnds.{is_pulled};
 ghost use Rattle.line_law.specs.States.{box_at};
 ghost use Rattle.script_text.specs.Moments.{moment_of};
 ghost use Rattle.box_view.specs.Moves.{move_entry, move_of};
@@ -12,9 +11,8 @@ ghost use Rattle.line_service.specs.Services.{line_of};
 
 use crate::calls::box_named;
 use crate::service::Service;
-use line_law::{Act, BoxState, Call, Entry};
+use line_law::{Act, BoxState, Call, Entry, is_pulled};
 use line_requests::Fault;
-use locking_table::End;
 use rail_text::Cause;
 use script_text::read_moment;
 
@@ -59,16 +57,6 @@ pub(crate) fn present_of(service: &Service<'_>, name: &str, at: &str) -> Result<
     let box_no = box_named(service.plan(), name)?;
     let moment = moment_in(service.plan().version, at)?;
     present_at(service, box_no, moment)
-}
-
-// Whether a lever is reversed.
-fn is_pulled(ends: &[End], lever: u32) -> bool
-    ensures { result ≡ is_pulled ends.now lever }
-{
-    match ends.get(lever.saturating_sub(1) as usize) {
-        Some(end) => *end == End::Reversed,
-        None => false,
-    }
 }
 
 // What moves a lever to its other end.

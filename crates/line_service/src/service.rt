@@ -1,7 +1,9 @@
 //! A service: a plan, the calls made so far, and the line as they leave it.
 
+use crate::replay::bring;
 use line_law::{Call, Entry, Plain};
 use line_plan::Plan;
+use look_records::changes_text;
 use rail_text::NoMemory;
 use std::alloc::{AllocError, Global};
 use std::marker::Model;
@@ -16,26 +18,30 @@ pub struct Service<'a> {
     plan: &'a Plan,
     line: Plain,
     entries: Vec<Entry>,
+    earlier: Plain,
+    earlier_count: usize,
 }
 
 impl<'a> Model for Service<'a> {
-    ghost use Rattle.line_service.specs.Services.{IsKept, ServiceFields};
+    ghost use Rattle.line_service.specs.Services.{IsHeld, ServiceFields};
 
     ghost Value = { ServiceFields };
 
     ghost view = { λ s. record { plan = s.plan.now; entries = s.entries.items } };
 
-    ghost invariant = { λ s. IsKept s.plan.now s.entries.items s.line };
+    ghost invariant = { λ s. IsHeld s.plan.now s.entries.items s.line s.earlier s.earlier_count };
 }
 
 impl<'a> Service<'a> {
     ghost use Rattle.std.specs.Prelude.{◌≡◌, ◌<◌, ◌≤◌, ◌^◌, [], IfErr, IfOk, OnErr, OnOk, length, nat_le};
+    ghost use Rattle.std.specs.Prelude.{string_bytes, take};
     ghost use Rattle.line_plan.specs.Plans.{IsPlan};
-    ghost use Rattle.line_law.specs.History.{IsLegal, entry_of};
+    ghost use Rattle.line_law.specs.History.{IsLegal, entry_of, state_of};
     ghost use Rattle.line_law.specs.Law.{MayCall};
     ghost use Rattle.line_law.specs.Lines.{IsLineOf};
     ghost use Rattle.line_law.specs.States.{box_at};
     ghost use Rattle.script_text.specs.Entries.{IsSpelled};
+    ghost use Rattle.look_records.specs.Changes.{IsChangesText};
     ghost use Rattle.line_service.specs.Answers.{with_first};
     ghost use Rattle.line_service.specs.Calls.{MayFollow, with_entry};
     ghost use Rattle.line_service.specs.Services.{line_of};
@@ -45,10 +51,13 @@ impl<'a> Service<'a> {
         ensures { IfOk result (λ service. service ≡ record { plan = plan.now; entries = [] }) }
     {
         let line = Plain::open(alloc, plan)?;
+        let earlier = Plain::open(alloc, plan)?;
         Ok(Service {
             plan,
             line,
             entries: Vec::new(alloc),
+            earlier,
+            earlier_count: 0,
         })
     }
 
@@ -138,7 +147,7 @@ impl<'a> Service<'a> {
     }
 
     /// Goes back to where there were so many entries. Where memory runs out, nothing is changed.
-    #[tactic(auto, using(crate::proofs::Kept::legal_front, crate::proofs::Kept::front_long))]
+    #[tactic(auto, using(line_law::proofs::Histories::legal_front, crate::proofs::Kept::front_long))]
     pub fn go_back(&mut self, alloc: Global, count: usize) -> Result<(), NoMemory>
         requires { count ≤ length self.old.entries }
         ensures back { IfOk result (λ _. self.new ≡ with_first self.old count) }
@@ -162,5 +171,29 @@ impl<'a> Service<'a> {
         self.entries.push(entry)?;
         let _ = self.line.perform(plan, entry.box_no, &entry.call);
         Ok(())
+    }
+
+    /// The text of what stands otherwise on the line than it did behind so many entries. Nothing is changed. What is
+    /// asked of the same number or of a later one than before costs no more than the entries between.
+    pub fn changes_since(&mut self, alloc: Global, count: usize) -> Result<String, NoMemory>
+        requires { count ≤ length self.old.entries }
+        ensures text { IfOk result (λ text. IsChangesText self.old.plan
+            (state_of self.old.plan (take count self.old.entries)) (line_of self.old) (length self.old.entries)
+            (string_bytes text)) }
+        ensures same { self.new ≡ self.old }
+    {
+        let plan = self.plan;
+        plan.meets_conditions();
+        bring(
+            alloc,
+            plan,
+            &mut self.earlier,
+            &self.entries,
+            self.earlier_count,
+            count,
+        )?;
+        self.earlier_count = count;
+        let entries = self.entries.len() as u64;
+        changes_text(alloc, plan, &self.earlier, &self.line, entries)
     }
 }

@@ -34,9 +34,9 @@ const ANSWERS: &str = "\
 {\"at\":\"09:01\",\"box\":\"Beech\",\"call\":\"hear up\",\"done\":true,\"n\":2,\"reply\":\"heard 1 1\"}
 {\"error\":\"moment falls\",\"says\":\"the moment is before that of the box's last call\"}
 {\"error\":\"unknown box\",\"says\":\"the line has no box of that name\"}
-{\"error\":\"not a request\",\"says\":\"a request is an object with exactly the keys of one: box, at and call; may and at; journal; back; or end\"}
+{\"error\":\"not a request\",\"says\":\"a request is an object with exactly the keys of one: box, at and call; may and at; look; look and to; changes; journal; back; or end\"}
 {\"error\":\"not JSON\",\"says\":\"the line is no JSON\"}
-{\"error\":\"not a request\",\"says\":\"a request is an object with exactly the keys of one: box, at and call; may and at; journal; back; or end\"}
+{\"error\":\"not a request\",\"says\":\"a request is an object with exactly the keys of one: box, at and call; may and at; look; look and to; changes; journal; back; or end\"}
 {\"error\":\"number of words\",\"says\":\"the call has too many words, or too few\"}
 {\"journal\":[{\"at\":\"09:01\",\"box\":\"Beech\",\"call\":\"hear up\",\"done\":true,\"n\":2,\"reply\":\"heard 1 1\"}]}
 {\"entries\":1}
