@@ -1,7 +1,7 @@
 # The crates whose tests try what no words reach.
 TESTS = $(patsubst crates/%/,%,$(wildcard crates/*_tests/))
 
-.PHONY: demo build cases quick $(TESTS) bench walk served examples soak loaded races faults edge typed sizes look pictures planted contracts test
+.PHONY: demo build cases quick $(TESTS) bench walk served examples requests soak loaded races faults edge typed sizes look pictures planted contracts test
 
 example = run data/example.plan data/ash.script data/beech.script data/cedar.script
 
@@ -46,6 +46,10 @@ served:
 # Works the guide's line by `signalbox serve` from a program in C, in Rust and in Python.
 examples:
 	sh examples/run.sh crates/signalbox/out/signalbox
+
+# Asks `signalbox serve` for MINUTES for what it may do and for what it may not.
+requests:
+	python3 hostile/requests.py crates/signalbox/out/signalbox $(MINUTES)
 
 # Seven that try the programs that `make build`, and `rt run` in crates/signalbox, leave: it works made lines for
 # MINUTES, with bad signalmen; large lines beside busy processes; lines that `signalbox` rehearsed; each allocation is
