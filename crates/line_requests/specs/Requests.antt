@@ -14,8 +14,8 @@ use Rattle.line_requests.specs.declared.request.TheConstants.{LINE_LIMIT}
 
 -- What is asked for: a call of a box, by the box's name, the moment and what is done; what would be answered if a lever
 -- of a box were moved, by the box's name and the moment; what stands at a box, by its name; what belongs to a section,
--- by the names of the box in its rear and of the box in advance; all that stands on the line; what stands otherwise than
--- behind so many entries; the entries from a number on; to go back to so many entries; or to end.
+-- by the names of the box in its rear and of the box in advance; all that stands on the line; what stands otherwise
+-- than behind so many entries; the entries from a number on; to go back to so many entries; or to end.
 pub data Asked : Type 0 where
   Call : List ℕ → List ℕ → List ℕ → Asked
   May : List ℕ → List ℕ → Asked

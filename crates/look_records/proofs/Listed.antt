@@ -1,6 +1,6 @@
 -- What is listed of things, one behind the other.
-use Rattle.std.proofs.Common.{◌≡◌, ℕ, ◌+◌, ◌<◌, ◌≤◌, List, [], ◌∷◌, ◌++◌, length, drop, get_or, map, slice_get, refl, sym, ap}
-use Rattle.std.proofs.Common.{subst, ◌∙◌}
+use Rattle.std.proofs.Common.{◌≡◌, ℕ, ◌+◌, ◌<◌, ◌≤◌, List, [], ◌∷◌, ◌++◌, length, drop, get_or, map, slice_get}
+use Rattle.std.proofs.Common.{refl, sym, ap, subst, ◌∙◌}
 use Rattle.std.proofs.lemmas.List.{drop_all, drop_more}
 use Rattle.serde_json.specs.Data.{Data}
 use Rattle.line_plan.specs.Frames.{BoxFields}
@@ -31,8 +31,11 @@ pub puts_here : (plan : PlanFields) (earlier now : LineState) (boxes : List BoxF
     → PutsChanges plan earlier now (b + 1) (drop (b + 1) boxes) more new
     → PutsChanges plan earlier now b (drop b boxes) old new
 puts_here plan earlier now boxes b things old more new lt is longer rest =
-    subst (λ (there : List BoxFields). PutsChanges plan earlier now b there old new) (sym (drop_more boxes b no_box lt))
-    (things, is, subst (λ (front : List Data). PutsChanges plan earlier now (b + 1) (drop (b + 1) boxes) front new) longer rest)
+    subst (λ (there : List BoxFields). PutsChanges plan earlier now b there old new) (sym (drop_more boxes b no_box lt)) (
+      things,
+      is,
+      subst (λ (front : List Data). PutsChanges plan earlier now (b + 1) (drop (b + 1) boxes) front new) longer rest,
+    )
 
 -- and none behind the last
 pub puts_none : (plan : PlanFields) (earlier now : LineState) (boxes : List BoxFields) (b : ℕ) (old : List Data)

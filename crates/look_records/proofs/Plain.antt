@@ -1,13 +1,14 @@
 -- What stands at a box nests few levels deep, and has no float.
-use Rattle.std.proofs.Common.{◌≡◌, ℕ, ◌+◌, ◌<◌, ◌≤◌, List, [], ◌∷◌, ◌++◌, All, Bool, true, false, Option, Some, None, length}
-use Rattle.std.proofs.Common.{arith, refl, option_map}
+use Rattle.std.proofs.Common.{◌≡◌, ℕ, ◌+◌, ◌<◌, ◌≤◌, List, [], ◌∷◌, ◌++◌, All, Bool, true, false, Option, Some}
+use Rattle.std.proofs.Common.{None, length, arith, refl, option_map}
 use Rattle.std.specs.Prelude.{◌||◌, codes, if◌then◌else◌}
 use Rattle.std.proofs.lemmas.List.Elements.{All-append, All-head, All-push, All-tail}
 use Rattle.serde_json.specs.Data.{Data, Members, array, items_depth, member, no_members}
 use Rattle.serde_json.specs.View.{items_of}
 use Rattle.serde_json.specs.Written.{has_float, items_have_float}
 use Rattle.json_objects.specs.Texts.{ArePlain, IsPlain, most_levels}
-use Rattle.json_objects.proofs.Plain.{flag_plain, member_plain, no_members_plain, number_plain, object_plain, text_if_plain}
+use Rattle.json_objects.proofs.Plain.{flag_plain, member_plain, no_members_plain, number_plain, object_plain}
+use Rattle.json_objects.proofs.Plain.{text_if_plain}
 use Rattle.json_objects.proofs.Plain.{text_plain}
 use Rattle.line_plan.specs.Frames.{BoxFields}
 use Rattle.line_plan.specs.Plans.{PlanFields, box_name}

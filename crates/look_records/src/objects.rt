@@ -4,7 +4,8 @@ ghost use Rattle.std.specs.Prelude.{◌≡◌, ◌++◌, IfOk, OnOk, map};
 ghost use Rattle.serde_json.specs.Data.{no_members};
 ghost use Rattle.serde_json.specs.View.{view};
 ghost use Rattle.json_objects.specs.Members.{members_in};
-ghost use Rattle.look_records.specs.Objects.{bell_data, block_data, is_kind, kind_data, kind_items, lever_data, line_data};
+ghost use Rattle.look_records.specs.Objects.{bell_data, block_data, is_kind, kind_data, kind_items, lever_data};
+ghost use Rattle.look_records.specs.Objects.{line_data};
 ghost use Rattle.look_records.specs.Objects.{line_items, look_data, place_data, plant_members};
 ghost use Rattle.look_records.specs.Objects.{thing_data, train_items};
 

@@ -199,8 +199,8 @@ fn add_incoming(
     add_section(things, plan, line, Section { rear, way })
 }
 
-/// What stands at a box: its levers and its places in the order of the plan, then what comes in on the down line, and on
-/// the up line.
+/// What stands at a box: its levers and its places in the order of the plan, then what comes in on the down line, and
+/// on the up line.
 #[tactic(auto, unfolding(crate::specs::Things::things_at))]
 pub fn things_at(
     alloc: Global,

@@ -7,7 +7,8 @@ pub enum Thing {
     Shape,
 }
 
-/// A part of a picture, in thousandths of a unit, from a million left of the picture and above it; and when it is drawn.
+/// A part of a picture, in thousandths of a unit, from a million left of the picture and above it; and when it is
+/// drawn.
 #[derive(Clone, Copy, Debug, PartialEq, Eq, PartialOrd, Ord)]
 pub struct Area {
     pub top: u64,
@@ -47,8 +48,8 @@ pub fn is_within(area: &Area, wide: u64, high: u64) -> bool {
     holds(&picture, area)
 }
 
-// Whether a shape is one on which words stand: it holds them wholly, but that they may reach over its upper rim by less than
-// a unit.
+// Whether a shape is one on which words stand: it holds them wholly, but that they may reach over its upper rim by less
+// than a unit.
 fn is_under(shape: &Area, words: &Area) -> bool {
     let lowered = Area {
         top: words.top.saturating_add(700).min(words.bottom),

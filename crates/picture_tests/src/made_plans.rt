@@ -317,9 +317,9 @@ impl<'a> Written<'a> {
     }
 }
 
-/// The text of a journal in which all that can happen in a plan at a moment happens then, but in the first box, where it
-/// begins before: each line holds four trains, of the first of which a portion is left where it has a berth, all other
-/// places hold trains, and all bells are unheard.
+/// The text of a journal in which all that can happen in a plan at a moment happens then, but in the first box, where
+/// it begins before: each line holds four trains, of the first of which a portion is left where it has a berth, all
+/// other places hold trains, and all bells are unheard.
 pub fn journal_text<'a>(
     alloc: Global,
     wanted: Wanted,
