@@ -4,10 +4,11 @@
 requests.py PROGRAM [MINUTES]
 
 PROGRAM is crates/signalbox/out/signalbox. For MINUTES (1), in one session after another, lines are written to it: calls
-of all kinds, looks, changes and steps back, beside cut, changed and made-up requests, bytes of all kinds, deep nesting
+of all kinds, scripts, looks, changes and steps back, beside cut, changed and made-up requests, bytes of all kinds, deep nesting
 and lines up to and over the longest. Where valgrind is installed every other session runs under it. Each line must be
-answered by one line, an object of JSON. A copy of the journal is kept by the answers, and a copy of all that stands by
-the changes alone; from time to time both must be what `journal` and `look` tell. At the end of a session the journal
+answered by one line, an object of JSON. A copy of the journal is kept by the answers, where boxes have scripts with what
+`journal` tells of the rest, and a copy of all that stands by the changes alone; from time to time both must be what
+`journal` and `look` tell. At the end of a session the journal
 must be one that the program judges legal. Anything else is told, and the exit status is then 1."""
 
 import json
@@ -24,7 +25,19 @@ CASE = os.path.join(HERE, "..", "crates", "worked_cases", "data", "people", "ser
 WORDS = ["pull 1", "pull 2", "pull 3", "pull 4", "put 1", "put 2", "put 4", "bring Local", "pass 2", "pass 4",
          "overrun 4", "ring down 3-1", "ring up 1", "hear up", "hear down", "turn down line_clear", "turn down normal",
          "turn down train_on_line", "berth down", "await_bell up 3-1", "wind down", "release down", "turn down", "ring"]
+SCRIPT_WORDS = ["pull 1", "pull 2", "put 1", "put 2", "await_bell up 3-1", "await_bell down 1", "ring up 1", "hear up",
+                "hear down", "ring down 3-1"]
 LONGEST = 65_536
+
+
+def a_script(rng, second):
+    """The text of a script, mostly one that can be read."""
+    lines = [f"script {rng.choice(['Elm', 'Elm', 'Oak', 'Oak', 'Ash'])}"]
+    for _ in range(rng.choice([0, 1, 2, 3, 5, 8])):
+        second += rng.choice([0, 0, 60])
+        lines.append(f"{second // 3600:02}:{second // 60 % 60:02} {rng.choice(SCRIPT_WORDS)}")
+    lines += ["end"] if rng.randint(0, 15) else []
+    return "".join(line + "\n" for line in lines)
 
 
 def a_request(rng, count, second):
@@ -38,6 +51,7 @@ def a_request(rng, count, second):
         {"look": rng.choice(["Elm", "Oak"]), "to": rng.choice(["Elm", "Oak"])},
         {"changes": rng.randint(0, count + 1)},
         {"journal": rng.randint(0, count + 2)},
+        {"script": a_script(rng, second)},
         {"back": max(0, count - rng.randint(-1, 3))},
     ])
 
@@ -94,6 +108,10 @@ class Session:
         self.put(self.ask(b'{"look":true}')["looks"])
         self.since = len(self.entries)
 
+    def follow(self):
+        """Keeps the entries that boxes have made by their scripts."""
+        self.entries += self.ask(b'{"journal":%d}' % (len(self.entries) + 1))["journal"]
+
     def compare(self):
         """Whether the copies are what the program tells."""
         told = self.ask(b'{"changes":%d}' % self.since)
@@ -108,10 +126,17 @@ class Session:
         """Asks a line, and keeps what its answer tells of the journal."""
         told = self.ask(line)
         if "n" in told:
+            if told["n"] != len(self.entries) + 1:
+                raise ValueError(f"{line[:200]!r} is answered by {told}, behind {len(self.entries)} entries")
             self.entries.append(told)
+            self.follow()
         elif set(told) == {"entries"} and told["entries"] < len(self.entries):
             self.entries = self.entries[:told["entries"]]
             self.look()
+        elif set(told) == {"entries"}:
+            self.follow()
+            if told["entries"] != len(self.entries):
+                raise ValueError(f"{line[:200]!r} is answered by {told}, and there are {len(self.entries)} entries")
         elif not set(told) & {"error", "may", "journal", "changes", "looks", "box", "entries"}:
             raise ValueError(f"{line[:200]!r} is answered by {told}")
 

@@ -15,7 +15,8 @@ use Rattle.line_requests.specs.declared.request.TheConstants.{LINE_LIMIT}
 -- What is asked for: a call of a box, by the box's name, the moment and what is done; what would be answered if a lever
 -- of a box were moved, by the box's name and the moment; what stands at a box, by its name; what belongs to a section,
 -- by the names of the box in its rear and of the box in advance; all that stands on the line; what stands otherwise
--- than behind so many entries; the entries from a number on; to go back to so many entries; or to end.
+-- than behind so many entries; the entries from a number on; to work a box by a script, by its text; to go back to so
+-- many entries; or to end.
 pub data Asked : Type 0 where
   Call : List ℕ → List ℕ → List ℕ → Asked
   May : List ℕ → List ℕ → Asked
@@ -24,6 +25,7 @@ pub data Asked : Type 0 where
   LookAll : Asked
   Changes : ℕ → Asked
   Journal : ℕ → Asked
+  Script : List ℕ → Asked
   Back : ℕ → Asked
   End : Asked
 
@@ -36,6 +38,7 @@ shown (requests.LookTo rear advance) = Asked.LookTo rear.now advance.now
 shown requests.LookAll = Asked.LookAll
 shown (requests.Changes count) = Asked.Changes count
 shown (requests.Journal from) = Asked.Journal from
+shown (requests.Script text) = Asked.Script text.now
 shown (requests.Back count) = Asked.Back count
 shown requests.End = Asked.End
 
@@ -87,6 +90,11 @@ abbrev pub box_asked : Option (List ℕ) → Option Asked
 box_asked None = None
 box_asked (Some box_name) = Some (Asked.Look box_name)
 
+-- a script, where its text is there
+abbrev pub script_asked : Option (List ℕ) → Option Asked
+script_asked None = None
+script_asked (Some text) = Some (Asked.Script text)
+
 -- what is asked for of a number, where it is there
 abbrev pub count_asked : (ℕ → Asked) → Option ℕ → Option Asked
 count_asked ask None = None
@@ -108,9 +116,13 @@ number_asked d =
 unfoldable pub look_asked : Data → Option Asked
 look_asked d = first_asked (box_asked (text_at (codes "look") d)) (all_asked (flag_at (codes "look") d))
 
+-- what an object with one member asks for by a text, or by true
+unfoldable pub word_asked : Data → Option Asked
+word_asked d = first_asked (script_asked (text_at (codes "script") d)) (look_asked d)
+
 -- what an object with one member asks for
 unfoldable pub one_asked : Data → Option Asked
-one_asked d = first_asked (end_asked (flag_at (codes "end") d)) (first_asked (number_asked d) (look_asked d))
+one_asked d = first_asked (end_asked (flag_at (codes "end") d)) (first_asked (number_asked d) (word_asked d))
 
 -- what may be done, where all that it needs is there
 abbrev pub may_asked : Option (List ℕ) → Option (List ℕ) → Option Asked

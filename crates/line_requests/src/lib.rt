@@ -6,7 +6,7 @@ mod fault;
 mod reading;
 mod request;
 
-pub use answers::{count_text, fault_text};
-pub use fault::{Fault, fault_word};
+pub use answers::{COUNT_ROOM, count_room, count_text, fault_text, put_count};
+pub use fault::{Fault, fault_line, fault_word};
 pub use reading::{request_in, value_in};
 pub use request::{LINE_LIMIT, Request};

@@ -4,7 +4,7 @@ ghost use Rattle.std.specs.Prelude.{◌≡◌, IfOk, codes, option_map};
 ghost use Rattle.serde_json.specs.View.{view};
 ghost use Rattle.line_requests.specs.Requests.{all_asked, asked_in, end_asked, flag_at, look_asked, may_asked};
 ghost use Rattle.line_requests.specs.Requests.{member_count, number_asked, number_at, one_asked, section_asked, shown};
-ghost use Rattle.line_requests.specs.Requests.{text_at, three_asked, two_asked, value_in};
+ghost use Rattle.line_requests.specs.Requests.{script_asked, text_at, three_asked, two_asked, value_in, word_asked};
 
 use crate::request::Request;
 use rail_text::NoMemory;
@@ -132,6 +132,25 @@ fn look_asked(value: &Value) -> Option<Request<'_>>
     }
 }
 
+// To work a box by a script, where that is asked for.
+fn script_asked(value: &Value) -> Option<Request<'_>>
+    ensures { option_map shown result ≡ script_asked (text_at (codes "script") (view value.now)) }
+{
+    let text = text_at(value, "script")?;
+    Some(Request::Script { text })
+}
+
+// What an object with one member asks for by a text, or by true.
+#[tactic(auto, unfolding(crate::specs::Requests::word_asked))]
+fn word_asked(value: &Value) -> Option<Request<'_>>
+    ensures { option_map shown result ≡ word_asked (view value.now) }
+{
+    match script_asked(value) {
+        Some(script) => Some(script),
+        None => look_asked(value),
+    }
+}
+
 // What an object with one member asks for by a number.
 #[tactic(auto, unfolding(crate::specs::Requests::number_asked))]
 fn number_asked(value: &Value) -> Option<Request<'_>>
@@ -157,7 +176,7 @@ fn one_asked(value: &Value) -> Option<Request<'_>>
     }
     match number_asked(value) {
         Some(asked) => Some(asked),
-        None => look_asked(value),
+        None => word_asked(value),
     }
 }
 

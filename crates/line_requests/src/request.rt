@@ -36,6 +36,10 @@ pub enum Request<'v> {
     Journal {
         from: u64,
     },
+    /// To work a box by a script: the script's text, as a file has it.
+    Script {
+        text: &'v str,
+    },
     /// To go back to where there were so many entries.
     Back {
         count: u64,

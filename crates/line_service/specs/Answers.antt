@@ -2,6 +2,7 @@
 use Rattle.std.specs.Prelude.{◌≡◌, ◌⊎◌, ℕ, ◌+◌, Bool, true, false, List, length, nat_le, take, if◌then◌else◌}
 use Rattle.std.specs.Prelude.{Result, Ok, Err}
 use Rattle.line_law.specs.declared.call.Entry.{Entry}
+use Rattle.script_text.specs.declared.script.Script.{Script}
 use Rattle.journal_records.specs.Objects.{IsEntryText}
 use Rattle.line_requests.specs.Answers.{IsCountText, IsFaultText}
 use Rattle.line_requests.specs.Requests.{Asked, asked_of}
@@ -10,13 +11,14 @@ use Rattle.line_requests.specs.declared.fault.Fault.TheVariants as faults
 use Rattle.line_service.specs.Calls.{MayFollow, box_named, call_line, entry_on, with_entry}
 use Rattle.line_service.specs.Lists.{AreMoves, IsListed, before_entry, present_of}
 use Rattle.line_service.specs.Looks.{AreChanged, IsLookText, IsLooksText, IsSectionText, section_named}
-use Rattle.line_service.specs.Services.{ServiceFields}
+use Rattle.line_service.specs.Scripts.{MayWork, script_given, with_script}
+use Rattle.line_service.specs.Services.{ServiceFields, gone_on, none_left}
 
 -- ---- a call
 
--- a call adds its entry; one that isn't made changes nothing
+-- a call adds its entry, and the boxes that have scripts go on; one that isn't made changes nothing
 abbrev pub after_made : ServiceFields → Result Entry Fault → ServiceFields
-after_made service (Ok e) = with_entry service e
+after_made service (Ok e) = gone_on (with_entry service e)
 after_made service (Err fault) = service
 
 -- it is answered by its entry, with the number that this has in the journal
@@ -24,15 +26,30 @@ abbrev pub IsMadeText : ServiceFields → Result Entry Fault → List ℕ → Ty
 IsMadeText service (Ok e) text = IsEntryText service.plan (length service.entries + 1) e text
 IsMadeText service (Err fault) text = IsFaultText fault text
 
+-- ---- a script
+
+-- the box is given its script, and all that have one go on; one that isn't taken changes nothing
+abbrev pub after_given : ServiceFields → Result Script Fault → ServiceFields
+after_given service (Ok script) = gone_on (with_script service script)
+after_given service (Err fault) = service
+
+-- it is answered by how many entries there are then
+abbrev pub IsGivenText : ServiceFields → Result Script Fault → List ℕ → Type 0
+IsGivenText service (Ok script) text = IsCountText (length (gone_on (with_script service script)).entries) text
+IsGivenText service (Err fault) text = IsFaultText fault text
+
 -- ---- back
 
 -- so many entries, where there are as many
 abbrev pub kept_of : ServiceFields → ℕ → Result ℕ Fault
 kept_of service count = if nat_le count (length service.entries) then Ok count else Err faults.UnknownEntry
 
--- the service with its first entries alone, as it was behind them
+-- the service with its first entries alone, and no box with a script
 abbrev pub with_first : ServiceFields → ℕ → ServiceFields
-with_first service count = record service { entries = take count service.entries }
+with_first service count = record service {
+  entries = take count service.entries;
+  left = none_left service.plan;
+}
 
 -- what it is where it has gone back to so many entries
 abbrev pub after_back : ServiceFields → Result ℕ Fault → ServiceFields
@@ -55,6 +72,7 @@ after_asked service (Asked.LookTo rear advance) = service
 after_asked service Asked.LookAll = service
 after_asked service (Asked.Changes count) = service
 after_asked service (Asked.Journal from) = service
+after_asked service (Asked.Script text) = after_given service (script_given service text)
 after_asked service (Asked.Back count) = after_back service (kept_of service count)
 after_asked service Asked.End = service
 
@@ -69,6 +87,7 @@ IsAnswered service (Asked.LookTo rear advance) text =
 IsAnswered service Asked.LookAll text = IsLooksText service text
 IsAnswered service (Asked.Changes count) text = AreChanged service (kept_of service count) text
 IsAnswered service (Asked.Journal from) text = IsListed service (before_entry service from) text
+IsAnswered service (Asked.Script script) text = IsGivenText service (script_given service script) text
 IsAnswered service (Asked.Back count) text = IsBackText (kept_of service count) text
 IsAnswered service Asked.End text = IsCountText (length service.entries) text
 
@@ -86,11 +105,13 @@ IsReadText service (Err fault) text = IsFaultText fault text
 
 -- ---- what comes of a line
 
--- the service that comes next: the same; with an entry more that the law allows behind those that are there; or with
--- its first entries alone
+-- the service that comes next: the same; with an entry more that the law allows behind those that are there, and then
+-- what the boxes with scripts do; with a script that its box may work by, and then what these do; or with its first
+-- entries alone
 abbrev pub IsNext : ServiceFields → ServiceFields → Type 0
 IsNext old new =
-    (new ≡ old) ⊎ ((e : Entry) × MayFollow old e × (new ≡ with_entry old e))
+    (new ≡ old) ⊎ ((e : Entry) × MayFollow old e × (new ≡ gone_on (with_entry old e)))
+    ⊎ ((script : Script) × MayWork old script × (new ≡ gone_on (with_script old script)))
     ⊎ ((count : ℕ) × (new ≡ with_first old count))
 
 -- it asks to end

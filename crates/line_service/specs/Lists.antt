@@ -1,5 +1,5 @@
 -- Answers that list entries.
-use Rattle.std.specs.Prelude.{◌≡◌, ℕ, ◌+◌, ◌-◌, ◌<◌, ◌≤◌, ◌^◌, ◌&&◌, List, [], ◌∷◌, ◌++◌, codes, drop, length}
+use Rattle.std.specs.Prelude.{◌≡◌, ℕ, ◌+◌, ◌-◌, ◌<◌, ◌≤◌, ◌^◌, ◌&&◌, false, List, [], ◌∷◌, ◌++◌, codes, drop, length}
 use Rattle.std.specs.Prelude.{Option, Some, None, Result, Ok, Err, nat_le, nat_lt, if◌then◌else◌}
 use Rattle.serde_json.specs.Data.{Data, array, member, no_members, object}
 use Rattle.serde_json.specs.View.{items_of}
@@ -17,7 +17,7 @@ use Rattle.line_requests.specs.Answers.{IsFaultText}
 use Rattle.line_requests.specs.declared.fault.Fault.{Fault}
 use Rattle.line_requests.specs.declared.fault.Fault.TheVariants as faults
 use Rattle.line_service.specs.Calls.{box_named}
-use Rattle.line_service.specs.Services.{ServiceFields, line_of}
+use Rattle.line_service.specs.Services.{ServiceFields, count_in_all, has_script, line_of}
 use Rattle.line_service.specs.declared.moves.Present.{Present}
 use Rattle.line_service.specs.declared.service.TheConstants.{MOST_ENTRIES}
 
@@ -56,17 +56,19 @@ abbrev pub moment_or : Option ℕ → Result ℕ Fault
 moment_or None = Err (faults.Cause causes.BadMoment)
 moment_or (Some moment) = Ok moment
 
--- it is a box of the line, and may make a call at that moment of the day
+-- it is a box of the line that no script works, and may make a call at that moment of the day
 pub record IsPresent (service : ServiceFields) (here : Present) : Type 0 where
   pub at : here.box_no < length service.plan.boxes
   pub day : here.moment < moments_of service.plan.version
   pub later : (box_at (line_of service) here.box_no).moment ≤ here.moment
-  pub room : length service.entries + 1 < 2 ^ 32
+  pub own : has_script service here.box_no ≡ false
+  pub room : count_in_all service + 1 < 2 ^ 32
 
 -- box b at a moment, where it may make a call then
 unfoldable pub present_at : ServiceFields → ℕ → ℕ → Result Present Fault
 present_at service b moment =
-    if nat_le MOST_ENTRIES (length service.entries) then Err faults.Full
+    if has_script service b then Err faults.HasScript
+    else if nat_le MOST_ENTRIES (count_in_all service) then Err faults.Full
     else if nat_lt moment (box_at (line_of service) b).moment then Err (faults.Cause causes.MomentFalls)
     else Ok (record { box_no = b; moment = moment })
 

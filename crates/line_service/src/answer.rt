@@ -8,11 +8,15 @@ use crate::calls::{box_named, call_line, entry_on};
 use crate::lists::{before_entry, journal_text, moves_text};
 use crate::looks::{look_text, looks_text, section_named, section_text};
 use crate::moves::present_of;
+use crate::scripts::script_given;
 use crate::service::Service;
 use journal_records::entry_text;
 use line_law::Entry;
-use line_requests::{Fault, LINE_LIMIT, Request, count_text, fault_text, request_in, value_in};
+use line_requests::{
+    Fault, LINE_LIMIT, Request, count_room, count_text, fault_text, put_count, request_in, value_in,
+};
 use rail_text::{Cause, NoMemory};
+use script_text::Script;
 use serde_json::Value;
 use std::alloc::Global;
 
@@ -33,7 +37,7 @@ fn is_end(request: &Request<'_>) -> bool
 }
 
 // So many entries, where there are as many.
-fn kept_of(service: &Service<'_>, count: u64) -> Result<usize, Fault>
+fn kept_of(service: &Service, count: u64) -> Result<usize, Fault>
     ensures exact { result ≡ kept_of service.now count }
     ensures within { IfOk result (λ first. first ≤ length service.now.entries) }
 {
@@ -44,16 +48,17 @@ fn kept_of(service: &Service<'_>, count: u64) -> Result<usize, Fault>
     }
 }
 
-impl<'a> Service<'a> {
+impl Service {
     ghost use Rattle.std.specs.Prelude.{◌≡◌, IfErr, IfOk, length, string_bytes};
     ghost use Rattle.serde_json.specs.View.{view};
     ghost use Rattle.line_requests.specs.Answers.{IsCountText, IsFaultText};
     ghost use Rattle.line_requests.specs.Requests.{asked_in, asked_or, request_or, shown, value_in};
     ghost use Rattle.line_service.specs.Answers.{IsAnswer, IsAnswered, IsMadeText, IsNext, IsReadText, after_asked};
     ghost use Rattle.line_service.specs.Answers.{after_line, after_made, after_read, ends, is_end};
-    ghost use Rattle.line_service.specs.Answers.{IsBackText, after_back, kept_of};
+    ghost use Rattle.line_service.specs.Answers.{IsBackText, IsGivenText, after_back, after_given, kept_of};
     ghost use Rattle.line_service.specs.Calls.{MayFollow, box_named, call_line, entry_on};
     ghost use Rattle.line_service.specs.Lists.{AreMoves, IsListed, before_entry, present_of};
+    ghost use Rattle.line_service.specs.Scripts.{MayWork, script_given};
     ghost use Rattle.line_service.specs.Looks.{AreChanged, IsLookText, IsLooksText, IsSectionText, section_named};
 
     // A fault is answered. It changes nothing.
@@ -139,6 +144,33 @@ impl<'a> Service<'a> {
         }
     }
 
+    // A box is given a script, and that is answered.
+    fn answer_given(&mut self, alloc: Global, script: Script) -> Result<String, NoMemory>
+        requires { MayWork self.old script }
+        ensures after { IfOk result (λ _. self.new ≡ after_given self.old (Ok script)) }
+        ensures next { IfOk result (λ _. IsNext self.old self.new) }
+        ensures text { IfOk result (λ text. IsGivenText self.old (Ok script) (string_bytes text)) }
+        ensures kept { IfErr result (λ _. self.new ≡ self.old) }
+    {
+        let room = count_room(alloc)?;
+        self.work_by(script)?;
+        Ok(put_count(room, self.entries().len() as u64))
+    }
+
+    // The text of a script is answered.
+    fn answer_script(&mut self, alloc: Global, text: &str) -> Result<String, NoMemory>
+        ensures after { IfOk result (λ _. self.new ≡ after_given self.old (script_given self.old text.now)) }
+        ensures next { IfOk result (λ _. IsNext self.old self.new) }
+        ensures text { IfOk result (λ answer. IsGivenText self.old (script_given self.old text.now)
+            (string_bytes answer)) }
+        ensures kept { IfErr result (λ _. self.new ≡ self.old) }
+    {
+        match script_given(alloc, self, text.as_bytes())? {
+            Ok(script) => self.answer_given(alloc, script),
+            Err(fault) => self.answer_fault(alloc, fault),
+        }
+    }
+
     // It goes back to where there were so many entries, and that is answered.
     fn answer_back(&mut self, alloc: Global, count: u64) -> Result<String, NoMemory>
         ensures after { IfOk result (λ _. self.new ≡ after_back self.old (kept_of self.old count)) }
@@ -200,6 +232,7 @@ impl<'a> Service<'a> {
             Request::LookAll => self.answer_looks(alloc),
             Request::Changes { count } => self.answer_changes(alloc, count),
             Request::Journal { from } => self.answer_journal(alloc, from),
+            Request::Script { text } => self.answer_script(alloc, text),
             Request::Back { count } => self.answer_back(alloc, count),
             Request::End => self.answer_end(alloc),
         }
@@ -249,9 +282,10 @@ impl<'a> Service<'a> {
     /// Answers a line, which is one request as JSON without its end. A call of a box is read as a line of its script
     /// is, and made where its moment isn't below that of the box's last one; it is answered by its entry, whether what
     /// was asked for is done or refused. `may` tells of each lever of a box what a call that moves it would be
-    /// answered; `look` of what stands at a box, on a section or on the whole line, and `changes` of what stands otherwise
-    /// than behind so many entries; `journal` tells the entries from a number on; `back` goes back to where there were
-    /// so many entries.
+    /// answered; `look` of what stands at a box, on a section or on the whole line, and `changes` of what stands
+    /// otherwise than behind so many entries; `journal` tells the entries from a number on; `script` gives a box a
+    /// script, by which it goes on there and behind each call; `back` goes back to where there were so many entries,
+    /// and no box has a script any more.
     /// Anything else that isn't understood, and a line longer than 65,536 bytes, is answered by an error, and changes
     /// nothing. Where memory runs out, nothing is changed.
     #[tactic(auto, unfolding(line_requests::specs::Requests::asked_of, crate::specs::Answers::after_line, crate::specs::Answers::IsAnswer, crate::specs::Answers::ends))]

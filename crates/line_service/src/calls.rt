@@ -21,9 +21,9 @@ pub(crate) fn box_named(plan: &Plan, name: &str) -> Result<u32, Fault>
     plan.box_names.number_of(name).ok_or(Fault::UnknownBox)
 }
 
-// The call of a box that a line of its script spells.
+/// The call of a box that a line of its script spells.
 #[tactic(auto, unfolding(crate::specs::Calls::call_in))]
-fn call_in(plan: &Plan, box_no: u32, line: &[u8]) -> Result<Call, Fault>
+pub fn call_in(plan: &Plan, box_no: u32, line: &[u8]) -> Result<Call, Fault>
     requires { box_no < length plan.now.boxes }
     ensures exact { result ≡ call_in plan.now box_no line.now }
     ensures known { IfOk result (λ call. KnowsCall plan.now box_no call) }
@@ -34,14 +34,17 @@ fn call_in(plan: &Plan, box_no: u32, line: &[u8]) -> Result<Call, Fault>
     }
 }
 
-// The entry of a call that the plan knows.
+/// The entry of a call that the plan knows. Nothing is changed.
 #[tactic(auto, unfolding(crate::specs::Calls::entry_made))]
-fn entry_made(service: &Service<'_>, box_no: u32, call: &Call) -> Result<Entry, Fault>
+pub fn entry_made(service: &Service, box_no: u32, call: &Call) -> Result<Entry, Fault>
     requires at { box_no < length service.now.plan.boxes }
     requires known { KnowsCall service.now.plan box_no call.now }
     ensures exact { result ≡ entry_made service.now box_no call.now }
     ensures may { IfOk result (λ entry. MayFollow service.now entry) }
 {
+    if service.has_script(box_no) {
+        return Err(Fault::HasScript);
+    }
     if service.is_full() {
         return Err(Fault::Full);
     }
@@ -53,7 +56,7 @@ fn entry_made(service: &Service<'_>, box_no: u32, call: &Call) -> Result<Entry, 
 
 /// The entry of a call that a box makes now, by the box's name and a line of its script. Nothing is changed.
 #[tactic(auto, unfolding(crate::specs::Calls::entry_on))]
-pub(crate) fn entry_on(service: &Service<'_>, name: &str, line: &[u8]) -> Result<Entry, Fault>
+pub(crate) fn entry_on(service: &Service, name: &str, line: &[u8]) -> Result<Entry, Fault>
     ensures exact { result ≡ entry_on service.now name.now line.now }
     ensures may { IfOk result (λ entry. MayFollow service.now entry) }
 {

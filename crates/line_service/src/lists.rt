@@ -43,7 +43,7 @@ fn list_text(alloc: Global, key: &str, items: Vec<Value>) -> Result<String, Allo
 }
 
 /// How many entries come before the one with a number.
-pub(crate) fn before_entry(service: &Service<'_>, from: u64) -> Result<usize, Fault>
+pub(crate) fn before_entry(service: &Service, from: u64) -> Result<usize, Fault>
     ensures exact { result ≡ before_entry service.now from }
     ensures within { IfOk result (λ before. before ≤ length service.now.entries) }
 {
@@ -78,7 +78,7 @@ fn entry_items(
 
 // The entries behind so many.
 #[tactic(auto, using(crate::proofs::Listed::behind_whole))]
-fn entries_behind<'s>(service: &'s Service<'_>, before: usize) -> &'s [Entry]
+fn entries_behind(service: &Service, before: usize) -> &[Entry]
     requires { before ≤ length service.now.entries }
     ensures { result.now ≡ drop before service.now.entries }
 {
@@ -89,7 +89,7 @@ fn entries_behind<'s>(service: &'s Service<'_>, before: usize) -> &'s [Entry]
 /// The text of the objects of the entries behind so many.
 pub(crate) fn journal_text(
     alloc: Global,
-    service: &Service<'_>,
+    service: &Service,
     before: usize,
 ) -> Result<String, AllocError>
     requires { before ≤ length service.now.entries }
@@ -106,7 +106,7 @@ pub(crate) fn journal_text(
 // The object of the call that moves a lever, with its reply.
 fn move_value(
     alloc: Global,
-    service: &Service<'_>,
+    service: &Service,
     here: Present,
     lever: u32,
 ) -> Result<Value, AllocError>
@@ -122,7 +122,7 @@ fn move_value(
 }
 
 // The levers of a box.
-fn levers_of<'p>(service: &Service<'p>, here: Present) -> &'p [Lever]
+fn levers_of(service: &Service, here: Present) -> &[Lever]
     requires { IsPresent service.now here }
     ensures { result.now ≡ (box_plan_at service.now.plan.boxes here.box_no).levers }
 {
@@ -135,7 +135,7 @@ fn levers_of<'p>(service: &Service<'p>, here: Present) -> &'p [Lever]
 #[tactic(auto, using(box_view::proofs::Levers::lever_there))]
 fn move_items(
     alloc: Global,
-    service: &Service<'_>,
+    service: &Service,
     here: Present,
     levers: &[Lever],
 ) -> Result<Vec<Value>, AllocError>
@@ -155,7 +155,7 @@ fn move_items(
 /// The text of the calls that move the levers of a box, with their replies.
 pub(crate) fn moves_text(
     alloc: Global,
-    service: &Service<'_>,
+    service: &Service,
     here: Present,
 ) -> Result<String, AllocError>
     requires { IsPresent service.now here }

@@ -49,11 +49,7 @@ pub(crate) fn section_named(plan: &Plan, rear: &str, advance: &str) -> Result<Se
 }
 
 /// The text of what stands at a box.
-pub(crate) fn look_text(
-    alloc: Global,
-    service: &Service<'_>,
-    box_no: u32,
-) -> Result<String, NoMemory>
+pub(crate) fn look_text(alloc: Global, service: &Service, box_no: u32) -> Result<String, NoMemory>
     requires { box_no < length service.now.plan.boxes }
     ensures { IfOk result (λ text. IsTextOf
         (look_data service.now.plan box_no (things_at service.now.plan (line_of service.now) box_no))
@@ -66,7 +62,7 @@ pub(crate) fn look_text(
 /// The text of what belongs to a section, which stands at its box in advance.
 pub(crate) fn section_text(
     alloc: Global,
-    service: &Service<'_>,
+    service: &Service,
     section: Section,
 ) -> Result<String, NoMemory>
     requires { IsSection service.now.plan section }
@@ -79,7 +75,7 @@ pub(crate) fn section_text(
 }
 
 /// The text of all that stands on the line.
-pub(crate) fn looks_text(alloc: Global, service: &Service<'_>) -> Result<String, NoMemory>
+pub(crate) fn looks_text(alloc: Global, service: &Service) -> Result<String, NoMemory>
     ensures { IfOk result
         (λ text. IsTextOf (looks_data service.now.plan (line_of service.now)) (string_bytes text)) }
 {

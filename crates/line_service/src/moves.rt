@@ -33,12 +33,15 @@ fn moment_in(version: u8, word: &str) -> Result<u32, Fault>
 
 // A box at a moment, where it may make a call then.
 #[tactic(auto, unfolding(crate::specs::Lists::present_at))]
-fn present_at(service: &Service<'_>, box_no: u32, moment: u32) -> Result<Present, Fault>
+fn present_at(service: &Service, box_no: u32, moment: u32) -> Result<Present, Fault>
     requires at { box_no < length service.now.plan.boxes }
     requires day { moment < moments_of service.now.plan.version }
     ensures exact { result ≡ present_at service.now box_no moment }
     ensures present { IfOk result (λ here. IsPresent service.now here) }
 {
+    if service.has_script(box_no) {
+        return Err(Fault::HasScript);
+    }
     if service.is_full() {
         return Err(Fault::Full);
     }
@@ -50,7 +53,7 @@ fn present_at(service: &Service<'_>, box_no: u32, moment: u32) -> Result<Present
 
 /// The box of that name at the moment of that word, where it may make a call then.
 #[tactic(auto, unfolding(crate::specs::Lists::present_of))]
-pub(crate) fn present_of(service: &Service<'_>, name: &str, at: &str) -> Result<Present, Fault>
+pub(crate) fn present_of(service: &Service, name: &str, at: &str) -> Result<Present, Fault>
     ensures exact { result ≡ present_of service.now name.now at.now }
     ensures present { IfOk result (λ here. IsPresent service.now here) }
 {
@@ -72,7 +75,7 @@ fn move_of(here: &BoxState, lever: u32) -> Act
 
 /// The entry of the call that moves a lever. Nothing is changed.
 #[tactic(auto, using(crate::proofs::Moving::move_may))]
-pub(crate) fn move_entry(service: &Service<'_>, here: Present, lever: u32) -> Entry
+pub(crate) fn move_entry(service: &Service, here: Present, lever: u32) -> Entry
     requires here { IsPresent service.now here }
     requires lever { IsTrue (knows_lever service.now.plan here.box_no lever) }
     ensures law { result ≡ move_entry service.now.plan (line_of service.now) here.box_no here.moment lever }

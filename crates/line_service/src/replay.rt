@@ -25,6 +25,23 @@ fn replay(plan: &Plan, line: &mut Plain, entries: &[Entry], from: usize, count: 
     }
 }
 
+/// The line of a plan as it stood behind the first so many entries of a legal history.
+pub fn line_behind(
+    alloc: Global,
+    plan: &Plan,
+    entries: &[Entry],
+    count: usize,
+) -> Result<Plain, NoMemory>
+    requires legal { IsLegal plan.now entries.now }
+    requires few { length entries.now < 2 ^ 32 }
+    requires within { count ≤ length entries.now }
+    ensures { IfOk result (λ line. IsKept plan.now (take count entries.now) line) }
+{
+    let mut line = Plain::open(alloc, plan)?;
+    replay(plan, &mut line, entries, 0, count);
+    Ok(line)
+}
+
 /// A line as it stood behind the first so many entries of a legal history is brought to where it stood behind others:
 /// onward, or from the beginning where these are fewer. Where memory runs out, it stays as it was.
 pub fn bring(
@@ -43,8 +60,7 @@ pub fn bring(
     ensures stays { IfErr result (λ _. line.new ≡ line.old) }
 {
     if count < from {
-        *line = Plain::open(alloc, plan)?;
-        replay(plan, line, entries, 0, count);
+        *line = line_behind(alloc, plan, entries, count)?;
     } else {
         replay(plan, line, entries, from, count);
     }

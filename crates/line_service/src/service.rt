@@ -1,60 +1,67 @@
-//! A service: a plan, the calls made so far, and the line as they leave it.
+//! A service: a plan, the calls made so far, the line as they leave it, and what is left of the scripts.
 
-use crate::replay::bring;
+use crate::others::{Work, go_on, no_scripts, work_call};
+use crate::replay::{bring, line_behind};
 use line_law::{Call, Entry, Plain};
 use line_plan::Plan;
 use look_records::changes_text;
 use rail_text::NoMemory;
+use script_text::Script;
 use std::alloc::{AllocError, Global};
 use std::marker::Model;
 
-/// The most entries that a service keeps.
+/// The most entries that a service keeps, those counted that are still to come by scripts.
 pub const MOST_ENTRIES: usize = 4_294_967_294;
 
-/// A line that is held for a program of others. Contracts see the plan, and the calls made so far with their replies;
-/// the line is as these leave it.
+/// A line that is held for a program of others. Contracts see the plan, the calls made so far with their replies, and
+/// what is left of each box's script; the line is as the calls leave it.
 #[derive(Drop)]
-pub struct Service<'a> {
-    plan: &'a Plan,
-    line: Plain,
+pub struct Service {
+    plan: Plan,
+    work: Work,
     entries: Vec<Entry>,
     earlier: Plain,
     earlier_count: usize,
 }
 
-impl<'a> Model for Service<'a> {
+impl Model for Service {
     ghost use Rattle.line_service.specs.Services.{IsHeld, ServiceFields};
 
     ghost Value = { ServiceFields };
 
-    ghost view = { λ s. record { plan = s.plan.now; entries = s.entries.items } };
+    ghost view = { λ s. record { plan = s.plan; entries = s.entries.items; left = s.work.roster } };
 
-    ghost invariant = { λ s. IsHeld s.plan.now s.entries.items s.line s.earlier s.earlier_count };
+    ghost invariant = { λ s. IsHeld s.plan s.entries.items s.work.roster s.work.line s.earlier s.earlier_count };
 }
 
-impl<'a> Service<'a> {
-    ghost use Rattle.std.specs.Prelude.{◌≡◌, ◌<◌, ◌≤◌, ◌^◌, [], IfErr, IfOk, OnErr, OnOk, length, nat_le};
+impl Service {
+    ghost use Rattle.std.specs.Prelude.{◌≡◌, ◌<◌, ◌≤◌, ◌^◌, IfErr, IfOk, OnErr, OnOk, length, nat_le, nat_lt, not};
     ghost use Rattle.std.specs.Prelude.{string_bytes, take};
     ghost use Rattle.line_plan.specs.Plans.{IsPlan};
     ghost use Rattle.line_law.specs.History.{IsLegal, entry_of, state_of};
     ghost use Rattle.line_law.specs.Law.{MayCall};
     ghost use Rattle.line_law.specs.Lines.{IsLineOf};
+    ghost use Rattle.line_law.specs.Serial.{AreLeft};
     ghost use Rattle.line_law.specs.States.{box_at};
     ghost use Rattle.script_text.specs.Entries.{IsSpelled};
+    ghost use Rattle.script_text.specs.Limits.{most_calls};
     ghost use Rattle.look_records.specs.Changes.{IsChangesText};
     ghost use Rattle.line_service.specs.Answers.{with_first};
     ghost use Rattle.line_service.specs.Calls.{MayFollow, with_entry};
-    ghost use Rattle.line_service.specs.Services.{line_of};
+    ghost use Rattle.line_service.specs.Scripts.{MayWork, with_script};
+    ghost use Rattle.line_service.specs.Services.{count_in_all, gone_on, has_script, line_of, opening};
 
-    /// The line of a plan as it opens, with no call made.
-    pub fn new(alloc: Global, plan: &'a Plan) -> Result<Service<'a>, NoMemory>
-        ensures { IfOk result (λ service. service ≡ record { plan = plan.now; entries = [] }) }
+    /// The line of a plan as it opens, with no call made and no script given.
+    pub fn new(alloc: Global, plan: Plan) -> Result<Service, NoMemory>
+        ensures { IfOk result (λ service. service ≡ opening plan) }
     {
-        let line = Plain::open(alloc, plan)?;
-        let earlier = Plain::open(alloc, plan)?;
+        plan.meets_conditions();
+        let line = Plain::open(alloc, &plan)?;
+        let earlier = Plain::open(alloc, &plan)?;
+        let roster = no_scripts(alloc, &plan)?;
         Ok(Service {
             plan,
-            line,
+            work: Work { line, roster },
             entries: Vec::new(alloc),
             earlier,
             earlier_count: 0,
@@ -65,16 +72,17 @@ impl<'a> Service<'a> {
     pub fn meets_conditions(&self)
         ensures plan { IsPlan self.now.plan }
         ensures legal { IsLegal self.now.plan self.now.entries }
-        ensures few { length self.now.entries < 2 ^ 32 }
+        ensures left { AreLeft self.now.plan (line_of self.now) self.now.left }
+        ensures few { count_in_all self.now < 2 ^ 32 }
     {
         self.plan.meets_conditions();
     }
 
     /// The plan.
-    pub fn plan(&self) -> &'a Plan
+    pub fn plan(&self) -> &Plan
         ensures { result.now ≡ self.now.plan }
     {
-        self.plan
+        &self.plan
     }
 
     /// The calls made so far, with their replies.
@@ -84,11 +92,31 @@ impl<'a> Service<'a> {
         &self.entries
     }
 
-    /// Whether there are as many entries as may be.
+    /// Whether there are as many entries as may be, those counted that are still to come.
     pub fn is_full(&self) -> bool
-        ensures { result ≡ nat_le MOST_ENTRIES (length self.now.entries) }
+        ensures { result ≡ nat_le MOST_ENTRIES (count_in_all self.now) }
     {
-        self.entries.len() >= MOST_ENTRIES
+        self.entries.len() + self.work.roster.count() >= MOST_ENTRIES
+    }
+
+    /// Whether a box is worked by its script, which has calls left.
+    pub fn has_script(&self, box_no: u32) -> bool
+        requires { box_no < length self.now.plan.boxes }
+        ensures { result ≡ has_script self.now box_no }
+    {
+        self.meets_conditions();
+        self.work.roster.count_of(box_no as usize) > 0
+    }
+
+    /// Whether there is room for the entries of a script, in the place of what is left of its box's earlier one.
+    pub fn has_room(&self, script: &Script) -> bool
+        requires at { script.now.box_no < length self.now.plan.boxes }
+        requires few { length script.now.calls ≤ most_calls }
+        ensures { result ≡ not (nat_lt MOST_ENTRIES (count_in_all (with_script self.now script.now))) }
+    {
+        self.meets_conditions();
+        let left = self.work.roster.count() - self.work.roster.count_of(script.box_no as usize);
+        self.entries.len() + left + script.calls.len() <= MOST_ENTRIES
     }
 
     /// The line as the calls leave it.
@@ -98,7 +126,7 @@ impl<'a> Service<'a> {
         ensures few { result.now.calls < 2 ^ 32 }
     {
         self.plan.meets_conditions();
-        &self.line
+        &self.work.line
     }
 
     /// The moment of a box's last call, or 0.
@@ -114,7 +142,7 @@ impl<'a> Service<'a> {
         requires { MayCall self.now.plan (line_of self.now) box_no call.now }
         ensures { result ≡ entry_of self.now.plan (line_of self.now) box_no call.now }
     {
-        let reply = self.line().answer(self.plan, box_no, call);
+        let reply = self.line().answer(&self.plan, box_no, call);
         Entry {
             box_no,
             call: *call,
@@ -132,44 +160,50 @@ impl<'a> Service<'a> {
         let _ = entry;
     }
 
-    // The line of a plan behind the entries of a legal history.
-    #[tactic(auto, using(crate::proofs::Kept::front_next))]
-    fn behind(alloc: Global, plan: &'a Plan, entries: &[Entry]) -> Result<Service<'a>, NoMemory>
-        requires legal { IsLegal plan.now entries.now }
-        requires few { length entries.now < 2 ^ 32 }
-        ensures { IfOk result (λ service. service ≡ record { plan = plan.now; entries = entries.now }) }
-    {
-        let mut service = Service::new(alloc, plan)?;
-        for entry in entries {
-            service.keep(*entry)?;
-        }
-        Ok(service)
-    }
-
-    /// Goes back to where there were so many entries. Where memory runs out, nothing is changed.
-    #[tactic(auto, using(line_law::proofs::Histories::legal_front, crate::proofs::Kept::front_long))]
+    /// Goes back to where there were so many entries, and no box has a script any more. Where memory runs out, nothing
+    /// is changed.
     pub fn go_back(&mut self, alloc: Global, count: usize) -> Result<(), NoMemory>
         requires { count ≤ length self.old.entries }
         ensures back { IfOk result (λ _. self.new ≡ with_first self.old count) }
         ensures kept { IfErr result (λ _. self.new ≡ self.old) }
     {
-        self.meets_conditions();
-        let before = Service::behind(alloc, self.plan, &self.entries[..count])?;
-        *self = before;
+        self.plan.meets_conditions();
+        let line = line_behind(alloc, &self.plan, &self.entries, count)?;
+        let earlier = Plain::open(alloc, &self.plan)?;
+        let roster = no_scripts(alloc, &self.plan)?;
+        self.work = Work { line, roster };
+        self.earlier = earlier;
+        self.earlier_count = 0;
+        self.entries.truncate(count);
         Ok(())
     }
 
-    /// Makes the call of an entry which the law allows behind those that are there. Where memory runs out, it isn't
-    /// made.
+    /// Makes the call of an entry which the law allows behind those that are there, and then the boxes go on that have
+    /// scripts. Where memory runs out, nothing is changed.
     pub fn keep(&mut self, entry: Entry) -> Result<(), AllocError>
         requires { MayFollow self.old entry }
-        ensures made { OnOk result (self.new ≡ with_entry self.old entry) }
+        ensures made { OnOk result (self.new ≡ gone_on (with_entry self.old entry)) }
         ensures not_made { OnErr result (self.new ≡ self.old) }
     {
-        let plan = self.plan;
-        plan.meets_conditions();
-        self.entries.push(entry)?;
-        let _ = self.line.perform(plan, entry.box_no, &entry.call);
+        let count = self.work.roster.count();
+        self.entries.reserve(count + 1)?;
+        work_call(&mut self.work, &self.plan, &mut self.entries, &entry);
+        Ok(())
+    }
+
+    /// Gives a box a script to work by, in the place of what is left of an earlier one, and then the boxes go on that
+    /// have scripts. Where memory runs out, nothing is changed.
+    pub fn work_by(&mut self, script: Script) -> Result<(), AllocError>
+        requires { MayWork self.old script }
+        ensures given { OnOk result (self.new ≡ gone_on (with_script self.old script)) }
+        ensures not_given { OnErr result (self.new ≡ self.old) }
+    {
+        self.plan.meets_conditions();
+        let Script { box_no, calls } = script;
+        let count = self.work.roster.count();
+        self.entries.reserve(count + calls.len())?;
+        self.work.roster.give(box_no as usize, calls);
+        go_on(&mut self.work, &self.plan, &mut self.entries);
         Ok(())
     }
 
@@ -182,11 +216,10 @@ impl<'a> Service<'a> {
             (string_bytes text)) }
         ensures same { self.new ≡ self.old }
     {
-        let plan = self.plan;
-        plan.meets_conditions();
+        self.plan.meets_conditions();
         bring(
             alloc,
-            plan,
+            &self.plan,
             &mut self.earlier,
             &self.entries,
             self.earlier_count,
@@ -194,6 +227,6 @@ impl<'a> Service<'a> {
         )?;
         self.earlier_count = count;
         let entries = self.entries.len() as u64;
-        changes_text(alloc, plan, &self.earlier, &self.line, entries)
+        changes_text(alloc, &self.plan, &self.earlier, &self.work.line, entries)
     }
 }

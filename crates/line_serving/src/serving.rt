@@ -63,7 +63,7 @@ fn put_line<K: Sink>(out: &mut K, line: String) -> Result<(), ServeFault>
 // A line is answered. Whether another may come.
 fn serve_given<K: Sink>(
     alloc: Global,
-    service: &mut Service<'_>,
+    service: &mut Service,
     line: &[u8],
     out: &mut K,
 ) -> Result<bool, ServeFault>
@@ -82,7 +82,7 @@ fn serve_given<K: Sink>(
 // A line is taken and answered. Whether another may come.
 fn serve_line<N: RequestSource, K: Sink>(
     alloc: Global,
-    service: &mut Service<'_>,
+    service: &mut Service,
     source: &mut N,
     out: &mut K,
 ) -> Result<bool, ServeFault>
@@ -105,7 +105,7 @@ fn serve_line<N: RequestSource, K: Sink>(
 /// front part.
 pub fn serve<N: RequestSource, K: Sink>(
     alloc: Global,
-    service: &mut Service<'_>,
+    service: &mut Service,
     source: &mut N,
     out: &mut K,
 ) -> Result<(), ServeFault>

@@ -1,13 +1,9 @@
 -- The line of a plan is held for another program.
-use Rattle.std.specs.Prelude.{ℕ, List, [], Option}
+use Rattle.std.specs.Prelude.{ℕ, List, Option}
 use Rattle.line_plan.specs.Plans.{PlanFields}
 use Rattle.text_fetch.specs.FromTexts.{Held, IsGiven, plan_told}
-use Rattle.line_service.specs.Services.{ServiceFields}
+use Rattle.line_service.specs.Services.{ServiceFields, opening}
 use Rattle.line_serving.specs.Transcripts.{IsCutShort, IsServed}
-
--- the line of a plan that has just opened: no call is made yet
-abbrev pub opening : PlanFields → ServiceFields
-opening plan = record { plan = plan; entries = [] }
 
 -- lines were given, and answered on the line of a plan from its opening on
 abbrev pub IsServedOn : PlanFields → Option (List (List ℕ)) → Option (List (List ℕ)) → Option (List ℕ)

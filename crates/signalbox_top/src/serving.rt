@@ -2,7 +2,8 @@
 
 ghost use Rattle.std.specs.Prelude.{◌≡◌, ◌≢◌, ℕ, List, IfOk};
 ghost use Rattle.hand_working.specs.Works.{Grows};
-ghost use Rattle.signalbox_top.specs.Serving.{IsServedOn, IsServedTo, opening};
+ghost use Rattle.line_service.specs.Services.{opening};
+ghost use Rattle.signalbox_top.specs.Serving.{IsServedOn, IsServedTo};
 ghost use Rattle.signalbox_top.specs.Top.{TakesFront};
 ghost use Rattle.signalbox_top.specs.Told.{TellsWhy};
 
@@ -28,7 +29,7 @@ fn trouble_of(alloc: Global, fault: ServeFault) -> Trouble {
 #[tactic(auto, using(crate::proofs::Served::served_grows, crate::proofs::Served::cut_grows))]
 fn serve_opening<R: RequestSource, K: Sink>(
     alloc: Global,
-    service: &mut Service<'_>,
+    service: &mut Service,
     requests: &mut R,
     out: &mut K,
 ) -> Result<(), Trouble>
@@ -44,14 +45,14 @@ fn serve_opening<R: RequestSource, K: Sink>(
 }
 
 // The line of a plan is held, and lines are answered.
-#[tactic(auto, using(crate::proofs::Served::nothing_grows))]
+#[tactic(auto, using(crate::proofs::Served::nothing_grows, crate::proofs::Served::served_of))]
 fn serve_plan<R: RequestSource, K: Sink>(
     alloc: Global,
-    plan: &Plan,
+    plan: Plan,
     requests: &mut R,
     out: &mut K,
 ) -> Result<(), Trouble>
-    ensures served { IfOk result (λ _. IsServedOn plan.now (R.given requests.old) (R.given requests.new)
+    ensures served { IfOk result (λ _. IsServedOn plan (R.given requests.old) (R.given requests.new)
         (K.taken out.old) (K.taken out.new)) }
     ensures grows { Grows (K.taken out.old) (K.taken out.new) }
 {
@@ -74,9 +75,7 @@ fn served<S: ReasonedShelf, R: RequestSource, K: Sink>(
     ensures same { (n : List ℕ) → S.held shelf.new n ≡ S.held shelf.old n }
 {
     let plan = fetch_plan(alloc, shelf, plan_name)?;
-    let done = serve_plan(alloc, &plan, requests, out);
-    drop(plan);
-    done
+    serve_plan(alloc, plan, requests, out)
 }
 
 /// Holds the line of the plan of that name, and answers requests.

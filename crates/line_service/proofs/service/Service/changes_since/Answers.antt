@@ -5,4 +5,4 @@ pub changes_text-requires-clause-earlier : goal.changes_text-requires-clause-ear
 changes_text-requires-clause-earlier c = kept_line _ _ _ c.meets_conditions.ensures c.in_ok-bring.ensures.brought
 
 pub changes_text-requires-clause-now : goal.changes_text-requires-clause-now
-changes_text-requires-clause-now c = kept_line _ _ _ c.meets_conditions.ensures c.self.invariant.kept
+changes_text-requires-clause-now c = kept_line _ _ _ c.meets_conditions.ensures c.self.invariant.worked.kept
