@@ -1,7 +1,7 @@
 # The crates whose tests try what no words reach.
 TESTS = $(patsubst crates/%/,%,$(wildcard crates/*_tests/))
 
-.PHONY: demo build cases quick $(TESTS) bench walk served examples requests soak loaded races faults edge typed sizes look pictures planted contracts test
+.PHONY: demo build cases quick $(TESTS) bench walk served library examples requests soak loaded races faults edge typed sizes look pictures planted contracts test
 
 example = run data/example.plan data/ash.script data/beech.script data/cedar.script
 
@@ -43,13 +43,20 @@ walk:
 served:
 	python3 bench/serve.py crates/signalbox/out/signalbox
 
-# Works the guide's line by `signalbox serve` from a program in C, in Rust and in Python.
-examples:
-	sh examples/run.sh crates/signalbox/out/signalbox
+# Proves the library for C, and leaves libmenglazou.a, libmenglazou.so and menglazou.h in out/.
+library:
+	sh library/make.sh
 
-# Asks `signalbox serve` for MINUTES for what it may do and for what it may not.
+# Works the guide's line by `signalbox serve`, and by the library that `make library` leaves, from a program in C, in
+# C++, in Rust and in Python.
+examples:
+	sh examples/run.sh crates/signalbox/out/signalbox out
+
+# Asks `signalbox serve`, and the library that `make library` leaves, for MINUTES for what they may do and for what they
+# may not.
 requests:
-	python3 hostile/requests.py crates/signalbox/out/signalbox $(MINUTES)
+	gcc -Wall -Wextra -O1 -g -Iout -o out/door hostile/door.c out/libmenglazou.a
+	python3 hostile/requests.py crates/signalbox/out/signalbox $(MINUTES) out/door
 
 # Seven that try the programs that `make build`, and `rt run` in crates/signalbox, leave: it works made lines for
 # MINUTES, with bad signalmen; large lines beside busy processes; lines that `signalbox` rehearsed; each allocation is

@@ -1,15 +1,16 @@
 #!/usr/bin/env python3
-"""Asks `signalbox serve` for what it may do and for what it may not.
+"""Asks `signalbox serve`, and the library, for what they may do and for what they may not.
 
-requests.py PROGRAM [MINUTES]
+requests.py PROGRAM [MINUTES [DOOR]]
 
-PROGRAM is crates/signalbox/out/signalbox. For MINUTES (1), in one session after another, lines are written to it: calls
-of all kinds, scripts, looks, changes and steps back, beside cut, changed and made-up requests, bytes of all kinds, deep nesting
-and lines up to and over the longest. Where valgrind is installed every other session runs under it. Each line must be
-answered by one line, an object of JSON. A copy of the journal is kept by the answers, where boxes have scripts with what
-`journal` tells of the rest, and a copy of all that stands by the changes alone; from time to time both must be what
-`journal` and `look` tell. At the end of a session the journal
-must be one that the program judges legal. Anything else is told, and the exit status is then 1."""
+PROGRAM is crates/signalbox/out/signalbox, DOOR the program of door.c, which answers by the library and calls it for much
+else between two lines. For MINUTES (1), in one session after another, lines are written to PROGRAM, and to DOOR: calls of
+all kinds, scripts, looks, changes and steps back, beside cut, changed and made-up requests, bytes of all kinds, deep
+nesting and lines up to and over the longest. Where valgrind is installed every other session runs under it, and memory
+that DOOR doesn't give back is told too. Each line must be answered by one line, an object of JSON, the same by both. A
+copy of the journal is kept by the answers, where boxes have scripts with what `journal` tells of the rest, and a copy of
+all that stands by the changes alone; from time to time both must be what `journal` and `look` tell. At the end of a
+session the journal must be one that the program judges legal. Anything else is told, and the exit status is then 1."""
 
 import json
 import os
@@ -77,22 +78,25 @@ def a_line(rng, count, second):
 
 
 class Session:
-    """A running program, with copies of its journal and of what stands, as its answers tell them."""
+    """Running programs, with copies of their journal and of what stands, as their answers tell them."""
 
-    def __init__(self, program, plan, careful):
-        words = ["valgrind", "-q", "--error-exitcode=99"] if careful else []
-        self.run = subprocess.Popen([*words, program, "serve", plan], stdin=subprocess.PIPE, stdout=subprocess.PIPE)
+    def __init__(self, commands, careful):
+        words = ["valgrind", "-q", "--error-exitcode=99", "--leak-check=full"] if careful else []
+        self.runs = [
+            subprocess.Popen([*words, *command], stdin=subprocess.PIPE, stdout=subprocess.PIPE) for command in commands
+        ]
         self.entries, self.seen, self.since = [], {}, 0
         self.look()
 
     def ask(self, line):
         """The answer of a line, read as JSON."""
-        self.run.stdin.write(line + b"\n")
-        self.run.stdin.flush()
-        answer = self.run.stdout.readline()
-        told = json.loads(answer)
-        if not answer.endswith(b"\n") or not isinstance(told, dict):
-            raise ValueError(f"{line[:200]!r} is answered by {answer[:200]!r}")
+        for run in self.runs:
+            run.stdin.write(line + b"\n")
+            run.stdin.flush()
+        answers = [run.stdout.readline() for run in self.runs]
+        told = json.loads(answers[0])
+        if len(set(answers)) > 1 or not answers[0].endswith(b"\n") or not isinstance(told, dict):
+            raise ValueError(f"{line[:200]!r} is answered by {[answer[:200] for answer in answers]}")
         return told
 
     def put(self, looks):
@@ -141,11 +145,12 @@ class Session:
             raise ValueError(f"{line[:200]!r} is answered by {told}")
 
     def end(self):
-        """Ends it, and gives its status."""
+        """Ends them, and gives the worst of their statuses."""
         if self.ask(b'{"end":true}') != {"entries": len(self.entries)}:
             raise ValueError("the last answer doesn't tell how many entries there are")
-        self.run.stdin.close()
-        return self.run.wait(60)
+        for run in self.runs:
+            run.stdin.close()
+        return max(run.wait(60) for run in self.runs)
 
 
 def judged(program, plan, entries, folder):
@@ -159,9 +164,12 @@ def judged(program, plan, entries, folder):
     return subprocess.run([program, "json", plan, path], stdout=subprocess.DEVNULL, check=False).returncode == 0
 
 
-def session(program, plan, rng, careful, folder):
+def session(program, door, plan, rng, careful, folder):
     """One session of some hundred lines; what is wrong with it, if anything is."""
-    held = Session(program, plan, careful)
+    commands = [[program, "serve", plan]]
+    if door:
+        commands.append([door, plan, str(rng.randrange(2 ** 63))])
+    held = Session(commands, careful)
     for number in range(400):
         second = 9 * 3600 + number * 60 + rng.choice([0, 0, 0, -600])
         held.take(a_line(rng, len(held.entries), second))
@@ -174,7 +182,7 @@ def session(program, plan, rng, careful, folder):
     return None if judged(program, plan, entries, folder) else "the journal isn't legal"
 
 
-def main(program, minutes="1"):
+def main(program, minutes="1", door=None):
     seed, count, until = random.randrange(2 ** 32), 0, time.time() + 60 * float(minutes)
     has_valgrind = shutil.which("valgrind") is not None
     with tempfile.TemporaryDirectory() as folder:
@@ -182,7 +190,7 @@ def main(program, minutes="1"):
         while time.time() < until:
             careful = has_valgrind and count % 2 == 1
             try:
-                wrong = session(program, plan, random.Random(seed + count), careful, folder)
+                wrong = session(program, door, plan, random.Random(seed + count), careful, folder)
             except (OSError, ValueError, KeyError, subprocess.TimeoutExpired) as fault:
                 wrong = repr(fault)
             if wrong:
@@ -194,4 +202,4 @@ def main(program, minutes="1"):
 
 
 if __name__ == "__main__":
-    sys.exit(main(os.path.abspath(sys.argv[1]), *sys.argv[2:]))
+    sys.exit(main(os.path.abspath(sys.argv[1]), *sys.argv[2:3], *map(os.path.abspath, sys.argv[3:])))

@@ -1,0 +1,5 @@
+pub mod PartsAgain
+pub mod CallsAgain
+pub mod RepliesAgain
+pub mod ThingsAgain
+pub mod CausesAgain
